@@ -1,0 +1,28 @@
+-- Laws of `_when_else_`. Assumes nothing.
+use Prim.Native.Nat.{ℕ, _<_, _≤_}
+use mathlib.Core.Path.{_≡_, refl}
+use mathlib.Core.Bool.{Bool, true, false}
+use mathlib.Core.Logic.{_⊎_, inl, inr}
+use native.Mathlib.Omega.{arith}
+use native.Mathlib.Decide.{decLt}
+use Rattle.search.specs.Choice.{_when_else_}
+
+pub when-yes : {A : Type 0} (x y : A) {t : Bool} → t ≡ true → (x when t else y) ≡ x
+unfolding _when_else_
+when-yes x y e = rw e
+
+pub when-no : {A : Type 0} (x y : A) {t : Bool} → t ≡ false → (x when t else y) ≡ y
+unfolding _when_else_
+when-no x y e = rw e
+
+-- what holds of each of the two where it is chosen holds of the choice
+pub when-cases : {A : Type 0} {x y : A} (P : A → Type 0) (t : Bool) → (t ≡ true → P x) → (t ≡ false → P y) → P (x when t else y)
+unfolding _when_else_
+when-cases P true f g = f refl
+when-cases P false f g = g refl
+
+pub true-not-false : {b : Bool} → b ≡ true → b ≡ false → ⊥
+true-not-false e f = let z : _≡_ {A = ℕ} 0 1 = cc in omega arith
+
+pub lt-or-le : (a b : ℕ) → (a < b) ⊎ (b ≤ a)
+lt-or-le a b = elim (decLt a b) [ yes h ↦ inl h | no h ↦ inr (omega arith) ]

@@ -1,0 +1,83 @@
+-- Laws of the two searches, and that there is one greatest and one least. Assumes nothing.
+use Prim.Native.Nat.{ℕ, zero, suc, _+_, _≤_, _<_}
+use mathlib.Core.Path.{_≡_, refl, sym, ap, _∙_}
+use mathlib.Core.Bool.{Bool, true, false}
+use mathlib.Core.Logic.{⊎-elim}
+use native.Mathlib.Omega.{arith}
+use native.Mathlib.Nat.{eq-or-lt-of-le, le-of-suc-le-suc}
+use Rattle.search.specs.Choice.{_when_else_}
+use Rattle.search.specs.Find.{first, last, Greatest, Least}
+use Rattle.search.proofs.Choice.{when-yes, when-no, when-cases, true-not-false}
+
+pub greatest-unique : {P : ℕ → Type 0} {m n : ℕ} → Greatest P m → Greatest P n → m ≡ n
+greatest-unique {m = m} {n = n} a b = omega (arith, b .above m (a .holds), a .above n (b .holds))
+
+pub least-unique : {P : ℕ → Type 0} {m n : ℕ} → Least P m → Least P n → m ≡ n
+least-unique {m = m} {n = n} a b = omega (arith, b .below m (a .holds), a .below n (b .holds))
+
+module _ (p : ℕ → Bool) where
+  -- a step of `last`, by the test
+  pub last-yes : (n : ℕ) → p n ≡ true → last p (suc n) ≡ suc n
+  unfolding last
+  last-yes n e = when-yes _ _ e
+
+  pub last-no : (n : ℕ) → p n ≡ false → last p (suc n) ≡ last p n
+  unfolding last
+  last-no n e = when-no _ _ e
+
+  pub last-le : (n : ℕ) → last p n ≤ n
+  unfolding last
+  last-le zero = omega arith
+  last-le (suc n) = when-cases (λ r. r ≤ suc n) (p n) (λ e. omega arith) (λ e. omega (arith, last-le n))
+
+  -- what was found passes
+  pub last-hit : (n m : ℕ) → last p n ≡ suc m → p m ≡ true
+  unfolding last
+  last-hit zero m e = absurd (omega arith)
+  last-hit (suc n) m e = when-cases (λ r. r ≡ suc m → p m ≡ true) (p n)
+      (λ q f. let g : m ≡ n = omega (arith, f) in ap p g ∙ q) (λ q f. last-hit n m f) e
+
+  -- nothing above it passes
+  pub last-max : (n m : ℕ) → m < n → p m ≡ true → m < last p n
+  unfolding last
+  last-max zero m h e = absurd (omega arith)
+  last-max (suc n) m h e = when-cases (λ r. m < r) (p n) (λ q. h)
+      (λ q. ⊎-elim (λ g. absurd (true-not-false e (ap p g ∙ q))) (λ g. last-max n m g e) (eq-or-lt-of-le (le-of-suc-le-suc h)))
+
+  -- where `first` stops
+  pub first-ge : (s n : ℕ) → s ≤ first p s n
+  unfolding first
+  first-ge s zero = omega arith
+  first-ge s (suc n) = when-cases (λ r. s ≤ r) (p s) (λ e. omega arith) (λ e. omega (arith, first-ge (suc s) n))
+
+  pub first-le : (s n : ℕ) → first p s n ≤ s + n
+  unfolding first
+  first-le s zero = omega arith
+  first-le s (suc n) = when-cases (λ r. r ≤ s + suc n) (p s) (λ e. omega arith) (λ e. omega (arith, first-le (suc s) n))
+
+  -- none before it passes
+  pub first-miss : (s n m : ℕ) → s ≤ m → m < first p s n → p m ≡ false
+  unfolding first
+  first-miss s zero m h k = absurd (omega arith)
+  first-miss s (suc n) m h k = when-cases (λ r. m < r → p m ≡ false) (p s) (λ e l. absurd (omega (arith, l)))
+      (λ e l. ⊎-elim (λ g. ap p (sym g) ∙ e) (λ g. first-miss (suc s) n m g l) (eq-or-lt-of-le h)) k
+
+  -- and it passes, where it is one of the n
+  pub first-hit : (s n : ℕ) → first p s n < s + n → p (first p s n) ≡ true
+  unfolding first
+  first-hit s zero h = absurd (omega arith)
+  first-hit s (suc n) h = when-cases (λ r. r < s + suc n → p r ≡ true) (p s) (λ e l. e)
+      (λ e l. first-hit (suc s) n (omega (arith, l))) h
+
+  -- the two ways to know what `first` is, without a walk
+  pub first-is : (s n m : ℕ) → s ≤ m → m < s + n → p m ≡ true → ((k : ℕ) → s ≤ k → k < m → p k ≡ true → ⊥)
+      → first p s n ≡ m
+  first-is s n m a b e none =
+      let u : ¬ (first p s n < m) = λ h. none (first p s n) (first-ge s n) h (first-hit s n (omega arith)) in
+      let v : ¬ (m < first p s n) = λ h. true-not-false e (first-miss s n m a h) in
+      omega arith
+
+  pub first-none : (s n : ℕ) → ((k : ℕ) → s ≤ k → k < s + n → p k ≡ true → ⊥) → first p s n ≡ s + n
+  first-none s n none =
+      let u : ¬ (first p s n < s + n) = λ h. none (first p s n) (first-ge s n) h (first-hit s n h) in
+      omega (arith, first-le s n)

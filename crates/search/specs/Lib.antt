@@ -1,0 +1,3 @@
+pub mod Choice
+pub mod Find
+pub mod Lists

@@ -1,0 +1,9 @@
+-- Numbers in the table: little-endian (01, 'Stored table').
+use Prim.Native.Nat.{ℕ, zero, suc, _+_, _*_}
+use mathlib.Core.List.{List}
+use lib.ListN.{getD}
+
+-- the number that the n bytes from `at` on make, the first byte the smallest
+unfoldable pub word : ℕ → List ℕ → ℕ → ℕ
+word zero s at = 0
+word (suc n) s at = getD s at 0 + 256 * word n s (at + 1)

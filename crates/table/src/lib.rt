@@ -1,0 +1,163 @@
+// The stored table (document 01, 'Stored table'): its limits and rows, the reader, and where its records stand.
+ghost use mathlib.Core.Path.{_≡_};
+ghost use Prim.Native.Nat.{_+_, _≤_, _<_};
+ghost use Rattle.table.specs.Limits.{maxChains, maxAllTasks};
+ghost use Rattle.table.specs.Read.{plus};
+
+// A chain as it is stored: `listed` distances and `tasks` tasks; places past a count are 0.
+pub struct Row {
+    pub id: u16,
+    pub kind: u8,
+    pub overload: u8,
+    pub deadline: u32,
+    pub gap: u32,
+    pub listed: usize,
+    pub tasks: usize,
+    pub list: [u32; Table::DISTANCES],
+    pub priority: [u16; Table::TASKS],
+    pub cost: [u32; Table::TASKS],
+}
+
+// The chains in order: `count` of them, with `tasks` tasks in all; places past the count are blank rows.
+pub struct Table {
+    pub count: usize,
+    pub tasks: usize,
+    pub row: [Row; Table::CHAINS],
+}
+
+pub enum Verdict {
+    Accepted,
+    Refused(u32),
+}
+
+// The table beside its verdict; a refusal carries the empty table.
+pub struct Reading {
+    pub verdict: Verdict,
+    pub table: Table,
+}
+
+// The limits of document 01.
+pub struct Limits {
+    pub chains: usize,
+    pub tasks: usize,
+    pub total: usize,
+    pub distances: usize,
+    pub cost: u32,
+    pub priority: u16,
+    pub deadline: u32,
+    pub gap: u32,
+    pub distance: u32,
+    pub horizon: u64,
+    pub activations: u32,
+    pub run: u32,
+    pub overloads: usize,
+    pub capacity: u64,
+    pub bytes: usize,
+}
+
+// What the two bytes of a mark, as a number, stand for.
+pub enum Mark {
+    Chain,
+    Task,
+    End,
+    Other,
+}
+
+impl Row {
+    pub fn blank() -> Self
+        ensures { λ r. ⌜ r ≡ Rattle.table.specs.Read.blank ⌝ }
+    {
+        Row {
+            id: 0,
+            kind: 0,
+            overload: 0,
+            deadline: 0,
+            gap: 0,
+            listed: 0,
+            tasks: 0,
+            list: [0u32; Table::DISTANCES],
+            priority: [0u16; Table::TASKS],
+            cost: [0u32; Table::TASKS],
+        }
+    }
+}
+
+impl Table {
+    pub const CHAINS: usize = 16;
+
+    pub const TASKS: usize = 16;
+
+    pub const ALL_TASKS: usize = 64;
+
+    pub const DISTANCES: usize = 8;
+
+    pub const COST: u32 = 1_000_000;
+
+    pub const PRIORITY: u16 = 65_535;
+
+    pub const DEADLINE: u32 = 10_000_000;
+
+    pub const GAP: u32 = 10_000_000;
+
+    pub const DISTANCE: u32 = 10_000_000;
+
+    pub const HORIZON: u64 = 10_000_000;
+
+    pub const ACTIVATIONS: u32 = 1_024;
+
+    pub const RUN: u32 = 1_000;
+
+    pub const OVERLOADS: usize = 6;
+
+    pub const CAPACITY: u64 = 40;
+
+    pub const BYTES: usize = 1_284;
+
+    // Every limit as one value: its contract ties each constant to the number of that name in specs/.
+    pub fn limits() -> Limits
+        ensures { λ r. ⌜ r ≡ Rattle.table.specs.Limits.limits ⌝ }
+    {
+        Limits {
+            chains: Table::CHAINS,
+            tasks: Table::TASKS,
+            total: Table::ALL_TASKS,
+            distances: Table::DISTANCES,
+            cost: Table::COST,
+            priority: Table::PRIORITY,
+            deadline: Table::DEADLINE,
+            gap: Table::GAP,
+            distance: Table::DISTANCE,
+            horizon: Table::HORIZON,
+            activations: Table::ACTIVATIONS,
+            run: Table::RUN,
+            overloads: Table::OVERLOADS,
+            capacity: Table::CAPACITY,
+            bytes: Table::BYTES,
+        }
+    }
+
+    // The table without a chain.
+    pub fn empty() -> Self
+        ensures { λ r. ⌜ r ≡ Rattle.table.specs.Read.empty ⌝ }
+    {
+        let blank = Row::blank();
+        Table {
+            count: 0,
+            tasks: 0,
+            row: [blank; Table::CHAINS],
+        }
+    }
+
+    // One row more.
+    pub fn with(mut self, r: Row) -> Self
+        requires { ⌜ (self .count < maxChains) × (self .tasks + r .tasks ≤ maxAllTasks) ⌝ }
+        ensures { λ t. ⌜ t ≡ plus self r ⌝ }
+    {
+        let at = self.count;
+        let more = r.tasks;
+        self.row[at] = r;
+        self.count = at + 1;
+        self.tasks = self.tasks + more;
+        self
+    }
+}
