@@ -4,3 +4,6 @@ pub mod Lists
 pub mod Stretches
 pub mod Costing
 pub mod Cuts
+pub mod Standing
+pub mod Views
+pub mod Bounds
