@@ -2,7 +2,7 @@
 use Prim.Native.Nat.{ℕ, zero, suc, _+_, _*_, _-_, _<_, _≤_, min}
 use native.Mathlib.Omega.{arith}
 use native.Mathlib.Nat.{eq-or-lt-of-le}
-use mathlib.Core.Path.{_≡_, refl, ap, sym, subst, _∙_}
+use mathlib.Core.Path.{_≡_, refl, ap, ap₂, sym, subst, _∙_}
 use mathlib.Core.Logic.{⊎-elim}
 use mathlib.Core.List.{List, [], _∷_, _++_, map}
 use mathlib.Core.Bool.{Bool, true, false, _||_}
@@ -11,16 +11,18 @@ use lib.ListN.{length, getD, length-append, length-map}
 use Rattle.search.specs.Choice.{_when_else_}
 use Rattle.search.specs.Lists.{sumOf, mostOf, All}
 use Rattle.search.proofs.Choice.{lt-or-le}
-use Rattle.search.proofs.Lists.{sum-mono}
+use Rattle.search.proofs.Lists.{sum-append, sum-ext}
 use Rattle.table.specs.Limits.{maxTasks, maxCost}
 use Rattle.table.specs.Good.{GoodRow}
 use Rattle.table.specs.declared.Row.{Row}
 use Rattle.segments.specs.Tasks.{Task, tasksFrom, tasksOf, costOf, chainCost, lowest, floorOf, tailOf, below, at, some, before, firstCost, ownPart}
-use Rattle.segments.specs.Segments.{_on_, stretches, cuts, parts, segmentsOf, allCost, dearestCost}
-use Rattle.segments.specs.Actives.{active, numbered, inOrder, actives, activesOf}
+use Rattle.segments.specs.Segments.{_on_, stretches, around, full, cuts, parts, cutSegments, segmentsOf, allCost, dearestCost}
+use Rattle.segments.specs.Actives.{Active, active, numbered, inOrder, actives, activesOf}
+use Rattle.segments.specs.View.{viewOf, countOf}
 use Rattle.segments.proofs.Steps.{task, rest-each, rest-length, cheap}
-use Rattle.segments.proofs.Lists.{most-sum, sum-map, sum-on}
-use Rattle.segments.proofs.Costing.{kept, all-kept}
+use Rattle.segments.proofs.Lists.{sum-ones, each-sum, most-sum, sum-map, sum-flatten, full-sum, around-sum}
+use Rattle.segments.proofs.Stretches.{cuts-flatten}
+use Rattle.segments.proofs.Costing.{kept, stretches-cost, all-kept}
 
 module _ (p : Task → Bool) where
   first-kept : (ts : List Task) → costOf (before p ts) ≤ kept p ts
@@ -125,21 +127,56 @@ stretches-few p (t ∷ ts) = go (p t) (stretches p ts) (stretches-few p ts)
     go false [] h = omega arith
     go false (s ∷ ss) h = omega arith
 
-numbered-length : (k : ℕ) (ps : List (List (List Task))) → length (numbered k ps) ≡ sumOf length ps
-unfolding numbered sumOf
-numbered-length k [] = refl
-numbered-length k (p ∷ ps) = length-append (map (active k) p) (numbered (k + 1) ps) ∙ omega (arith, length-map p (active k), numbered-length (k + 1) ps)
+-- the active segments by number sum to what those of the stretches do
+module _ (f : List Task → ℕ) (g : Active → ℕ) (same : (j : ℕ) (l : List Task) → g (active j l) ≡ f l) where
+  active-sum : (j : ℕ) (p : List (List Task)) → sumOf g (map (active j) p) ≡ sumOf f p
+  active-sum j p = sum-map (active j) g p ∙ sum-ext (λ l. g (active j l)) f p (same j)
+
+  numbered-sum : (k : ℕ) (ps : List (List (List Task))) → sumOf g (numbered k ps) ≡ sumOf (sumOf f) ps
+  unfolding numbered sumOf
+  numbered-sum k [] = refl
+  numbered-sum k (p ∷ ps) = sum-append g (map (active k) p) (numbered (k + 1) ps) ∙ ap₂ _+_ (active-sum k p) (numbered-sum (k + 1) ps)
+
+  pub order-sum : (ps : List (List (List Task))) → sumOf g (inOrder ps) ≡ sumOf (sumOf f) ps
+  unfolding inOrder sumOf
+  order-sum [] = refl
+  order-sum (p ∷ ps) = sum-append g (map (active (length ps)) p) (numbered 1 ps) ∙ ap₂ _+_ (active-sum (length ps) p) (numbered-sum 1 ps)
 
 order-length : (ps : List (List (List Task))) → length (inOrder ps) ≡ sumOf length ps
-unfolding inOrder sumOf
-order-length [] = refl
-order-length (p ∷ ps) = length-append (map (active (length ps)) p) (numbered 1 ps) ∙ omega (arith, length-map p (active (length ps)), numbered-length 1 ps)
+order-length ps =
+    sym (sum-ones (inOrder ps)) ∙ order-sum (λ l. 1) (λ a. 1) (λ j l. refl) ps ∙ sum-ext (sumOf (λ l. 1)) length ps sum-ones
 
-pub actives-tasks : (a b : Row) → length (activesOf a b) ≤ a .tasks
-unfolding actives parts
-actives-tasks a b =
-    let ss = stretches (below (floorOf b)) (tasksOf a) in
-    omega (arith, order-length (map (cuts (below (tailOf b))) ss), parts-few (below (tailOf b)) ss, stretches-few (below (floorOf b)) (tasksOf a), rest-length (a .priority) (a .cost) (a .tasks) 0)
+parts-cost : (p : Task → Bool) (ss : List (List Task)) → sumOf (sumOf costOf) (map (cuts p) ss) ≡ sumOf costOf ss
+parts-cost p ss =
+    sum-map (cuts p) (sumOf costOf) ss
+    ∙ sum-ext _ costOf ss (λ s. sym (sum-flatten (λ t. t .cost) (cuts p s)) ∙ ap costOf (cuts-flatten p s))
 
-pub actives-few : (a b : Row) → GoodRow a → length (activesOf a b) ≤ maxTasks
-actives-few a b good = omega (arith, actives-tasks a b, good .tasks .few)
+module _ (a b : Row) where
+  pub actives-tasks : length (activesOf a b) ≤ a .tasks
+  unfolding actives parts
+  actives-tasks =
+      let ss = stretches (below (floorOf b)) (tasksOf a) in
+      omega (arith, order-length (map (cuts (below (tailOf b))) ss), parts-few (below (tailOf b)) ss, stretches-few (below (floorOf b)) (tasksOf a), rest-length (a .priority) (a .cost) (a .tasks) 0)
+
+  pub actives-few : GoodRow a → length (activesOf a b) ≤ maxTasks
+  actives-few good = omega (arith, actives-tasks, good .tasks .few)
+
+  -- all active segments together cost what all segments cost, and each no more than that
+  pub actives-cost : sumOf (λ s. s .cost) (activesOf a b) ≡ allCost a b
+  unfolding actives parts
+  actives-cost =
+      let ss = stretches (below (floorOf b)) (tasksOf a) in
+      order-sum costOf (λ s. s .cost) (λ j l. refl) (map (cuts (below (tailOf b))) ss)
+      ∙ parts-cost (below (tailOf b)) ss ∙ stretches-cost (below (floorOf b)) (tasksOf a) ∙ sym (all-kept (floorOf b) (tasksOf a))
+
+  pub actives-each : All (λ s. s .cost ≤ allCost a b) (activesOf a b)
+  actives-each = subst (λ n. All (λ s. s .cost ≤ n) (activesOf a b)) actives-cost (each-sum (λ s. s .cost) (activesOf a b))
+
+  -- how many there are is a figure of the view
+  pub actives-view : length (activesOf a b) ≡ countOf (viewOf a b)
+  unfolding actives viewOf cutSegments
+  actives-view =
+      let ps = parts (floorOf b) (tailOf b) (tasksOf a) in
+      order-length ps ∙ sym (around-sum _++_ length length-append ps) ∙ sym (full-sum length refl (around _++_ ps))
+      ∙ sum-ext length (λ l. length (map costOf l)) (full (around _++_ ps)) (λ l. sym (length-map l costOf))
+      ∙ sym (sum-map (map costOf) length (full (around _++_ ps)))

@@ -7,3 +7,8 @@ pub mod Cuts
 pub mod Standing
 pub mod Views
 pub mod Bounds
+pub mod Order
+pub mod Masks
+pub mod Renaming
+pub mod Pairs
+pub mod Samples

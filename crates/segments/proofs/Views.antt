@@ -5,16 +5,16 @@ use mathlib.Core.Path.{_≡_, refl, ap, ap₂, sym, subst, _∙_}
 use mathlib.Core.List.{List, [], _∷_, _++_, map, map-map, flatten, List·Permᴰ, Permᴰ·symm, Permᴰ·refl, List·Permᴰ·trans}
 use mathlib.Core.Bool.{Bool, true, false, not}
 use borrow.Author.Tests.{not-true}
-use lib.ListN.{length}
+use lib.ListN.{length, take}
 use Rattle.search.specs.Lists.{sumOf, mostOf, All, Paired}
 use Rattle.search.proofs.Lists.{sum-ext, perm-sum, perm-most, all-map, paired-perm}
 use Rattle.table.specs.declared.Row.{Row}
 use Rattle.segments.specs.Tasks.{Task, tasksOf, costOf, chainCost, floorOf, tailOf, below, deferred, firstCost}
 use Rattle.segments.specs.Segments.{stretches, onward, around, full, segments, segmentsOf, cutSegments, allCost, dearestCost}
-use Rattle.segments.specs.View.{View, viewOf, sum, allOf, dearestOf, Alike, seenOf}
+use Rattle.segments.specs.View.{View, viewOf, sum, allOf, dearestOf, countOf, Alike, seenOf}
 use Rattle.segments.specs.declared.Seen.{Seen}
 use Rattle.segments.proofs.Steps.{rest-length, cost-nil}
-use Rattle.segments.proofs.Lists.{sum-map, most-map, sum-flatten, full-sum}
+use Rattle.segments.proofs.Lists.{sum-map, most-map, sum-ones, sum-flatten, full-sum}
 use Rattle.segments.proofs.Stretches.{stretches-none, cut-flatten}
 
 -- what the active segments of a segment cost together is what the segment costs
@@ -26,6 +26,28 @@ all-costs [] = refl
 all-costs (l ∷ ls) = ap₂ _∷_ (sum-costs l) (all-costs ls)
 
 module _ (a b : Row) where
+  -- its parts, by name
+  pub view-kind : viewOf a b .kind ≡ a .kind
+  unfolding viewOf
+  view-kind = refl
+
+  pub view-overload : viewOf a b .overload ≡ a .overload
+  unfolding viewOf
+  view-overload = refl
+
+  pub view-list : viewOf a b .list ≡ take (a .listed) (a .list)
+  unfolding viewOf
+  view-list = refl
+
+  pub view-free : viewOf a b .free ≡ not (deferred a b)
+  unfolding viewOf
+  view-free = refl
+
+  pub view-first : viewOf a b .first ≡ firstCost a b
+  unfolding viewOf
+  view-first = refl
+
+  -- a segment's cost is the sum of its active segments' costs
   pub segment-costs : map sum (viewOf a b .segments) ≡ map costOf (segmentsOf a b)
   unfolding viewOf
   segment-costs = all-costs (cutSegments (floorOf b) (tailOf b) (tasksOf a)) ∙ ap (map costOf) (cut-flatten (floorOf b) (tailOf b) (tasksOf a))
@@ -76,23 +98,31 @@ seen-shows a b = record {
   dearest = dearest-view a b;
 }
 
--- views that are alike have the same costs
+-- what no order of a segment's active segments moves is the same, segment by segment, in views that are alike
 module _ {v w : View} (s : Alike v w) where
-  alike-sums : List·Permᴰ (map sum (v .segments)) (map sum (w .segments))
-  alike-sums =
-      paired-perm sum sum
+  alike-perm : (f : List ℕ → ℕ) → ((l r : List ℕ) → List·Permᴰ l r → f l ≡ f r) → List·Permᴰ (map f (v .segments)) (map f (w .segments))
+  alike-perm f same =
+      paired-perm f f
       (record {
         pairs = s .segments .pairs;
         firsts = s .segments .firsts;
         seconds = s .segments .seconds;
-        related = all-map (λ p h. perm-sum (λ c. c) h) (s .segments .pairs) (s .segments .related);
+        related = all-map (λ p h. same (p .0) (p .1) h) (s .segments .pairs) (s .segments .related);
       })
 
+  alike-sum : (f : List ℕ → ℕ) → ((l r : List ℕ) → List·Permᴰ l r → f l ≡ f r) → sumOf f (v .segments) ≡ sumOf f (w .segments)
+  alike-sum f same =
+      sym (sum-map f (λ c. c) (v .segments)) ∙ perm-sum (λ c. c) (alike-perm f same) ∙ sum-map f (λ c. c) (w .segments)
+
   pub alike-all : allOf v ≡ allOf w
-  alike-all = sym (sum-map sum (λ c. c) (v .segments)) ∙ perm-sum (λ c. c) alike-sums ∙ sum-map sum (λ c. c) (w .segments)
+  alike-all = alike-sum sum (λ l r p. perm-sum (λ c. c) p)
+
+  pub alike-count : countOf v ≡ countOf w
+  alike-count = alike-sum length (λ l r p. sym (sum-ones l) ∙ perm-sum (λ c. 1) p ∙ sum-ones r)
 
   pub alike-dearest : dearestOf v ≡ dearestOf w
-  alike-dearest = sym (most-map sum (λ c. c) (v .segments)) ∙ perm-most (λ c. c) alike-sums ∙ most-map sum (λ c. c) (w .segments)
+  alike-dearest =
+      sym (most-map sum (λ c. c) (v .segments)) ∙ perm-most (λ c. c) (alike-perm sum (λ l r p. perm-sum (λ c. c) p)) ∙ most-map sum (λ c. c) (w .segments)
 
 -- paired off the other way round
 module _ {A B : Type 0} {R : A → B → Type 0} {S : B → A → Type 0} (turn : (a : A) (b : B) → R a b → S b a) where
