@@ -13,11 +13,14 @@ use Rattle.table.specs.declared.Row.{Row}
 use Rattle.arrivals.specs.Arrivals.{distances, GoodDistances, largest}
 
 module _ {r : Row} (good : GoodRow r) where
-  -- the last listed distance is above 0, so the list is that long
-  pub distances-length : length (distances r) ≡ r .listed
-  distances-length =
+  -- the last listed distance is above 0, so the list reaches it
+  pub listed-fits : r .listed ≤ length (r .list)
+  listed-fits =
       ⊎-elim (λ h. absurd (omega (arith, good .list .ends, List·getD-eq-default (r .list) 0 {n = r .listed - 1} (omega arith))))
-      (length-take-le (r .listed) (r .list)) (lt-or-le (length (r .list)) (r .listed))
+      (λ h. h) (lt-or-le (length (r .list)) (r .listed))
+
+  pub distances-length : length (distances r) ≡ r .listed
+  distances-length = length-take-le (r .listed) (r .list) listed-fits
 
   -- places past the listed are 0 in the row too
   pub distances-at : (j : ℕ) → getD (distances r) j 0 ≡ getD (r .list) j 0

@@ -39,7 +39,8 @@ module _ {ds : List ℕ} (good : GoodDistances ds) where
   pub δ-turns : (i j : ℕ) → j ≤ length ds → δ ds (suc (i * length ds + j)) ≡ i * asListed ds (length ds) + asListed ds j
   unfolding δ asListed
   δ-turns i j h =
-      ⊎-elim (λ e. ap (λ (n : ℕ). δ ds (suc n)) (omega arith) ∙ inside (suc i) 0 (good .some) ∙ omega (arith, ap (asListed ds) e))
+      ⊎-elim
+      (λ e. ap (λ (n : ℕ). δ ds (suc n)) (omega arith) ∙ inside (suc i) 0 (good .some) ∙ omega (arith, ap (asListed ds) e))
       (inside i j) (eq-or-lt-of-le h)
     where
       inside : (i j : ℕ) → j < length ds → δ ds (suc (i * length ds + j)) ≡ i * asListed ds (length ds) + asListed ds j

@@ -24,7 +24,7 @@ unfoldable pub asListed : List ℕ → ℕ → ℕ
 asListed ds zero = 0
 asListed ds (suc j) = getD ds j 0
 
--- δ(n), with L listed and δ(L + 1) the last: δ(1 + iL + j) = i·δ(L + 1) + δ(1 + j), 0 ≤ j < L; no activation has distance 0
+-- δ(1) = 0; with L listed and δ(L + 1) the last, δ(1 + iL + j) = i·δ(L + 1) + δ(1 + j), 0 ≤ j < L. 01 has no δ(0): it is 0 here
 unfoldable pub δ : List ℕ → ℕ → ℕ
 δ ds zero = 0
 δ ds (suc m) = m / length ds * asListed ds (length ds) + asListed ds (m % length ds)
