@@ -28,5 +28,5 @@ module _ (t : Table) (id : ℕ) where
 pub find-is : (t : Table) → GoodTable t → (k : ℕ) → k < t .count → findOf t (rowOf t k .id) ≡ k
 unfolding findOf
 find-is t good k h =
-    first-is (λ j. eqb (rowOf t j .id) (rowOf t k .id)) 0 (t .count) k (omega arith) (omega arith) (eq-eqb _ _ refl)
+    first-is (λ j. eqb (rowOf t j .id) (rowOf t k .id)) 0 (t .count) k (omega arith) (omega arith) (eq-eqb (rowOf t k .id) (rowOf t k .id) refl)
     (λ j a l e. omega (arith, good .ids j k (omega arith) h (eqb-true _ _ e)))
