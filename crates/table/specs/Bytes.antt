@@ -1,5 +1,5 @@
 -- Numbers in the table: little-endian (01, 'Stored table').
-use Prim.Native.Nat.{ℕ, zero, suc, _+_, _*_}
+use Prim.Native.Nat.{ℕ, zero, suc, _+_, _*_, _<_}
 use mathlib.Core.List.{List}
 use lib.ListN.{getD}
 
@@ -7,3 +7,7 @@ use lib.ListN.{getD}
 unfoldable pub word : ℕ → List ℕ → ℕ → ℕ
 word zero s at = 0
 word (suc n) s at = getD s at 0 + 256 * word n s (at + 1)
+
+-- each number of the list is a byte
+abbrev pub Bytes : List ℕ → Type 0
+Bytes s = (k : ℕ) → getD s k 0 < 256

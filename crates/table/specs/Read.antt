@@ -33,34 +33,36 @@ abbrev pub numberOf : Verdict → ℕ
 numberOf Accepted = 0
 numberOf (Refused n) = n
 
--- what a fault number gives: 0 the table, any other that refusal, with the empty table
-unfoldable pub concluded : ℕ → Table → Reading
-concluded zero t = record { verdict = Accepted; table = t }
-concluded (suc n) t = record { verdict = Refused (suc n); table = empty }
+-- a refusal carries the empty table
+abbrev pub refusal : ℕ → Reading
+refusal n = record { verdict = Refused n; table = empty }
+
+abbrev pub accepted : Table → Reading
+accepted t = record { verdict = Accepted; table = t }
+
+-- refused by a fault; where there is none, what follows
+unfoldable pub unless : ℕ → Reading → Reading
+unless zero rest = rest
+unless (suc n) rest = refusal (suc n)
 
 -- what a mark at a record's start leads to; a task is not known there
 abbrev pub byMark : Mark → Reading → Reading → Reading
 byMark Chain chain end = chain
 byMark End chain end = end
-byMark Task chain end = concluded 3 empty
-byMark Other chain end = concluded 3 empty
+byMark Task chain end = refusal 3
+byMark Other chain end = refusal 3
 
 -- the record that starts at `at`, after the rows of t, where `chain` is what a chain leads to
 unfoldable pub start : List ℕ → ℕ → Table → Reading → Reading
 start s at t chain =
-    concluded 2 empty when ltb (length s) (at + 2) else
-    byMark (markOf (word 2 s at)) chain (concluded (endFault s at t) t)
-
--- a chain with this fault, then the rest
-abbrev pub unless : ℕ → Reading → Reading
-unless zero rest = rest
-unless (suc n) rest = concluded (suc n) empty
+    refusal 2 when ltb (length s) (at + 2) else
+    byMark (markOf (word 2 s at)) chain (unless (endFault s at t) (accepted t))
 
 -- the records from `at` on, after the rows of t, with room for `left` chains more
 unfoldable pub records : ℕ → List ℕ → ℕ → Table → Reading
-records zero s at t = start s at t (concluded 11 empty)
+records zero s at t = start s at t (refusal 11)
 records (suc left) s at t =
     start s at t (unless (chainFault s at t) (records left s (at + lengthAt s at) (plus t (rowAt s at))))
 
 unfoldable pub readTable : List ℕ → Reading
-readTable s = concluded 1 empty when eqb (length s) 0 || ltb maxBytes (length s) else records maxChains s 0 empty
+readTable s = refusal 1 when eqb (length s) 0 || ltb maxBytes (length s) else records maxChains s 0 empty

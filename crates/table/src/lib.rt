@@ -1,8 +1,20 @@
 // The stored table (document 01, 'Stored table'): its limits and rows, the reader, and where its records stand.
 ghost use mathlib.Core.Path.{_≡_};
 ghost use Prim.Native.Nat.{_+_, _≤_, _<_};
-ghost use Rattle.table.specs.Limits.{maxChains, maxAllTasks};
+ghost use Rattle.table.specs.Limits.{maxChains, maxTasks, maxAllTasks, maxDistances};
 ghost use Rattle.table.specs.Read.{plus};
+ghost use Rattle.table.specs.Place.{size as sizeOf};
+
+mod bytes;
+mod fault;
+mod places;
+mod reader;
+mod record;
+
+pub use places::find;
+pub use places::place;
+pub use reader::read;
+pub use record::record_length;
 
 // A chain as it is stored: `listed` distances and `tasks` tasks; places past a count are 0.
 pub struct Row {
@@ -79,6 +91,14 @@ impl Row {
             priority: [0u16; Table::TASKS],
             cost: [0u32; Table::TASKS],
         }
+    }
+
+    // How many bytes its record takes.
+    pub fn size(self) -> usize
+        requires { ⌜ (self .listed ≤ maxDistances) × (self .tasks ≤ maxTasks) ⌝ }
+        ensures { λ r. ⌜ r ≡ sizeOf self ⌝ }
+    {
+        16 + 4 * self.listed + 8 * self.tasks
     }
 }
 

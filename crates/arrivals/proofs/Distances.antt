@@ -1,0 +1,63 @@
+-- Laws of δ for those who call: it starts at 0, goes on by 01's rule, never falls, and passes every bound. Assumes nothing.
+use Prim.Native.Nat.{ℕ, zero, suc, zero-le, _+_, _*_, _/_, _%_, _≤_, _<_}
+use mathlib.Core.Path.{_≡_, ap, _∙_}
+use mathlib.Core.List.{List}
+use mathlib.Core.Logic.{⊎-elim}
+use native.Mathlib.Omega.{arith}
+use native.Mathlib.Nat.{mul-le-mul-left, le-mul-of-pos-right, le-of-eq, le-trans, le-refl, le-of-suc-le-suc, eq-or-lt-of-le, div-add-mod', mod-lt}
+use lib.ListN.{length, getD}
+use Rattle.search.proofs.Choice.{lt-or-le}
+use Rattle.table.specs.Limits.{maxDistance}
+use Rattle.arrivals.specs.Arrivals.{GoodDistances, asListed, δ}
+use Rattle.arrivals.proofs.Turns.{listed-rises, listed-near, last-above, δ-turns, δ-first, δ-step}
+
+module _ {ds : List ℕ} (good : GoodDistances ds) where
+  -- δ(1) = 0
+  pub δ-one : δ ds 1 ≡ 0
+  unfolding asListed
+  δ-one = δ-first good 0 zero-le
+
+  -- the listed distances are δ(2), δ(3), ..
+  pub δ-listed : (j : ℕ) → j < length ds → δ ds (j + 2) ≡ getD ds j 0
+  unfolding asListed
+  δ-listed j h = ap (δ ds) (omega arith) ∙ δ-first good (suc j) h
+
+  -- 01's rule, as it stands there
+  pub δ-rule : (i j : ℕ) → j < length ds → δ ds (1 + i * length ds + j) ≡ i * δ ds (length ds + 1) + δ ds (1 + j)
+  δ-rule i j h =
+      let last : δ ds (length ds + 1) ≡ asListed ds (length ds) = ap (δ ds) (omega arith) ∙ δ-first good (length ds) (le-refl _) in
+      let part : δ ds (1 + j) ≡ asListed ds j = ap (δ ds) (omega arith) ∙ δ-first good j (omega arith) in
+      rw (last, part) (ap (δ ds) (omega arith) ∙ δ-turns good i j (omega arith))
+
+  -- δ never falls
+  δ-rises : (n : ℕ) → δ ds n ≤ δ ds (suc n)
+  unfolding δ
+  δ-rises zero = zero-le
+  δ-rises (suc n) = δ-step good _≤_ (λ x j u. omega (arith, listed-rises good j u)) n
+
+  pub δ-mono : (m n : ℕ) → m ≤ n → δ ds m ≤ δ ds n
+  δ-mono m zero h = le-of-eq (ap (δ ds) (omega arith))
+  δ-mono m (suc n) h =
+      ⊎-elim (λ e. le-of-eq (ap (δ ds) e)) (λ g. le-trans (δ-mono m n (le-of-suc-le-suc g)) (δ-rises n)) (eq-or-lt-of-le h)
+
+  -- δ(n) is at most n times the greatest distance
+  pub δ-near : (n : ℕ) → δ ds n ≤ n * maxDistance
+  unfolding δ
+  δ-near zero = zero-le
+  δ-near (suc zero) = omega (arith, δ-one)
+  δ-near (suc (suc n)) =
+      omega (arith, δ-near (suc n), δ-step good (λ a b. b ≤ a + maxDistance) (λ x j u. omega (arith, listed-near good (suc j))) n)
+
+  -- no n above L·t has δ(n) < t
+  pub δ-reach : (n t : ℕ) → δ ds n < t → n ≤ length ds * t
+  unfolding δ
+  δ-reach zero t h = zero-le
+  δ-reach (suc m) t h =
+      let e : m / length ds * length ds + m % length ds ≡ m = div-add-mod' m (length ds) in
+      let u : m % length ds < length ds = mod-lt m (good .some) in
+      let a : suc (m / length ds) ≤ t = omega (arith, le-mul-of-pos-right (m / length ds) (last-above good)) in
+      omega (arith, mul-le-mul-left (length ds) a)
+
+  -- so δ passes every t
+  pub δ-unbounded : (t : ℕ) → t ≤ δ ds (length ds * t + 1)
+  δ-unbounded t = ⊎-elim (λ h. absurd (omega (arith, δ-reach _ t h))) (λ h. h) (lt-or-le (δ ds (length ds * t + 1)) t)

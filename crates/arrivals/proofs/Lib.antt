@@ -1,0 +1,6 @@
+pub mod Turns
+pub mod Distances
+pub mod Counts
+pub mod Walk
+pub mod Rows
+pub mod Starred

@@ -1,0 +1,9 @@
+pub mod Words
+pub mod Lists
+pub mod Firsts
+pub mod Faultless
+pub mod Goods
+pub mod Steps
+pub mod Standing
+pub mod Accepted
+pub mod Finds

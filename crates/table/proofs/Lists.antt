@@ -1,0 +1,114 @@
+-- Laws of the lists that a record's bytes make: one step of each recursion, in the code's shape. Assumes nothing.
+use Prim.Native.Nat.{ℕ, zero, suc, _+_, _*_, _-_, _<_, _≤_}
+use native.Mathlib.Omega.{arith}
+use native.Mathlib.Nat.{add-zero, mul-zero, mul-suc}
+use native.Mathlib.Numerals.{add-one}
+use mathlib.Core.Path.{_≡_, refl, ap, sym, _∙_}
+use mathlib.Core.List.{List, [], _∷_, _++_, append-assoc}
+use lib.ListN.{length, getD, set, replicate, length-append}
+use lib.Seq.{set-at}
+use mathlib.Core.Bool.{true, false}
+use borrow.Author.Tests.{lt-ltb, le-ltb}
+use Rattle.table.specs.Limits.{maxDistance}
+use Rattle.table.specs.Fault.{_then_, outside, falls, gapShort, taskFault, tasksFault}
+use Rattle.table.specs.Record.{every, pad}
+
+module _ (f : ℕ → ℕ) (step : ℕ) where
+  next : (at k : ℕ) → at + step * k + step ≡ at + step * (k + 1)
+  next at k = rw add-one (omega (arith, mul-suc step k))
+
+  -- what is left after k, of n
+  pub every-on : (n k at : ℕ) → k < n
+      → every f step (n - k) (at + step * k) ≡ f (at + step * k) ∷ every f step (n - (k + 1)) (at + step * (k + 1))
+  unfolding every
+  every-on n k at h =
+      let e : n - k ≡ suc (n - (k + 1)) = omega arith in
+      rw (e, ← next at k)
+
+  pub every-end : (n k at : ℕ) → n ≤ k → every f step (n - k) at ≡ []
+  unfolding every
+  every-end n k at h = let e : n - k ≡ 0 = omega arith in rw e
+
+  pub length-every : (n at : ℕ) → length (every f step n at) ≡ n
+  unfolding every
+  length-every zero at = refl
+  length-every (suc n) at = ap suc (length-every n (at + step))
+
+  pub every-at : (n k at : ℕ) → k < n → getD (every f step n at) k 0 ≡ f (at + step * k)
+  unfolding every
+  every-at zero k at h = absurd (omega arith)
+  every-at (suc n) zero at h = simp (mul-zero, add-zero)
+  every-at (suc n) (suc k) at h =
+      let e : at + step + step * k ≡ at + step * suc k = omega (arith, mul-suc step k) in
+      rw (← e) (every-at n k (at + step) (omega arith))
+
+  -- one more at the end
+  every-more : (n at : ℕ) → every f step (suc n) at ≡ every f step n at ++ (f (at + step * n) ∷ [])
+  unfolding every
+  every-more zero at = simp (mul-zero, add-zero)
+  every-more (suc n) at =
+      let e : at + step + step * n ≡ at + step * suc n = omega (arith, mul-suc step n) in
+      rw (← e) (ap (λ (l : List ℕ). f at ∷ l) (every-more n (at + step)))
+
+  -- a store of the next number into what is filled up with 0
+  pub pad-on : (m k at : ℕ) → k < m
+      → set (pad m (every f step k at)) k (f (at + step * k)) ≡ pad m (every f step (k + 1) at)
+  pad-on m k at h =
+      let e : m - k ≡ suc (m - (k + 1)) = omega arith in
+      rw (add-one, every-more, length-append, length-every, e, set-at (every f step k at) 0 (replicate (m - (k + 1)) 0) (f (at + step * k)) k (length-every k at), append-assoc)
+      refl
+
+  -- from nothing
+  pub pad-none : (m at : ℕ) → replicate m 0 ≡ pad m (every f step 0 at)
+  unfolding every
+  pad-none m at = let e : m - 0 ≡ m = omega arith in rw e
+
+  -- from the first on
+  pub every-start : (n at : ℕ) → every f step (n - 0) (at + step * 0) ≡ every f step n at
+  every-start n at =
+      let e : n - 0 ≡ n = omega arith in
+      let g : at + step * 0 ≡ at = omega arith in
+      rw (e, g)
+
+  pub every-last : (n at : ℕ) → 0 < n → getD (every f step n at) (length (every f step n at) - 1) 0 ≡ f (at + step * (n - 1))
+  every-last n at h = rw (length-every n at) (every-at n (n - 1) at (omega arith))
+
+-- the list judged, one distance at a time
+module _ (before d : ℕ) (ds : List ℕ) where
+  pub falls-yes : outside before maxDistance d ≡ true → falls before (d ∷ ds) ≡ true
+  unfolding falls
+  falls-yes e = rw e
+
+  pub falls-no : outside before maxDistance d ≡ false → falls before (d ∷ ds) ≡ falls d ds
+  unfolding falls
+  falls-no e = rw e
+
+module _ (gap n d : ℕ) (ds : List ℕ) where
+  pub gap-yes : gap * n < d → gapShort gap n (d ∷ ds) ≡ true
+  unfolding gapShort
+  gap-yes h = rw (lt-ltb _ _ h)
+
+  pub gap-no : d ≤ gap * n → gapShort gap n (d ∷ ds) ≡ gapShort gap (n + 1) ds
+  unfolding gapShort
+  gap-no h = rw (le-ltb _ _ h)
+
+pub falls-end : (before : ℕ) → falls before [] ≡ false
+unfolding falls
+falls-end before = refl
+
+pub gap-end : (gap n : ℕ) → gapShort gap n [] ≡ false
+unfolding gapShort
+gap-end gap n = refl
+
+-- the tasks judged, one at a time
+pub tasks-on : (s : List ℕ) (n k at : ℕ) → k < n
+    → tasksFault s (n - k) (at + 8 * k) ≡ (taskFault s (at + 8 * k) then tasksFault s (n - (k + 1)) (at + 8 * (k + 1)))
+unfolding tasksFault
+tasks-on s n k at h =
+    let e : n - k ≡ suc (n - (k + 1)) = omega arith in
+    let f : at + 8 * k + 8 ≡ at + 8 * (k + 1) = omega arith in
+    rw (e, ← f)
+
+pub tasks-end : (s : List ℕ) (n k at : ℕ) → n ≤ k → tasksFault s (n - k) at ≡ 0
+unfolding tasksFault
+tasks-end s n k at h = let e : n - k ≡ 0 = omega arith in rw e

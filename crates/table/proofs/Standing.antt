@@ -1,0 +1,21 @@
+-- Where records stand: the laws of `placeOf`. Assumes nothing.
+use Prim.Native.Nat.{ℕ, zero, suc, _+_, _*_, _-_, _<_, _≤_}
+use native.Mathlib.Omega.{arith}
+use native.Mathlib.Numerals.{add-one}
+use mathlib.Core.Path.{_≡_, refl, ap, sym, _∙_}
+use mathlib.Core.List.{List, [], _∷_, _++_}
+use lib.ListN.{length, getD, take}
+use lib.Seq.{take-suc}
+use Rattle.search.specs.Lists.{sumOf}
+use Rattle.search.proofs.Lists.{sum-append}
+use Rattle.table.specs.Find.{none, rowOf}
+use Rattle.table.specs.Place.{size, placeOf}
+use Rattle.table.specs.declared.Table.{Table}
+
+pub place-none : (t : Table) → 0 ≡ placeOf t 0
+unfolding placeOf sumOf
+place-none t = refl
+
+pub place-on : (t : Table) (k : ℕ) → k < length (t .row) → placeOf t (k + 1) ≡ placeOf t k + size (rowOf t k)
+unfolding placeOf sumOf
+place-on t k h = rw (add-one, take-suc (t .row) k none h, sum-append size) (omega arith)

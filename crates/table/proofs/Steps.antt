@@ -1,0 +1,60 @@
+-- Laws of `records`: what the record at a place does. Assumes nothing.
+use Prim.Native.Nat.{ℕ, zero, suc, _+_, _-_, _<_, _≤_}
+use native.Mathlib.Omega.{arith}
+use mathlib.Core.Path.{_≡_, refl, sym, _∙_}
+use mathlib.Core.List.{List}
+use mathlib.Core.Bool.{Bool, true, false, _||_}
+use lib.ListN.{length}
+use lib.Dec.{ltb, eqb}
+use borrow.Author.Tests.{lt-ltb, le-ltb}
+use Rattle.search.specs.Choice.{_when_else_}
+use Rattle.table.specs.Limits.{maxChains, maxBytes}
+use Rattle.table.specs.Bytes.{word}
+use Rattle.table.specs.Record.{rowAt, lengthAt}
+use Rattle.table.specs.Fault.{markOf, chainFault, endFault}
+use Rattle.table.specs.Read.{empty, plus, refusal, accepted, unless, byMark, start, records, readTable}
+use Rattle.table.specs.declared.Table.{Table}
+use Rattle.table.specs.declared.Reading.{Reading}
+use Rattle.table.specs.declared.Mark.{Mark}
+use Rattle.table.specs.declared.Mark.the-variants.{Chain, Task, End, Other}
+
+-- the length is judged first
+pub read-long : (s : List ℕ) → (eqb (length s) 0 || ltb maxBytes (length s)) ≡ true → readTable s ≡ refusal 1
+unfolding readTable _when_else_
+read-long s e = rw e
+
+pub read-on : (s : List ℕ) → (eqb (length s) 0 || ltb maxBytes (length s)) ≡ false → readTable s ≡ records maxChains s 0 empty
+unfolding readTable _when_else_
+read-on s e = rw e
+
+module _ (s : List ℕ) (at : ℕ) (t : Table) where
+  pub records-short : (left : ℕ) → length s < at + 2 → records left s at t ≡ refusal 2
+  unfolding records start _when_else_
+  records-short zero h = rw (lt-ltb _ _ h)
+  records-short (suc left) h = rw (lt-ltb _ _ h)
+
+  module _ (there : at + 2 ≤ length s) where
+    -- where the mark leads does not depend on the room, but for a chain
+    pub records-mark : (left : ℕ) (m : Mark) → markOf (word 2 s at) ≡ m → (m ≡ Chain → ⊥)
+        → records left s at t ≡ byMark m (refusal 11) (unless (endFault s at t) (accepted t))
+    unfolding records start _when_else_
+    records-mark left Chain e h = absurd (h refl)
+    records-mark zero Task e h = rw (le-ltb _ _ there, e)
+    records-mark (suc left) Task e h = rw (le-ltb _ _ there, e)
+    records-mark zero End e h = rw (le-ltb _ _ there, e)
+    records-mark (suc left) End e h = rw (le-ltb _ _ there, e)
+    records-mark zero Other e h = rw (le-ltb _ _ there, e)
+    records-mark (suc left) Other e h = rw (le-ltb _ _ there, e)
+
+    module _ (chain : markOf (word 2 s at) ≡ Chain) where
+      pub records-full : t .count ≡ maxChains → records (maxChains - t .count) s at t ≡ refusal 11
+      unfolding records start _when_else_
+      records-full e = rw (e, le-ltb _ _ there, chain)
+
+      pub records-chain : t .count < maxChains
+          → records (maxChains - t .count) s at t
+          ≡ unless (chainFault s at t) (records (maxChains - (t .count + 1)) s (at + lengthAt s at) (plus t (rowAt s at)))
+      unfolding records start _when_else_
+      records-chain h =
+          let e : maxChains - t .count ≡ suc (maxChains - (t .count + 1)) = omega arith in
+          rw (e, le-ltb _ _ there, chain)

@@ -1,0 +1,81 @@
+-- The gap is too small for what is left where it is for the whole list.
+use Prim.Native.Nat.{ℕ, _≤_, _<_, _+_, _*_, _-_}
+use mathlib.Core.Path.{_≡_, ap, sym, _∙_}
+use mathlib.Core.List.{List}
+use denote.Ref.{now}
+use Rattle.table.specs.Bytes.{word}
+use Rattle.table.specs.Record.{every}
+use native.Mathlib.Nat.{mul-le-mul-left}
+use Rattle.table.specs.Fault.{gapShort}
+use Rattle.table.proofs.Lists.{every-start, every-on, every-end, gap-yes, gap-no, gap-end}
+use native.Mathlib.Omega.{arith}
+use Rattle.table.proofs.fault.gap_short.Statement.{statement}
+use Rattle.table.proofs.fault.gap_short.Tie as tie
+
+abbrev Inv-loop : tie.InvT-loop
+Inv-loop s at n gap k₀ k = (k ≤ n) × (gapShort gap (k + 1) (every (word 4 s) 4 (n - k) (at + 4 * k)) ≡ gapShort gap 1 (every (word 4 s) 4 n at))
+
+abbrev μ-loop : tie.MeasureT-loop
+μ-loop s at n gap k₀ k = n - k
+
+loop-holds : tie.Need-loop-holds Inv-loop μ-loop
+loop-holds c = (omega arith, ap (gapShort (c .before .args .gap) 1) (every-start (word 4 (now (c .before .args .s))) 4 (c .before .args .n) (c .before .args .at)))
+
+mul-u32-at : tie.Need-mul-u32-at Inv-loop μ-loop
+mul-u32-at c = omega arith
+
+add-u32-at : tie.Need-add-u32-at Inv-loop μ-loop
+add-u32-at c = omega arith
+
+u32-at-requires : tie.Need-u32-at-requires Inv-loop μ-loop
+u32-at-requires c κs = omega arith
+
+add-if1 : tie.Need-add-if1 Inv-loop μ-loop
+add-if1 c = omega arith
+
+mul-if1 : tie.Need-mul-if1 Inv-loop μ-loop
+mul-if1 c = let h : c .before .before .loop .k + 1 ≤ 256 = omega arith in
+    omega (arith, mul-le-mul-left (c .before .before .before .before .args .gap) h)
+
+cast-if1 : tie.Need-cast-if1 Inv-loop μ-loop
+cast-if1 c = omega arith
+
+returns : tie.Need-returns Inv-loop μ-loop
+returns c = let a = c .before .before .before .before .before .args in
+    let l = c .before .before .before .loop in
+    cc (every-on (word 4 (now (a .s))) 4 (a .n) (l .k) (a .at) (omega arith), gap-yes (a .gap) (l .k + 1) (c .before .u32-at .result) (every (word 4 (now (a .s))) 4 (a .n - (l .k + 1)) (a .at + 4 * (l .k + 1))) (c .if1 .taken))
+
+add-k : tie.Need-add-k Inv-loop μ-loop
+add-k c = omega arith
+
+loop-less : tie.Need-loop-less Inv-loop μ-loop
+loop-less c = omega arith
+
+loop-again : tie.Need-loop-again Inv-loop μ-loop
+loop-again c = let a = c .before .before .before .before .before .args in
+    let l = c .before .before .before .loop in
+    (omega arith, cc (every-on (word 4 (now (a .s))) 4 (a .n) (l .k) (a .at) (omega arith), gap-no (a .gap) (l .k + 1) (c .before .u32-at .result) (every (word 4 (now (a .s))) 4 (a .n - (l .k + 1)) (a .at + 4 * (l .k + 1))) (c .if1 .left)))
+
+returns-2 : tie.Need-returns-2 Inv-loop μ-loop
+returns-2 c = let a = c .before .before .before .args in
+    let l = c .before .loop in
+    cc (every-end (word 4 (now (a .s))) 4 (a .n) (l .k) (a .at + 4 * l .k) (omega arith), gap-end (a .gap) (l .k + 1))
+
+pub gap-short-spec : {M : Type 1} → statement M
+gap-short-spec =
+    tie.close
+    (tie.spec
+    Inv-loop
+    μ-loop
+    loop-holds
+    mul-u32-at
+    add-u32-at
+    u32-at-requires
+    add-if1
+    mul-if1
+    cast-if1
+    returns
+    add-k
+    loop-less
+    loop-again
+    returns-2)

@@ -1,0 +1,90 @@
+// A chain record: its length, and the row that it makes.
+use crate::Row;
+use crate::Table;
+use crate::bytes::count_at;
+use crate::bytes::u16_at;
+use crate::bytes::u32_at;
+ghost use mathlib.Core.Path.{_≡_};
+ghost use Prim.Native.Nat.{_+_, _*_, _≤_};
+ghost use lib.ListN.{length};
+ghost use Rattle.table.specs.Limits.{maxDistances, maxTasks};
+ghost use Rattle.table.specs.Bytes.{word};
+ghost use Rattle.table.specs.Record.{every, pad, priorityAt, costAt, listedAt, tasksAt, lengthAt, rowAt};
+
+// How long the chain record at `at` is, by its count bytes as they stand.
+pub fn record_length(s: &[u8], at: usize) -> usize
+    requires { ⌜ at + 16 ≤ length (now s) ⌝ }
+    ensures { λ r. ⌜ r ≡ lengthAt (now (s .entry)) at ⌝ }
+{
+    16 + 4 * count_at(s, at + 14) + 8 * count_at(s, at + 15)
+}
+
+// The n distances from `at` on, and 0 past them.
+fn list_at(s: &[u8], at: usize, n: usize) -> [u32; Table::DISTANCES]
+    requires { ⌜ (n ≤ maxDistances) × (at + 4 * n ≤ length (now s)) ⌝ }
+    ensures { λ r. ⌜ r ≡ pad maxDistances (every (word 4 (now (s .entry))) 4 n at) ⌝ }
+{
+    let mut list = [0u32; Table::DISTANCES];
+    let mut k: usize = 0;
+    while k < n {
+        list[k] = u32_at(s, at + 4 * k);
+        k += 1;
+    }
+    list
+}
+
+// The priorities of the n tasks from `at` on, and 0 past them.
+fn priorities_at(s: &[u8], at: usize, n: usize) -> [u16; Table::TASKS]
+    requires { ⌜ (n ≤ maxTasks) × (at + 8 * n ≤ length (now s)) ⌝ }
+    ensures { λ r. ⌜ r ≡ pad maxTasks (every (priorityAt (now (s .entry))) 8 n at) ⌝ }
+{
+    let mut list = [0u16; Table::TASKS];
+    let mut k: usize = 0;
+    while k < n {
+        list[k] = u16_at(s, at + 8 * k + 2);
+        k += 1;
+    }
+    list
+}
+
+// The costs of the n tasks from `at` on, and 0 past them.
+fn costs_at(s: &[u8], at: usize, n: usize) -> [u32; Table::TASKS]
+    requires { ⌜ (n ≤ maxTasks) × (at + 8 * n ≤ length (now s)) ⌝ }
+    ensures { λ r. ⌜ r ≡ pad maxTasks (every (costAt (now (s .entry))) 8 n at) ⌝ }
+{
+    let mut list = [0u32; Table::TASKS];
+    let mut k: usize = 0;
+    while k < n {
+        list[k] = u32_at(s, at + 8 * k + 4);
+        k += 1;
+    }
+    list
+}
+
+// The row of the chain record at `at`, which is there and within its counts.
+pub fn row_at(s: &[u8], at: usize) -> Row
+    requires { ⌜ (at + lengthAt (now s) at ≤ length (now s)) × (listedAt (now s) at ≤ maxDistances) × (tasksAt (now s) at ≤ maxTasks) ⌝ }
+    ensures { λ r. ⌜ r ≡ rowAt (now (s .entry)) at ⌝ }
+{
+    let listed = count_at(s, at + 14);
+    let tasks = count_at(s, at + 15);
+    let first = at + 16 + 4 * listed;
+    let list = list_at(s, at + 16, listed);
+    let priority = priorities_at(s, first, tasks);
+    let cost = costs_at(s, first, tasks);
+    let id = u16_at(s, at + 2);
+    let deadline = u32_at(s, at + 6);
+    let gap = u32_at(s, at + 10);
+    Row {
+        id,
+        kind: s[at + 4],
+        overload: s[at + 5],
+        deadline,
+        gap,
+        listed,
+        tasks,
+        list,
+        priority,
+        cost,
+    }
+}
