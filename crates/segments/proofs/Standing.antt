@@ -13,7 +13,7 @@ use Rattle.table.specs.Record.{pad}
 use Rattle.table.specs.declared.Row.{Row}
 use Rattle.segments.specs.Tasks.{Task, tasksFrom, tasksOf, costOf, floorOf, tailOf, below}
 use Rattle.segments.specs.Segments.{_on_, stretches, cuts, parts}
-use Rattle.segments.specs.Actives.{Active, startOf, active, numbered, inOrder, actives, activesOf}
+use Rattle.segments.specs.Actives.{Active, startOf, active, numbered, inOrder, actives, activesOf, nothing}
 use Rattle.segments.proofs.Steps.{task}
 use Rattle.segments.proofs.Lists.{Solid}
 use Rattle.segments.proofs.Stretches.{all-solid}
@@ -135,9 +135,6 @@ actives-stand a b =
         }
 
 -- each of a list, by its place in it
-abbrev pub nothing : Active
-nothing = record { start = 0; len = 0; cost = 0; segment = 0 }
-
 pub all-at : (P : Active → Type 0) (l : List Active) (k : ℕ) → All P l → k < length l → P (getD l k nothing)
 all-at P [] k h lt = absurd (omega arith)
 all-at P (a ∷ l) zero h lt = h .0

@@ -41,6 +41,10 @@ actives floor tail ts = inOrder (parts floor tail ts)
 abbrev pub activesOf : Row → Row → List Active
 activesOf a b = actives (floorOf b) (tailOf b) (tasksOf a)
 
+-- no active segment: what stands past the end of the list
+abbrev pub nothing : Active
+nothing = record { start = 0; len = 0; cost = 0; segment = 0 }
+
 -- as the code holds them: how many there are, and arrays that are 0 past the last
 abbrev pub arraysOf : List Active → Actives
 arraysOf l =
