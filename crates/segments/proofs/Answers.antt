@@ -9,6 +9,7 @@ use lib.Dec.{eqb}
 use lib.ListN.{length, getD, take, drop, length-take, length-drop}
 use lib.Seq.{getD-take, getD-drop}
 use Rattle.search.proofs.Choice.{when-cases}
+use Rattle.table.specs.Limits.{maxTasks}
 use Rattle.table.specs.Bytes.{word, Bytes}
 use Rattle.table.specs.Record.{priorityAt, costAt, firstTask, prioritiesAt, costsAt, rowAt}
 use Rattle.table.specs.Find.{rowOf, findOf, used}
@@ -19,11 +20,13 @@ use Rattle.table.specs.declared.Row.{Row}
 use Rattle.table.specs.declared.Table.{Table}
 use Rattle.table.specs.declared.Verdict.{Verdict}
 use Rattle.table.specs.declared.Verdict.the-variants as verdict
+use Rattle.table.proofs.Lists.{every-at}
+use Rattle.table.proofs.Goods.{pad-at}
 use Rattle.table.proofs.Firsts.{none-or}
 use Rattle.table.proofs.Faultless.{inside}
 use Rattle.table.proofs.Accepted.{accepted-holds}
 use Rattle.segments.specs.Actives.{Active, nothing, activesOf}
-use Rattle.segments.specs.Query.{tasksAt, recordsOf, nthOf, answerOf, judged, segmentOf, partOf}
+use Rattle.segments.specs.Query.{firstTaskOf, recordsOf, nthOf, answerOf, judged, segmentOf, partOf}
 use Rattle.segments.specs.declared.Answer.{Answer}
 use Rattle.segments.specs.declared.Answer.the-variants.{Records, Refused}
 use Rattle.segments.proofs.Standing.{Stands, actives-stand, all-at}
@@ -42,7 +45,7 @@ pub record Answered (t : Table) (chain against number offset len : ℕ) : Type 0
   pub apart : chain ≡ against → ⊥
   pub low : 1 ≤ number
   pub high : number ≤ length (activesIn t chain against)
-  pub offset-is : offset ≡ tasksAt t (findOf t chain) + 8 * activeIn t chain against number .start
+  pub offset-is : offset ≡ firstTaskOf t (findOf t chain) + 8 * activeIn t chain against number .start
   pub length-is : len ≡ 8 * activeIn t chain against number .len
 
 -- no refusal is a figure
@@ -71,6 +74,44 @@ answered t chain against number offset len =
       offset-is = cc;
       length-is = cc;
     })))
+
+-- a number in a part of the bytes
+word-part : (n : ℕ) (s : List ℕ) (from len at : ℕ) → at + n ≤ len → word n (take len (drop from s)) at ≡ word n s (from + at)
+unfolding word
+word-part zero s from len at h = refl
+word-part (suc n) s from len at h =
+    let e : from + (at + 1) ≡ from + at + 1 = omega arith in
+    ap₂ (λ x y. x + 256 * y) (getD-take len (drop from s) at 0 (omega arith) ∙ getD-drop from s at 0)
+    (word-part n s from len (at + 1) (omega arith) ∙ ap (word n s) e)
+
+-- a row's task out of its record, whose task records start at `first`
+row-priority : (s : List ℕ) (at j : ℕ) → j < rowAt s at .tasks → getD (rowAt s at .priority) j 0 ≡ priorityAt s (at + 16 + 4 * rowAt s at .listed + 8 * j)
+unfolding rowAt
+row-priority s at j h = pad-at maxTasks (prioritiesAt s at) j ∙ every-at (priorityAt s) 8 (rowAt s at .tasks) j (firstTask s at) h
+
+row-cost : (s : List ℕ) (at j : ℕ) → j < rowAt s at .tasks → getD (rowAt s at .cost) j 0 ≡ costAt s (at + 16 + 4 * rowAt s at .listed + 8 * j)
+unfolding rowAt
+row-cost s at j h = pad-at maxTasks (costsAt s at) j ∙ every-at (costAt s) 8 (rowAt s at .tasks) j (firstTask s at) h
+
+-- the bytes are task records: those of the tasks of an active segment of the row a, one after the other
+pub record Recorded (part : List ℕ) (a : Row) (s : Active) : Type 0 where
+  pub size : length part ≡ 8 * s .len
+  pub priorities : (k : ℕ) → k < s .len → priorityAt part (8 * k) ≡ getD (a .priority) (s .start + k) 0
+  pub costs : (k : ℕ) → k < s .len → costAt part (8 * k) ≡ getD (a .cost) (s .start + k) 0
+
+recorded : (s : List ℕ) (at offset len : ℕ) (a : Row) (x : Active) → rowAt s at ≡ a → offset ≡ at + 16 + 4 * a .listed + 8 * x .start → len ≡ 8 * x .len
+    → x .start + x .len ≤ a .tasks → offset + len ≤ length s → Recorded (take len (drop offset s)) a x
+recorded s at offset len a x e o l i h = record {
+  size = length-take len (drop offset s) ∙ omega (arith, length-drop offset s);
+  priorities = λ k lt. word-part 2 s offset len (8 * k + 2) (omega arith) ∙ ap (word 2 s) (place k 2) ∙ sym (row-priority s at (x .start + k) (there k lt)) ∙ ap (λ r. getD (r .priority) (x .start + k) 0) e;
+  costs = λ k lt. word-part 4 s offset len (8 * k + 4) (omega arith) ∙ ap (word 4 s) (place k 4) ∙ sym (row-cost s at (x .start + k) (there k lt)) ∙ ap (λ r. getD (r .cost) (x .start + k) 0) e;
+}
+  where
+    place : (k d : ℕ) → offset + (8 * k + d) ≡ at + 16 + 4 * rowAt s at .listed + 8 * (x .start + k) + d
+    place k d = omega (arith, ap (λ r. r .listed) e)
+
+    there : (k : ℕ) → k < x .len → x .start + k < rowAt s at .tasks
+    there k lt = omega (arith, ap (λ r. r .tasks) e)
 
 -- an answer comes from an accepted table, which its bytes hold
 module _ (s : List ℕ) (bytes : Bytes s) (chain against number offset len : ℕ) (e : segmentOf s chain against number ≡ Records offset len) where
@@ -102,3 +143,10 @@ module _ (s : List ℕ) (bytes : Bytes s) (chain against number offset len : ℕ
   answer-inside =
       let t = readTable s .table in
       omega (arith, answer-of .offset-is, answer-of .length-is, stands .inside, holds .inside (findOf t chain) (answer-of .chain-there))
+
+  -- and they are the records of its tasks, where these stand
+  pub answer-records : Recorded (partOf s (Records offset len)) (rowOf (readTable s .table) (findOf (readTable s .table) chain)) (activeIn (readTable s .table) chain against number)
+  answer-records =
+      let t = readTable s .table in
+      let k = findOf t chain in
+      recorded s (placeOf t k) offset len (rowOf t k) (activeIn t chain against number) (holds .makes k (answer-of .chain-there)) (answer-of .offset-is) (answer-of .length-is) (stands .inside) answer-inside

@@ -9,7 +9,7 @@ use table::read;
 ghost use mathlib.Core.Path.{_≡_};
 ghost use Prim.Native.Nat.{_<_};
 ghost use Rattle.table.specs.Good.{GoodTable};
-ghost use Rattle.segments.specs.Query.{nthOf, answerOf, segmentOf, partOf};
+ghost use Rattle.segments.specs.Query.{nthOf, answerOf, segmentOf, HandedBack};
 
 // The active segment of that number, of the chain k of a table against the chain j.
 fn nth(t: Table, k: usize, j: usize, number: u32) -> Answer
@@ -63,7 +63,7 @@ pub fn segment(table: &[u8], chain: u32, against: u32, number: u32) -> Answer
 
 // The same as that part of the caller's own bytes; empty where it is refused.
 pub fn segment_part(table: &[u8], chain: u32, against: u32, number: u32) -> &[u8]
-    ensures { λ r. ⌜ now r ≡ partOf (now (table .entry)) (segmentOf (now (table .entry)) chain against number) ⌝ }
+    ensures { λ r. ⌜ HandedBack (table .entry) r (segmentOf (now (table .entry)) chain against number) ⌝ }
 {
     let answer = segment(table, chain, against, number);
     match answer {

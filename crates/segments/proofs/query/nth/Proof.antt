@@ -10,7 +10,7 @@ use lib.Dec.{ltb}
 use Rattle.table.specs.Find.{rowOf}
 use Rattle.table.proofs.Firsts.{or-left, or-right, or-none}
 use Rattle.segments.specs.Actives.{activesOf, nothing}
-use Rattle.segments.specs.Query.{nthOf, recordsOf, tasksAt}
+use Rattle.segments.specs.Query.{nthOf, recordsOf, firstTaskOf}
 use Rattle.segments.specs.declared.Answer.the-variants.{Records}
 use Rattle.segments.proofs.Asking.{Fetched, fetched, place-max}
 use borrow.Author.Needs.{needs}
@@ -115,7 +115,7 @@ returns-2 c =
     let n = s .args .number in
     let d = c .before .before .before .before .before .before .active-segments in
     let g = got (c .before .before .before .before) in
-    let e : Records (c .before .before .before .place .result + 16 + 4 * a .listed + 8 * getD (d .result .start) (n - 1) 0) (8 * getD (d .result .len) (n - 1) 0) ≡ recordsOf (tasksAt (s .args .t1) (s .args .k)) (getD (activesOf a (rowOf (s .args .t1) (s .args .j))) (n - 1) nothing) = rw (c .before .before .before .place .ensures, g .start, g .len) in
+    let e : Records (c .before .before .before .place .result + 16 + 4 * a .listed + 8 * getD (d .result .start) (n - 1) 0) (8 * getD (d .result .len) (n - 1) 0) ≡ recordsOf (firstTaskOf (s .args .t1) (s .args .k)) (getD (activesOf a (rowOf (s .args .t1) (s .args .j))) (n - 1) nothing) = rw (c .before .before .before .place .ensures, g .start, g .len) in
     e
     ∙ sym (when-no _ _ (or-none _ _ (le-ltb n 1 (omega (arith, c .before .before .before .before .before .if1 .left))) (ap (λ o. ltb (o .count) n) (sym (d .ensures)) ∙ c .before .before .before .before .if2 .left)))
 

@@ -4,7 +4,7 @@ use native.Mathlib.Omega.{arith}
 use mathlib.Core.Path.{_≡_, ap, sym, _∙_}
 use denote.Ref.{now}
 use lib.ListN.{take, drop}
-use Rattle.segments.specs.Query.{segmentOf, partOf}
+use Rattle.segments.specs.Query.{segmentOf, partOf, offsetOf}
 use Rattle.segments.proofs.Answers.{answer-inside}
 use borrow.Author.Needs.{needs}
 use Rattle.segments.proofs.query.segment_part.Statement.{statement}
@@ -55,10 +55,20 @@ returns c =
     let s = c .before .before .before .before .before .before in
     let a = c .before .before .answer .given in
     let e : a .0 .0 + a .0 .1 .0 - a .0 .0 ≡ a .0 .1 .0 = omega arith in
-    ap (λ k. take k (drop (a .0 .0) (now (s .args .table)))) e ∙ ap (partOf (now (s .args .table))) (sym (a .1) ∙ c .before .before .before .before .segment .ensures)
+    let is = sym (a .1) ∙ c .before .before .before .before .segment .ensures in
+    record {
+      bytes = ap (λ k. take k (drop (a .0 .0) (now (s .args .table)))) e ∙ ap (partOf (now (s .args .table))) is;
+      place = ap (λ r. (s .args .table .ptr .0, offsetOf r + s .args .table .ptr .1)) is;
+    }
 
 returns-2 : tie.Need-returns-2
-returns-2 c = ap (partOf (now (c .before .before .before .before .before .args .table))) (sym (c .before .enum-told .given .1) ∙ c .before .before .before .segment .ensures)
+returns-2 c =
+    let s = c .before .before .before .before .before in
+    let is = sym (c .before .enum-told .given .1) ∙ c .before .before .before .segment .ensures in
+    record {
+      bytes = ap (partOf (now (s .args .table))) is;
+      place = ap (λ r. (s .args .table .ptr .0, offsetOf r + s .args .table .ptr .1)) is;
+    }
 
 pub segment-part-spec : {M : Type 1} → statement M
 segment-part-spec =
