@@ -17,7 +17,8 @@ use Rattle.table.specs.declared.Table.{Table}
 use Rattle.table.proofs.Standing.{place-none, place-on}
 use Rattle.table.proofs.Firsts.{or-left, or-right, or-none}
 use Rattle.table.proofs.Finds.{find-le}
-use Rattle.segments.specs.Actives.{nothing, activesOf, arraysOf}
+use Rattle.segments.specs.Actives.{nothing, activesOf}
+use Rattle.segments.specs.Held.{arraysOf}
 use Rattle.segments.specs.Query.{nthOf}
 use Rattle.segments.specs.declared.Actives.{Actives}
 use Rattle.segments.specs.declared.Answer.the-variants.{Records, Refused}

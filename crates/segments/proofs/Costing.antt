@@ -10,8 +10,9 @@ use Rattle.search.specs.Choice.{_when_else_}
 use Rattle.search.specs.Lists.{sumOf, mostOf}
 use Rattle.search.proofs.Choice.{when-yes, when-no}
 use Rattle.search.proofs.Lists.{sum-append}
-use Rattle.segments.specs.Tasks.{Task, tasksFrom, costOf, below, before, stretchOf}
+use Rattle.segments.specs.Tasks.{Task, tasksFrom, costOf, below, before}
 use Rattle.segments.specs.Segments.{_on_, stretches, onward, around, segments}
+use Rattle.segments.specs.Held.{stretchOf}
 use Rattle.segments.specs.declared.Stretch.{Stretch}
 use Rattle.segments.proofs.Steps.{rest-on, rest-end, rest-all, rest-drop, rest-length, cost-nil, before-length, aheadOf, ahead-len, ahead-cost}
 use Rattle.segments.proofs.Lists.{sum-on, full-sum, full-most, around-sum}

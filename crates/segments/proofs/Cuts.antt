@@ -13,9 +13,10 @@ use Rattle.search.proofs.Choice.{when-yes, when-no}
 use Rattle.table.specs.Limits.{maxTasks}
 use Rattle.table.specs.Record.{pad}
 use Rattle.table.specs.declared.Row.{Row}
-use Rattle.segments.specs.Tasks.{Task, tasksFrom, tasksOf, costOf, floorOf, tailOf, below, before, stretchOf}
+use Rattle.segments.specs.Tasks.{Task, tasksFrom, tasksOf, costOf, floorOf, tailOf, below, before}
 use Rattle.segments.specs.Segments.{_on_, stretches, cuts, parts}
-use Rattle.segments.specs.Actives.{Active, active, startOf, numbered, inOrder, actives, activesOf, arraysOf, plus}
+use Rattle.segments.specs.Actives.{Active, active, startOf, numbered, inOrder, actives, activesOf}
+use Rattle.segments.specs.Held.{stretchOf, arraysOf, plus}
 use Rattle.segments.specs.declared.Stretch.{Stretch}
 use Rattle.segments.specs.declared.Actives.{Actives}
 use Rattle.segments.proofs.Steps.{task, rest-on, rest-end, rest-all, rest-drop, cost-cons, aheadOf, ahead-inside}

@@ -13,7 +13,8 @@ use Rattle.search.specs.Choice.{_when_else_}
 use Rattle.search.specs.Lists.{All}
 use Rattle.search.proofs.Choice.{lt-or-le}
 use Rattle.table.specs.declared.Row.{Row}
-use Rattle.segments.specs.Tasks.{Task, tasksFrom, tasksOf, costOf, chainCost, lowest, floorOf, below, at, some, before, ownPart, stretchOf}
+use Rattle.segments.specs.Tasks.{Task, tasksFrom, tasksOf, costOf, chainCost, lowest, floorOf, below, at, some, before, ownPart}
+use Rattle.segments.specs.Held.{stretchOf}
 use Rattle.segments.specs.declared.Stretch.{Stretch}
 use Rattle.segments.proofs.Steps.{rest-each, rest-length, aheadOf, ahead-len, ahead-cost}
 

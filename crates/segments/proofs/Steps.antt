@@ -10,7 +10,8 @@ use Rattle.search.specs.Lists.{sumOf, All}
 use Rattle.search.proofs.Choice.{when-yes, when-no, when-cases}
 use Rattle.search.proofs.Lists.{sum-bound}
 use Rattle.table.specs.Limits.{maxCost}
-use Rattle.segments.specs.Tasks.{Task, tasksFrom, costOf, below, before, stretchOf}
+use Rattle.segments.specs.Tasks.{Task, tasksFrom, costOf, below, before}
+use Rattle.segments.specs.Held.{stretchOf}
 use Rattle.segments.specs.declared.Stretch.{Stretch}
 
 -- the task after k others, and the tasks from it on

@@ -30,7 +30,7 @@ abbrev pub Of : ℕ → List Item → ℕ → Type 0
 Of j [] m = m ≡ 0
 Of j (a ∷ l) m = (m % 2 ≡ 1 → a .segment ≡ j) × Of j l (m / 2)
 
--- a combination: active segments all from one segment
+-- a combination, as far as one chain goes: active segments all from one of its segments; the empty set is one
 abbrev pub Combination : List Item → ℕ → Type 0
 Combination l m = (j : ℕ) × Of j l m
 

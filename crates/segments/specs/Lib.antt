@@ -1,6 +1,7 @@
 pub mod Tasks
 pub mod Segments
 pub mod Actives
+pub mod Held
 pub mod View
 pub mod Combination
 pub mod Query

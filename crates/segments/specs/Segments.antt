@@ -13,13 +13,14 @@ abbrev pub _on_ : {A : Type 0} → A → List (List A) → List (List A)
 t on [] = (t ∷ []) ∷ []
 t on (l ∷ ls) = (t ∷ l) ∷ ls
 
--- the longest stretches without a task that is p, from the first task to the last: before the first such task, between
--- two, and after the last; empty where nothing stands there
+-- the longest stretches of tasks that do not pass: before the first task that passes, between two, and after the last;
+-- empty where no task stands there
 unfoldable pub stretches : (Task → Bool) → List Task → List (List Task)
 stretches p [] = [] ∷ []
 stretches p (t ∷ ts) = [] ∷ stretches p ts when p t else t on stretches p ts
 
--- the last task followed by the first: the last stretch goes on in the first; one stretch alone stays as it is
+-- the last task followed by the first: the last stretch goes on in the first, and the two are one. A chain that
+-- interferes freely has one stretch, which stays as it is, from its first task to its last
 unfoldable pub onward : {A : Type 0} → (A → A → A) → A → List A → List A
 onward join s [] = s ∷ []
 onward join s (r ∷ []) = join r s ∷ []
@@ -49,7 +50,7 @@ allCost a b = sumOf costOf (segmentsOf a b)
 abbrev pub dearestCost : Row → Row → ℕ
 dearestCost a b = mostOf costOf (segmentsOf a b)
 
--- cut before each task that is p, except the first
+-- cut before each task that passes, except the first
 unfoldable pub cuts : (Task → Bool) → List Task → List (List Task)
 cuts p [] = []
 cuts p (t ∷ []) = (t ∷ []) ∷ []

@@ -46,7 +46,8 @@ dearestOf v = mostOf sum (v .segments)
 abbrev pub countOf : View → ℕ
 countOf v = sumOf length (v .segments)
 
--- the same view up to order: the segments pair off one to one, each pair with the same active-segment costs in some order
+-- the same view up to order: the segments pair off one to one, each pair with the same active-segment costs in some
+-- order, and so with the same cost
 pub record Alike (v w : View) : Type 0 where
   pub kind : v .kind ≡ w .kind
   pub overload : v .overload ≡ w .overload

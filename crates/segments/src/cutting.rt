@@ -1,8 +1,8 @@
 // Active segments.
 use crate::Actives;
 use crate::tasks::ahead;
-use crate::tasks::floor;
-use crate::tasks::tail;
+use crate::tasks::floor_of;
+use crate::tasks::tail_of;
 use crate::tasks::wide;
 use table::Row;
 use table::Table;
@@ -16,7 +16,8 @@ ghost use Rattle.table.specs.Limits.{maxTasks};
 ghost use Rattle.table.specs.Good.{GoodTasks, GoodRow};
 ghost use Rattle.segments.specs.Tasks.{tasksFrom, below};
 ghost use Rattle.segments.specs.Segments.{stretches};
-ghost use Rattle.segments.specs.Actives.{actives as inNumber, activesOf, arraysOf, plus};
+ghost use Rattle.segments.specs.Actives.{actives as inNumber, activesOf};
+ghost use Rattle.segments.specs.Held.{arraysOf, plus};
 
 impl Actives {
     // No active segment.
@@ -104,9 +105,9 @@ pub fn active_segments(a: Row, b: Row) -> Actives
     ensures { λ r. ⌜ r ≡ arraysOf (activesOf a b) ⌝ }
 {
     let above = b.priority;
-    let low = floor(&above, b.tasks);
-    let end = tail(&above, b.tasks);
+    let floor = floor_of(&above, b.tasks);
+    let tail = tail_of(&above, b.tasks);
     let priority = a.priority;
     let cost = a.cost;
-    cut(&priority, &cost, a.tasks, low, end)
+    cut(&priority, &cost, a.tasks, floor, tail)
 }

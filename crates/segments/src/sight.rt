@@ -3,7 +3,7 @@ use crate::Seen;
 use crate::costs::all_cost;
 use crate::costs::dearest_cost;
 use crate::tasks::ahead;
-use crate::tasks::floor;
+use crate::tasks::floor_of;
 use table::Row;
 ghost use mathlib.Core.Path.{_≡_};
 ghost use Rattle.table.specs.Good.{GoodRow};
@@ -28,23 +28,24 @@ pub fn own_part(b: Row) -> u32
 {
     let priority = b.priority;
     let cost = b.cost;
-    let low = floor(&priority, b.tasks);
-    let first = ahead(&priority, &cost, b.tasks, 0, low + 1);
+    let floor = floor_of(&priority, b.tasks);
+    let first = ahead(&priority, &cost, b.tasks, 0, floor + 1);
     first.cost
 }
 
+// What b sees of a.
 pub fn see(a: Row, b: Row) -> Seen
     requires { ⌜ GoodRow a × GoodRow b ⌝ }
     ensures { λ r. ⌜ r ≡ seenOf a b ⌝ }
 {
     let above = b.priority;
-    let low = floor(&above, b.tasks);
+    let floor = floor_of(&above, b.tasks);
     let priority = a.priority;
     let cost = a.cost;
     let n = a.tasks;
-    let first = ahead(&priority, &cost, n, 0, low);
-    let all = all_cost(&priority, &cost, n, low);
-    let dearest = dearest_cost(&priority, &cost, n, low);
+    let first = ahead(&priority, &cost, n, 0, floor);
+    let all = all_cost(&priority, &cost, n, floor);
+    let dearest = dearest_cost(&priority, &cost, n, floor);
     Seen {
         free: first.len == n,
         cost: chain_cost(a),

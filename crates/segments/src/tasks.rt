@@ -6,7 +6,8 @@ ghost use Prim.Native.Nat.{_-_, _≤_, _<_, min};
 ghost use lib.ListN.{getD};
 ghost use Rattle.table.specs.Limits.{maxTasks};
 ghost use Rattle.table.specs.Good.{GoodTasks};
-ghost use Rattle.segments.specs.Tasks.{tasksFrom, lowest, below, before, stretchOf};
+ghost use Rattle.segments.specs.Tasks.{tasksFrom, lowest, below, before};
+ghost use Rattle.segments.specs.Held.{stretchOf};
 
 // A priority as a wider number, which has room for a level above every priority.
 pub fn wide(x: u16) -> u32
@@ -22,7 +23,7 @@ fn lesser(a: u32, b: u32) -> u32
 }
 
 // The lowest priority.
-pub fn floor(priority: &[u16; Table::TASKS], n: usize) -> u32
+pub fn floor_of(priority: &[u16; Table::TASKS], n: usize) -> u32
     requires { ⌜ (1 ≤ n) × (n ≤ maxTasks) ⌝ }
     ensures { λ r. ⌜ r ≡ lowest (now (priority .entry)) (n - 1) ⌝ }
 {
@@ -36,7 +37,7 @@ pub fn floor(priority: &[u16; Table::TASKS], n: usize) -> u32
 }
 
 // The last task's priority.
-pub fn tail(priority: &[u16; Table::TASKS], n: usize) -> u32
+pub fn tail_of(priority: &[u16; Table::TASKS], n: usize) -> u32
     requires { ⌜ (1 ≤ n) × (n ≤ maxTasks) ⌝ }
     ensures { λ r. ⌜ r ≡ getD (now (priority .entry)) (n - 1) 0 ⌝ }
 {

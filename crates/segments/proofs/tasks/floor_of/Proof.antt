@@ -5,8 +5,8 @@ use mathlib.Core.Path.{_≡_, _∙_, sym, ap}
 use denote.Ref.{now}
 use Rattle.segments.specs.Tasks.{lowest}
 use Rattle.segments.proofs.Levels.{lowest-one, lowest-on}
-use Rattle.segments.proofs.tasks.floor.Statement.{statement}
-use Rattle.segments.proofs.tasks.floor.Tie as tie
+use Rattle.segments.proofs.tasks.floor_of.Statement.{statement}
+use Rattle.segments.proofs.tasks.floor_of.Tie as tie
 
 abbrev Inv-loop : tie.InvT-loop
 Inv-loop priority n low₀ k₀ low k = (1 ≤ k) × (k ≤ n) × (low ≡ lowest priority (k - 1))
@@ -54,8 +54,8 @@ returns c =
     let e : l .k ≡ s .args .n = omega arith in
     l .inv .2 ∙ ap (λ k. lowest (now (s .args .priority)) (k - 1)) e
 
-pub floor-spec : {M : Type 1} → statement M
-floor-spec =
+pub floor-of-spec : {M : Type 1} → statement M
+floor-of-spec =
     tie.close
     (tie.spec
     Inv-loop

@@ -1,0 +1,36 @@
+-- How the code holds tasks and active segments.
+use Prim.Native.Nat.{ℕ, _+_}
+use mathlib.Core.List.{List, map}
+use lib.ListN.{length, set}
+use Rattle.table.specs.Limits.{maxTasks}
+use Rattle.table.specs.Record.{pad}
+use Rattle.segments.specs.Tasks.{Task, costOf}
+use Rattle.segments.specs.Actives.{Active}
+use Rattle.segments.specs.declared.Stretch.{Stretch}
+use Rattle.segments.specs.declared.Actives.{Actives}
+
+-- some tasks in a row: how many there are, and what they cost
+abbrev pub stretchOf : List Task → Stretch
+stretchOf ts = record { len = length ts; cost = costOf ts }
+
+-- active segments: how many there are, and arrays that are 0 past the last
+abbrev pub arraysOf : List Active → Actives
+arraysOf l =
+    record {
+      count = length l;
+      start = pad maxTasks (map (λ a. a .start) l);
+      len = pad maxTasks (map (λ a. a .len) l);
+      cost = pad maxTasks (map (λ a. a .cost) l);
+      segment = pad maxTasks (map (λ a. a .segment) l);
+    }
+
+-- one active segment more
+abbrev pub plus : Actives → ℕ → ℕ → ℕ → ℕ → Actives
+plus a start len cost segment =
+    record {
+      count = a .count + 1;
+      start = set (a .start) (a .count) start;
+      len = set (a .len) (a .count) len;
+      cost = set (a .cost) (a .count) cost;
+      segment = set (a .segment) (a .count) segment;
+    }
