@@ -11,7 +11,7 @@ use lib.Seq.{getD-take, getD-drop}
 use Rattle.search.proofs.Choice.{when-cases}
 use Rattle.table.specs.Limits.{maxTasks}
 use Rattle.table.specs.Bytes.{word, Bytes}
-use Rattle.table.specs.Record.{priorityAt, costAt, firstTask, prioritiesAt, costsAt, rowAt}
+use Rattle.table.specs.Record.{priorityAt, costAt, firstTask, every, pad, rowAt}
 use Rattle.table.specs.Find.{rowOf, findOf, used}
 use Rattle.table.specs.Place.{placeOf, Holds}
 use Rattle.table.specs.Read.{readTable}
@@ -82,14 +82,9 @@ word-part (suc n) s from len at h =
     ap₂ (λ x y. x + 256 * y) (getD-take len (drop from s) at 0 (omega arith) ∙ getD-drop from s at 0)
     (word-part n s from len (at + 1) (omega arith) ∙ ap (word n s) e)
 
--- a row's task out of its record, whose task records start at `first`
-row-priority : (s : List ℕ) (at j : ℕ) → j < rowAt s at .tasks → getD (rowAt s at .priority) j 0 ≡ priorityAt s (at + 16 + 4 * rowAt s at .listed + 8 * j)
-unfolding rowAt
-row-priority s at j h = pad-at maxTasks (prioritiesAt s at) j ∙ every-at (priorityAt s) 8 (rowAt s at .tasks) j (firstTask s at) h
-
-row-cost : (s : List ℕ) (at j : ℕ) → j < rowAt s at .tasks → getD (rowAt s at .cost) j 0 ≡ costAt s (at + 16 + 4 * rowAt s at .listed + 8 * j)
-unfolding rowAt
-row-cost s at j h = pad-at maxTasks (costsAt s at) j ∙ every-at (costAt s) 8 (rowAt s at .tasks) j (firstTask s at) h
+-- a number of each task, filled up to the limit: the j-th stands at the j-th task record
+task-at : (f : ℕ → ℕ) (n first j : ℕ) → j < n → getD (pad maxTasks (every f 8 n first)) j 0 ≡ f (first + 8 * j)
+task-at f n first j h = pad-at maxTasks (every f 8 n first) j ∙ every-at f 8 n j first h
 
 -- the bytes are task records: those of the tasks of an active segment of the row a, one after the other
 pub record Recorded (part : List ℕ) (a : Row) (s : Active) : Type 0 where
@@ -99,17 +94,22 @@ pub record Recorded (part : List ℕ) (a : Row) (s : Active) : Type 0 where
 
 recorded : (s : List ℕ) (at offset len : ℕ) (a : Row) (x : Active) → rowAt s at ≡ a → offset ≡ at + 16 + 4 * a .listed + 8 * x .start → len ≡ 8 * x .len
     → x .start + x .len ≤ a .tasks → offset + len ≤ length s → Recorded (take len (drop offset s)) a x
+unfolding rowAt
 recorded s at offset len a x e o l i h = record {
   size = length-take len (drop offset s) ∙ omega (arith, length-drop offset s);
-  priorities = λ k lt. word-part 2 s offset len (8 * k + 2) (omega arith) ∙ ap (word 2 s) (place k 2) ∙ sym (row-priority s at (x .start + k) (there k lt)) ∙ ap (λ r. getD (r .priority) (x .start + k) 0) e;
-  costs = λ k lt. word-part 4 s offset len (8 * k + 4) (omega arith) ∙ ap (word 4 s) (place k 4) ∙ sym (row-cost s at (x .start + k) (there k lt)) ∙ ap (λ r. getD (r .cost) (x .start + k) 0) e;
+  priorities = field 2 (λ r. r .priority) (omega arith) (task-at (priorityAt s) (rowAt s at .tasks) (firstTask s at));
+  costs = field 4 (λ r. r .cost) (omega arith) (task-at (costAt s) (rowAt s at .tasks) (firstTask s at));
 }
   where
-    place : (k d : ℕ) → offset + (8 * k + d) ≡ at + 16 + 4 * rowAt s at .listed + 8 * (x .start + k) + d
-    place k d = omega (arith, ap (λ r. r .listed) e)
-
-    there : (k : ℕ) → k < x .len → x .start + k < rowAt s at .tasks
-    there k lt = omega (arith, ap (λ r. r .tasks) e)
+    -- a number of w bytes, w bytes after the start of a task record
+    field : (w : ℕ) (list : Row → List ℕ) → w ≤ 4
+        → ((j : ℕ) → j < rowAt s at .tasks → getD (list (rowAt s at)) j 0 ≡ word w s (firstTask s at + 8 * j + w))
+        → (k : ℕ) → k < x .len → word w (take len (drop offset s)) (8 * k + w) ≡ getD (list a) (x .start + k) 0
+    field w list small stored k lt =
+        let there : x .start + k < rowAt s at .tasks = omega (arith, ap (λ r. r .tasks) e) in
+        let place : offset + (8 * k + w) ≡ firstTask s at + 8 * (x .start + k) + w = omega (arith, ap (λ r. r .listed) e) in
+        word-part w s offset len (8 * k + w) (omega arith) ∙ ap (word w s) place ∙ sym (stored (x .start + k) there)
+        ∙ ap (λ r. getD (list r) (x .start + k) 0) e
 
 -- an answer comes from an accepted table, which its bytes hold
 module _ (s : List ℕ) (bytes : Bytes s) (chain against number offset len : ℕ) (e : segmentOf s chain against number ≡ Records offset len) where

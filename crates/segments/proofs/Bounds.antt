@@ -7,19 +7,19 @@ use mathlib.Core.Logic.{⊎-elim}
 use mathlib.Core.List.{List, [], _∷_, _++_, map}
 use mathlib.Core.Bool.{Bool, true, false, _||_}
 use borrow.Author.Tests.{eq-eqb}
-use lib.ListN.{length, getD, length-append, length-map}
+use lib.ListN.{length, length-append, length-map}
 use Rattle.search.specs.Choice.{_when_else_}
 use Rattle.search.specs.Lists.{sumOf, All}
-use Rattle.search.proofs.Choice.{lt-or-le}
 use Rattle.search.proofs.Lists.{sum-append, sum-ext}
 use Rattle.table.specs.Limits.{maxTasks, maxCost}
 use Rattle.table.specs.Good.{GoodRow}
 use Rattle.table.specs.declared.Row.{Row}
-use Rattle.segments.specs.Tasks.{Task, tasksFrom, tasksOf, costOf, chainCost, lowest, floorOf, tailOf, below, at, some, before, firstCost, ownPart}
+use Rattle.segments.specs.Tasks.{Task, tasksFrom, tasksOf, costOf, chainCost, floorOf, tailOf, below, at, some, before, firstCost, ownPart}
 use Rattle.segments.specs.Segments.{_on_, stretches, around, full, cuts, parts, cutSegments, segmentsOf, allCost, dearestCost}
 use Rattle.segments.specs.Actives.{Active, active, numbered, inOrder, actives, activesOf}
 use Rattle.segments.specs.View.{viewOf, countOf}
 use Rattle.segments.proofs.Steps.{task, rest-each, rest-length, cheap}
+use Rattle.segments.proofs.Levels.{lowest-hit}
 use Rattle.segments.proofs.Lists.{sum-ones, each-sum, most-sum, sum-map, sum-flatten, full-sum, around-sum}
 use Rattle.segments.proofs.Stretches.{cuts-flatten}
 use Rattle.segments.proofs.Costing.{kept, stretches-cost, all-kept}
@@ -43,7 +43,7 @@ module _ (p : Task → Bool) where
       go true h = omega arith
       go false h = omega arith
 
-  -- where some task is p, those before the first of these cost less than all
+  -- where some task passes, those before the first that does cost less than all
   before-less : (ts : List Task) → some p ts ≡ true → All (λ t. 1 ≤ t .cost) ts → costOf (before p ts) < costOf ts
   unfolding some before sumOf _when_else_
   before-less [] s h = let z : _≡_ {A = ℕ} 0 1 = cc in absurd (omega arith)
@@ -65,13 +65,6 @@ module _ (p : Task → Bool) where
       or-true : (b : Bool) → b || true ≡ true
       or-true true = refl
       or-true false = refl
-
-lowest-hit : (ps : List ℕ) (n : ℕ) → (k : ℕ) × (k ≤ n) × (getD ps k 0 ≡ lowest ps n)
-unfolding lowest
-lowest-hit ps zero = (0, omega arith, refl)
-lowest-hit ps (suc n) =
-    let r = lowest-hit ps n in
-    ⊎-elim (λ l. (suc n, omega arith, omega arith)) (λ l. (r .0, omega (arith, r .1), omega (arith, r .2))) (lt-or-le (getD ps (suc n) 0) (lowest ps n))
 
 module _ (a b : Row) where
   pub dearest-all : dearestCost a b ≤ allCost a b

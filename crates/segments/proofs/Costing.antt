@@ -13,13 +13,13 @@ use Rattle.search.proofs.Lists.{sum-append}
 use Rattle.segments.specs.Tasks.{Task, tasksFrom, costOf, below, before}
 use Rattle.segments.specs.Segments.{_on_, stretches, onward, around, segments}
 use Rattle.segments.specs.Held.{stretchOf}
-use Rattle.segments.specs.declared.Stretch.{Stretch}
+use Rattle.segments.specs.declared.tasks.Stretch.{Stretch}
 use Rattle.segments.proofs.Steps.{rest-on, rest-end, rest-all, rest-drop, rest-length, cost-nil, before-length, aheadOf, ahead-len, ahead-cost}
 use Rattle.segments.proofs.Lists.{sum-on, full-sum, full-most, around-sum}
 use Rattle.segments.proofs.Levels.{none-before, all-before}
 use Rattle.segments.proofs.Stretches.{stretches-some, stretches-split, stretches-none}
 
--- what the tasks that are not p cost
+-- what the tasks that do not pass cost
 abbrev pub kept : (Task → Bool) → List Task → ℕ
 kept p ts = sumOf (λ t. 0 when p t else t .cost) ts
 

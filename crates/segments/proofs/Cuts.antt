@@ -17,7 +17,7 @@ use Rattle.segments.specs.Tasks.{Task, tasksFrom, tasksOf, costOf, floor
 use Rattle.segments.specs.Segments.{_on_, stretches, cuts, parts}
 use Rattle.segments.specs.Actives.{Active, active, startOf, numbered, inOrder, actives, activesOf}
 use Rattle.segments.specs.Held.{stretchOf, arraysOf, plus}
-use Rattle.segments.specs.declared.Stretch.{Stretch}
+use Rattle.segments.specs.declared.tasks.Stretch.{Stretch}
 use Rattle.segments.specs.declared.Actives.{Actives}
 use Rattle.segments.proofs.Steps.{task, rest-on, rest-end, rest-all, rest-drop, cost-cons, aheadOf, ahead-inside}
 use Rattle.segments.proofs.Levels.{lowest-le}

@@ -15,10 +15,17 @@ use Rattle.search.proofs.Choice.{lt-or-le}
 use Rattle.table.specs.declared.Row.{Row}
 use Rattle.segments.specs.Tasks.{Task, tasksFrom, tasksOf, costOf, chainCost, lowest, floorOf, below, at, some, before, ownPart}
 use Rattle.segments.specs.Held.{stretchOf}
-use Rattle.segments.specs.declared.Stretch.{Stretch}
+use Rattle.segments.specs.declared.tasks.Stretch.{Stretch}
 use Rattle.segments.proofs.Steps.{rest-each, rest-length, aheadOf, ahead-len, ahead-cost}
 
 -- the lowest is one of them, and none lies below it
+pub lowest-hit : (ps : List ℕ) (n : ℕ) → (k : ℕ) × (k ≤ n) × (getD ps k 0 ≡ lowest ps n)
+unfolding lowest
+lowest-hit ps zero = (0, omega arith, refl)
+lowest-hit ps (suc n) =
+    let r = lowest-hit ps n in
+    ⊎-elim (λ l. (suc n, omega arith, omega arith)) (λ l. (r .0, omega (arith, r .1), omega (arith, r .2))) (lt-or-le (getD ps (suc n) 0) (lowest ps n))
+
 pub lowest-le : (ps : List ℕ) (n k : ℕ) → k ≤ n → lowest ps n ≤ getD ps k 0
 unfolding lowest
 lowest-le ps zero k h = let e : k ≡ 0 = omega arith in omega (arith, ap (λ j. getD ps j 0) e)
@@ -59,7 +66,7 @@ unfolding before _when_else_
 before-zero [] = refl
 before-zero (t ∷ ts) = rw (le-ltb (t .priority) 0 (omega arith)) (ap (λ r. t ∷ r) (before-zero ts))
 
--- where none is p, all come before the first that is; and only there
+-- where none passes, all come before the first that does; and only there
 module _ (p : Task → Bool) where
   pub some-before : (ts : List Task) → not (some p ts) ≡ eqb (length (before p ts)) (length ts)
   unfolding some before _when_else_

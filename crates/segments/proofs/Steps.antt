@@ -12,7 +12,7 @@ use Rattle.search.proofs.Lists.{sum-bound}
 use Rattle.table.specs.Limits.{maxCost}
 use Rattle.segments.specs.Tasks.{Task, tasksFrom, costOf, below, before}
 use Rattle.segments.specs.Held.{stretchOf}
-use Rattle.segments.specs.declared.Stretch.{Stretch}
+use Rattle.segments.specs.declared.tasks.Stretch.{Stretch}
 
 -- the task after k others, and the tasks from it on
 abbrev pub task : List ℕ → List ℕ → ℕ → Task

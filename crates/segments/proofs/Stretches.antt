@@ -28,7 +28,7 @@ module _ (p : Task → Bool) where
       go true h = omega arith
       go false h = omega (arith, on-length t (stretches p ts) h)
 
-  -- one stretch more for each task that is p
+  -- one stretch more for each task that passes
   pub stretches-low : (t : Task) (ts : List Task) → p t ≡ true → length (stretches p (t ∷ ts)) ≡ suc (length (stretches p ts))
   unfolding stretches _when_else_
   stretches-low t ts e = rw e
@@ -50,7 +50,7 @@ module _ (p : Task → Bool) where
       go true e r = rw e
       go false e r = let i : length (before p ts) < length ts = omega (arith, rw e at h) in rw (e, r i)
 
-  -- no task is p: one stretch
+  -- no task passes: one stretch
   pub stretches-none : (ts : List Task) → some p ts ≡ false → stretches p ts ≡ ts ∷ []
   unfolding stretches some _when_else_
   stretches-none [] h = refl

@@ -3,7 +3,7 @@ use Prim.Native.Nat.{ℕ, _+_, _<_}
 use native.Mathlib.Omega.{arith}
 use mathlib.Core.Path.{_≡_, refl, ap, ap₂, sym, _∙_}
 use mathlib.Core.List.{List, [], _∷_, _++_, map, map-map, map-id, flatten, List·Permᴰ, Permᴰ·symm, Permᴰ·refl}
-use mathlib.Core.Bool.{true, false, not}
+use mathlib.Core.Bool.{false, not}
 use borrow.Author.Tests.{not-true}
 use lib.Dec.{eqb}
 use lib.ListN.{length, take}
@@ -13,9 +13,9 @@ use Rattle.table.specs.declared.Row.{Row}
 use Rattle.segments.specs.Tasks.{Task, tasksOf, costOf, chainCost, floorOf, tailOf, below, deferred, firstCost}
 use Rattle.segments.specs.Segments.{onward, around, full, segments, segmentsOf, cutSegments, allCost, dearestCost}
 use Rattle.segments.specs.Held.{stretchOf}
-use Rattle.segments.specs.View.{View, viewOf, sum, allOf, dearestOf, countOf, Alike, seenOf}
+use Rattle.segments.specs.View.{View, viewOf, sum, allOf, dearestOf, countOf, Shows, Alike, seenOf}
 use Rattle.segments.specs.declared.Seen.{Seen}
-use Rattle.segments.specs.declared.Stretch.{Stretch}
+use Rattle.segments.specs.declared.tasks.Stretch.{Stretch}
 use Rattle.segments.proofs.Steps.{rest-length, cost-nil, aheadOf, ahead-cost}
 use Rattle.segments.proofs.Levels.{free-is}
 use Rattle.segments.proofs.Lists.{sum-map, most-map, sum-ones, sum-flatten, full-sum}
@@ -82,14 +82,6 @@ module _ (a b : Row) where
   pub dearest-view : dearestCost a b ≡ dearestOf (viewOf a b)
   dearest-view =
       sym (most-map costOf (λ c. c) (segmentsOf a b)) ∙ ap (mostOf (λ c. c)) (sym segment-costs) ∙ most-map sum (λ c. c) (viewOf a b .segments)
-
--- r holds the figures of the view v; a chain's cost comes from its view where it interferes freely
-pub record Shows (v : View) (r : Seen) : Type 0 where
-  pub free : r .free ≡ v .free
-  pub cost : v .free ≡ true → r .cost ≡ allOf v
-  pub first : r .first ≡ v .first
-  pub all : r .all ≡ allOf v
-  pub dearest : r .dearest ≡ dearestOf v
 
 -- what `see` puts together is what b sees
 pub seen-is : (a b : Row) (floor cost all dearest : ℕ) (first : Stretch) → floor ≡ floorOf b

@@ -6,7 +6,7 @@ use Rattle.table.specs.Limits.{maxTasks}
 use Rattle.table.specs.Record.{pad}
 use Rattle.segments.specs.Tasks.{Task, costOf}
 use Rattle.segments.specs.Actives.{Active}
-use Rattle.segments.specs.declared.Stretch.{Stretch}
+use Rattle.segments.specs.declared.tasks.Stretch.{Stretch}
 use Rattle.segments.specs.declared.Actives.{Actives}
 
 -- some tasks in a row: how many there are, and what they cost

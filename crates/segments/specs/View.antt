@@ -2,7 +2,7 @@
 use Prim.Native.Nat.{ℕ}
 use mathlib.Core.Path.{_≡_}
 use mathlib.Core.List.{List, map, List·Permᴰ}
-use mathlib.Core.Bool.{Bool, not}
+use mathlib.Core.Bool.{Bool, true, not}
 use lib.ListN.{length, take}
 use Rattle.search.specs.Lists.{sumOf, mostOf, Paired}
 use Rattle.table.specs.declared.Row.{Row}
@@ -66,3 +66,11 @@ seenOf a b =
       all = allCost a b;
       dearest = dearestCost a b;
     }
+
+-- r holds the figures of the view v; a chain's cost comes from its view where it interferes freely
+pub record Shows (v : View) (r : Seen) : Type 0 where
+  pub free : r .free ≡ v .free
+  pub cost : v .free ≡ true → r .cost ≡ allOf v
+  pub first : r .first ≡ v .first
+  pub all : r .all ≡ allOf v
+  pub dearest : r .dearest ≡ dearestOf v

@@ -13,12 +13,6 @@ pub use sight::own_part;
 pub use sight::see;
 use table::Table;
 
-// Some tasks in a row: how many there are, and what they cost.
-pub struct Stretch {
-    pub len: usize,
-    pub cost: u32,
-}
-
 // The active segments by number: `count` of them, each with the place of its first task, its tasks, what they cost, and
 // the number of its segment; 0 past them.
 pub struct Actives {

@@ -1,5 +1,4 @@
 // Tasks against a level of priority.
-use crate::Stretch;
 use table::Table;
 ghost use mathlib.Core.Path.{_≡_};
 ghost use Prim.Native.Nat.{_-_, _≤_, _<_, min};
@@ -8,6 +7,12 @@ ghost use Rattle.table.specs.Limits.{maxTasks};
 ghost use Rattle.table.specs.Good.{GoodTasks};
 ghost use Rattle.segments.specs.Tasks.{tasksFrom, lowest, below, before};
 ghost use Rattle.segments.specs.Held.{stretchOf};
+
+// Some tasks in a row: how many there are, and what they cost.
+pub struct Stretch {
+    pub len: usize,
+    pub cost: u32,
+}
 
 // A priority as a wider number, which has room for a level above every priority.
 pub fn wide(x: u16) -> u32
