@@ -1,11 +1,10 @@
 -- Laws of the two searches, and that there is one greatest and one least. Assumes nothing.
 use Prim.Native.Nat.{ℕ, zero, suc, _+_, _≤_, _<_}
-use mathlib.Core.Path.{_≡_, refl, sym, ap, _∙_}
+use mathlib.Core.Path.{_≡_, sym, ap, _∙_}
 use mathlib.Core.Bool.{Bool, true, false}
 use mathlib.Core.Logic.{⊎-elim}
 use native.Mathlib.Omega.{arith}
 use native.Mathlib.Nat.{eq-or-lt-of-le, le-of-suc-le-suc}
-use Rattle.search.specs.Choice.{_when_else_}
 use Rattle.search.specs.Find.{first, last, Greatest, Least}
 use Rattle.search.proofs.Choice.{when-yes, when-no, when-cases, true-not-false}
 

@@ -1,6 +1,5 @@
 -- Sums, maxima and tests over a list, by what each element gives, and lists paired off one to one.
 use Prim.Native.Nat.{ℕ, max, _+_}
-use mathlib.Core.Path.{_≡_}
 use mathlib.Core.List.{List, [], _∷_, map, List·Permᴰ}
 
 -- the sum of what the elements give

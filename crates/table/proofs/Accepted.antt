@@ -1,25 +1,22 @@
 -- Every accepted reading is a good table, and its bytes hold it. Assumes nothing.
-use Prim.Native.Nat.{ℕ, zero, suc, _+_, _*_, _-_, _<_, _≤_}
+use Prim.Native.Nat.{ℕ, zero, suc, _+_, _-_, _<_, _≤_}
 use native.Mathlib.Omega.{arith}
 use native.Mathlib.Numerals.{add-one}
-use native.Mathlib.Nat.{eq-or-lt-of-le}
-use mathlib.Core.Path.{_≡_, refl, ap, sym, subst, _∙_}
-use mathlib.Core.List.{List, [], _∷_, _++_}
-use mathlib.Core.Bool.{Bool, true, false, _||_}
-use mathlib.Core.Logic.{⊎-elim}
+use mathlib.Core.Path.{_≡_, refl, ap, sym, _∙_}
+use mathlib.Core.List.{List}
+use mathlib.Core.Bool.{false, _||_}
 use borrow.Author.Count.{below-more}
 use borrow.Author.Tests.{ltb-false, eqb-false, eqb-true, not-false}
-use lib.ListN.{length, getD, take, set, replicate, length-set, length-replicate, getD-replicate}
+use lib.ListN.{length, take, set, length-set, length-replicate, getD-replicate}
 use lib.Dec.{eqb, ltb}
 use lib.Seq.{getD-set-same, getD-set-other, take-set-le, take-suc-set}
-use Rattle.search.specs.Choice.{_when_else_}
 use Rattle.search.specs.Lists.{sumOf}
-use Rattle.search.proofs.Choice.{when-cases, true-not-false}
+use Rattle.search.proofs.Choice.{when-cases}
 use Rattle.search.proofs.Find.{first-miss}
 use Rattle.search.proofs.Lists.{sum-append}
 use Rattle.table.specs.Limits.{maxChains, maxAllTasks, maxBytes}
 use Rattle.table.specs.Bytes.{word, Bytes}
-use Rattle.table.specs.Record.{idAt, tasksAt, lengthAt, rowAt}
+use Rattle.table.specs.Record.{idAt, lengthAt, rowAt}
 use Rattle.table.specs.Find.{none, rowOf, rows, findOf, used}
 use Rattle.table.specs.Fault.{markOf, chainFault, endFault}
 use Rattle.table.specs.Read.{blank, empty, plus, refusal, accepted, unless, byMark, start, records, readTable}
@@ -30,11 +27,11 @@ use Rattle.table.specs.declared.Table.{Table}
 use Rattle.table.specs.declared.Reading.{Reading}
 use Rattle.table.specs.declared.Mark.{Mark}
 use Rattle.table.specs.declared.Mark.the-variants.{Chain, Task, End, Other}
-use Rattle.table.specs.declared.Verdict.the-variants.{Accepted, Refused}
+use Rattle.table.specs.declared.Verdict.the-variants.{Accepted}
 use Rattle.table.proofs.Firsts.{when-zero}
-use Rattle.table.proofs.Faultless.{ChainRight, chain-right}
+use Rattle.table.proofs.Faultless.{chain-right}
 use Rattle.table.proofs.Goods.{row-good}
-use Rattle.table.proofs.Standing.{place-none, place-on}
+use Rattle.table.proofs.Standing.{place-none}
 
 -- what the rows read so far are, where the next record starts at `at`
 record Kept (s : List ℕ) (at : ℕ) (t : Table) : Type 0 where

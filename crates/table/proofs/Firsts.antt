@@ -1,7 +1,7 @@
 -- The first fault decides: laws of `_then_`, and of a fault that is 0. Assumes nothing.
 use Prim.Native.Nat.{ℕ, zero, suc}
-use mathlib.Core.Path.{_≡_, refl, sym, _∙_}
-use mathlib.Core.Bool.{Bool, true, false, not, _||_, _&&_}
+use mathlib.Core.Path.{_≡_, refl}
+use mathlib.Core.Bool.{Bool, true, false, _||_}
 use native.Mathlib.Omega.{arith}
 use Rattle.search.specs.Choice.{_when_else_}
 use Rattle.table.specs.Fault.{_then_}
@@ -52,18 +52,3 @@ unless-fault (suc n) r h = refl
 pub unless-none : (n : ℕ) (r : Reading) → n ≡ 0 → unless n r ≡ r
 unfolding unless
 unless-none n r e = rw e
-
--- a test that decides, at a `return`
-pub hit : {A : Type 0} (n m : A) (t : Bool) → t ≡ true → n ≡ (n when t else m)
-unfolding _when_else_
-hit n m t e = rw e
-
-pub skip : {A : Type 0} (x n m : A) (t : Bool) → t ≡ false → x ≡ m → x ≡ (n when t else m)
-unfolding _when_else_
-skip x n m t e f = rw e f
-
-pub not-yes : (t : Bool) → t ≡ true → not t ≡ false
-not-yes t e = rw e
-
-pub not-no : (t : Bool) → t ≡ false → not t ≡ true
-not-no t e = rw e

@@ -1,10 +1,9 @@
 -- Where records stand: the laws of `placeOf`. Assumes nothing.
-use Prim.Native.Nat.{ℕ, zero, suc, _+_, _*_, _-_, _<_, _≤_}
+use Prim.Native.Nat.{ℕ, _+_, _-_, _<_}
 use native.Mathlib.Omega.{arith}
 use native.Mathlib.Numerals.{add-one}
-use mathlib.Core.Path.{_≡_, refl, ap, sym, _∙_}
-use mathlib.Core.List.{List, [], _∷_, _++_}
-use lib.ListN.{length, getD, take}
+use mathlib.Core.Path.{_≡_, refl}
+use lib.ListN.{length}
 use lib.Seq.{take-suc}
 use Rattle.search.specs.Lists.{sumOf}
 use Rattle.search.proofs.Lists.{sum-append}

@@ -1,10 +1,9 @@
 -- Laws of little-endian numbers, for any width. Assumes nothing.
-use Prim.Native.Nat.{ℕ, zero, suc, _+_, _*_, _^_, _<_, _≤_}
-use mathlib.Core.Path.{_≡_, refl, ap, sym, _∙_}
+use Prim.Native.Nat.{ℕ, zero, suc, _+_, _*_, _^_, _<_}
+use mathlib.Core.Path.{_≡_, ap}
 use mathlib.Core.List.{List}
 use native.Mathlib.Omega.{arith}
-use native.Mathlib.Nat.{pow-suc, mul-assoc}
-use lib.ListN.{getD}
+use native.Mathlib.Nat.{pow-suc}
 use Rattle.table.specs.Bytes.{word, Bytes}
 
 -- a number of m + n bytes is one of m bytes and one of n bytes after it

@@ -5,7 +5,7 @@ use mathlib.Core.List.{List}
 use lib.ListN.{length, take}
 use Rattle.search.specs.Lists.{sumOf}
 use Rattle.table.specs.Bytes.{word}
-use Rattle.table.specs.Record.{rowAt, lengthAt}
+use Rattle.table.specs.Record.{rowAt}
 use Rattle.table.specs.Fault.{markOf}
 use Rattle.table.specs.Find.{rowOf}
 use Rattle.table.specs.declared.Row.{Row}

@@ -33,32 +33,26 @@ fn list_at(s: &[u8], at: usize, n: usize) -> [u32; Table::DISTANCES]
     list
 }
 
-// The priorities of the n tasks from `at` on, and 0 past them.
-fn priorities_at(s: &[u8], at: usize, n: usize) -> [u16; Table::TASKS]
-    requires { ⌜ (n ≤ maxTasks) × (at + 8 * n ≤ length (now s)) ⌝ }
-    ensures { λ r. ⌜ r ≡ pad maxTasks (every (priorityAt (now (s .entry))) 8 n at) ⌝ }
-{
-    let mut list = [0u16; Table::TASKS];
-    let mut k: usize = 0;
-    while k < n {
-        list[k] = u16_at(s, at + 8 * k + 2);
-        k += 1;
-    }
-    list
+// What n task records hold, and 0 past them.
+struct Tasks {
+    priority: [u16; Table::TASKS],
+    cost: [u32; Table::TASKS],
 }
 
-// The costs of the n tasks from `at` on, and 0 past them.
-fn costs_at(s: &[u8], at: usize, n: usize) -> [u32; Table::TASKS]
+// The n tasks from `at` on.
+fn tasks_at(s: &[u8], at: usize, n: usize) -> Tasks
     requires { ⌜ (n ≤ maxTasks) × (at + 8 * n ≤ length (now s)) ⌝ }
-    ensures { λ r. ⌜ r ≡ pad maxTasks (every (costAt (now (s .entry))) 8 n at) ⌝ }
+    ensures { λ r. ⌜ (r .priority ≡ pad maxTasks (every (priorityAt (now (s .entry))) 8 n at)) × (r .cost ≡ pad maxTasks (every (costAt (now (s .entry))) 8 n at)) ⌝ }
 {
-    let mut list = [0u32; Table::TASKS];
+    let mut priority = [0u16; Table::TASKS];
+    let mut cost = [0u32; Table::TASKS];
     let mut k: usize = 0;
     while k < n {
-        list[k] = u32_at(s, at + 8 * k + 4);
+        priority[k] = u16_at(s, at + 8 * k + 2);
+        cost[k] = u32_at(s, at + 8 * k + 4);
         k += 1;
     }
-    list
+    Tasks { priority, cost }
 }
 
 // The row of the chain record at `at`, which is there and within its counts.
@@ -68,10 +62,10 @@ pub fn row_at(s: &[u8], at: usize) -> Row
 {
     let listed = count_at(s, at + 14);
     let tasks = count_at(s, at + 15);
-    let first = at + 16 + 4 * listed;
     let list = list_at(s, at + 16, listed);
-    let priority = priorities_at(s, first, tasks);
-    let cost = costs_at(s, first, tasks);
+    let loaded = tasks_at(s, at + 16 + 4 * listed, tasks);
+    let priority = loaded.priority;
+    let cost = loaded.cost;
     let id = u16_at(s, at + 2);
     let deadline = u32_at(s, at + 6);
     let gap = u32_at(s, at + 10);

@@ -1,7 +1,6 @@
 -- What is left of the list, after `before`, falls where the whole does.
-use Prim.Native.Nat.{ℕ, _≤_, _<_, _+_, _*_, _-_}
+use Prim.Native.Nat.{_≤_, _+_, _*_, _-_}
 use mathlib.Core.Path.{_≡_, ap, sym, _∙_}
-use mathlib.Core.List.{List}
 use denote.Ref.{now}
 use Rattle.table.specs.Bytes.{word}
 use Rattle.table.specs.Record.{every}

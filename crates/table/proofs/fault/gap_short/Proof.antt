@@ -1,7 +1,6 @@
 -- The gap is too small for what is left where it is for the whole list.
-use Prim.Native.Nat.{ℕ, _≤_, _<_, _+_, _*_, _-_}
-use mathlib.Core.Path.{_≡_, ap, sym, _∙_}
-use mathlib.Core.List.{List}
+use Prim.Native.Nat.{_≤_, _+_, _*_, _-_}
+use mathlib.Core.Path.{_≡_, ap}
 use denote.Ref.{now}
 use Rattle.table.specs.Bytes.{word}
 use Rattle.table.specs.Record.{every}

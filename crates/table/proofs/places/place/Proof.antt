@@ -1,5 +1,5 @@
 -- The loop has come to the row j, whose place is `at`.
-use Prim.Native.Nat.{ℕ, _≤_, _<_, _+_, _*_, _-_}
+use Prim.Native.Nat.{_≤_, _<_, _*_, _-_}
 use mathlib.Core.Path.{_≡_}
 use Rattle.table.specs.Place.{placeOf}
 use Rattle.table.proofs.Standing.{place-none, place-on}

@@ -1,6 +1,6 @@
 -- Each arm of the match, by the definition.
-use mathlib.Core.Path.{_≡_, sym, ap, _∙_}
-use Rattle.table.specs.Read.{accepted, unless}
+use mathlib.Core.Path.{sym}
+use Rattle.table.specs.Read.{accepted}
 use Rattle.table.proofs.Firsts.{unless-none, unless-fault}
 use borrow.Author.Needs.{needs}
 use Rattle.table.proofs.reader.concluded.Statement.{statement}

@@ -1,7 +1,7 @@
 -- At the loop's head, what is left to read gives what the whole gives.
-use Prim.Native.Nat.{ℕ, _≤_, _<_, _+_, _-_}
+use Prim.Native.Nat.{ℕ, _≤_, _+_, _-_}
 use mathlib.Core.Path.{_≡_, refl, sym, _∙_, ap}
-use mathlib.Core.Bool.{Bool, true, false, _||_}
+use mathlib.Core.Bool.{true, _||_}
 use mathlib.Core.Logic.{⊎-elim}
 use denote.Ref.{now}
 use lib.ListN.{length}
@@ -14,7 +14,6 @@ use Rattle.table.specs.Fault.{markOf, chainFault}
 use Rattle.table.specs.Read.{empty, plus, accepted, unless, records, readTable}
 use Rattle.table.specs.declared.Row.{Row}
 use Rattle.table.specs.declared.Table.{Table}
-use Rattle.table.specs.declared.Mark.{Mark}
 use Rattle.table.specs.declared.Mark.the-variants.{Chain, Task, End, Other}
 use Rattle.table.proofs.Firsts.{or-left, or-right, or-none, unless-fault, unless-none}
 use Rattle.table.proofs.Faultless.{ChainRight, chain-right}

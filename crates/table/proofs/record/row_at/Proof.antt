@@ -16,26 +16,23 @@ add-count-at-2 c = search needs
 count-at-requires-2 : tie.Need-count-at-requires-2
 count-at-requires-2 c κs = search needs
 
-add-first : tie.Need-add-first
-add-first c = search needs
-
-mul-first : tie.Need-mul-first
-mul-first c = search needs
-
-add-first-2 : tie.Need-add-first-2
-add-first-2 c = search needs
-
 add-list-at : tie.Need-add-list-at
 add-list-at c = search needs
 
 list-at-requires : tie.Need-list-at-requires
 list-at-requires c κs = search needs
 
-priorities-at-requires : tie.Need-priorities-at-requires
-priorities-at-requires c κs = search needs
+add-tasks-at : tie.Need-add-tasks-at
+add-tasks-at c = search needs
 
-costs-at-requires : tie.Need-costs-at-requires
-costs-at-requires c κs = search needs
+mul-tasks-at : tie.Need-mul-tasks-at
+mul-tasks-at c = search needs
+
+add-tasks-at-2 : tie.Need-add-tasks-at-2
+add-tasks-at-2 c = search needs
+
+tasks-at-requires : tie.Need-tasks-at-requires
+tasks-at-requires c κs = search needs
 
 add-u16-at : tie.Need-add-u16-at
 add-u16-at c = search needs
@@ -55,17 +52,17 @@ add-u32-at-2 c = search needs
 u32-at-requires-2 : tie.Need-u32-at-requires-2
 u32-at-requires-2 c κs = search needs
 
+add-t14 : tie.Need-add-t14
+add-t14 c = search needs
+
+shared-slice-read-t16 : tie.Need-shared-slice-read-t16
+shared-slice-read-t16 c = search needs
+
 add-t12 : tie.Need-add-t12
 add-t12 c = search needs
 
-shared-slice-read-t15 : tie.Need-shared-slice-read-t15
-shared-slice-read-t15 c = search needs
-
-add-t13 : tie.Need-add-t13
-add-t13 c = search needs
-
-shared-slice-read-t17 : tie.Need-shared-slice-read-t17
-shared-slice-read-t17 c = search needs
+shared-slice-read-t18 : tie.Need-shared-slice-read-t18
+shared-slice-read-t18 c = search needs
 
 returns : tie.Need-returns
 unfolding rowAt
@@ -79,21 +76,20 @@ row-at-spec =
     count-at-requires
     add-count-at-2
     count-at-requires-2
-    add-first
-    mul-first
-    add-first-2
     add-list-at
     list-at-requires
-    priorities-at-requires
-    costs-at-requires
+    add-tasks-at
+    mul-tasks-at
+    add-tasks-at-2
+    tasks-at-requires
     add-u16-at
     u16-at-requires
     add-u32-at
     u32-at-requires
     add-u32-at-2
     u32-at-requires-2
+    add-t14
+    shared-slice-read-t16
     add-t12
-    shared-slice-read-t15
-    add-t13
-    shared-slice-read-t17
+    shared-slice-read-t18
     returns)

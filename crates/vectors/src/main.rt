@@ -1,0 +1,132 @@
+// Runs packed cases with known answers through the queries, and says of each whose answer is another.
+// A case is 28 bytes and a table: its kind, the number to be given back, six numbers, and the table's length.
+use table::Verdict;
+ghost use Prim.Native.Nat.{_<_};
+
+struct Case {
+    kind: u8,
+    number: u32,
+    values: [u32; 6],
+    length: usize,
+}
+
+// What a case comes to: no case was left, or whether its answer is the one expected.
+enum Outcome {
+    End,
+    Right,
+    Wrong,
+}
+
+fn say(label: &[u8], n: u64) {
+    io::write_all(libc::STDOUT_FILENO, label);
+    io::print_decimal(libc::STDOUT_FILENO, n);
+}
+
+fn word(low: u8, high: u8) -> u32
+    ensures { λ r. ⌜ r < 65536 ⌝ }
+{
+    low as u32 + high as u32 * 256
+}
+
+fn value(head: &[u8; 28], k: usize) -> u32 {
+    if k < 6 {
+        let at = 2 + 4 * k;
+        word(head[at], head[at + 1]) + word(head[at + 2], head[at + 3]) * 65536
+    } else {
+        0
+    }
+}
+
+fn case_of(head: &[u8; 28]) -> Case {
+    let mut values = [0u32; 6];
+    let mut k: usize = 0;
+    while k < 6 {
+        values[k] = value(head, k);
+        k += 1;
+    }
+    Case {
+        kind: head[0],
+        number: word(head[1], 0),
+        values,
+        length: word(head[26], head[27]) as usize,
+    }
+}
+
+// The verdict on the table.
+fn reading_right(s: &[u8], c: Case) -> bool {
+    let reading = table::read(s);
+    let verdict = reading.verdict;
+    match verdict {
+        Verdict::Accepted => c.number == 0,
+        Verdict::Refused(n) => n == c.number,
+    }
+}
+
+// The active segment `values[2]` of the chain `values[0]` against `values[1]`: offset and length, and the part handed back.
+fn segment_right(s: &[u8], c: Case) -> bool {
+    let part = segments::segment_part(s, c.values[0], c.values[1], c.values[2]);
+    let answer = segments::segment(s, c.values[0], c.values[1], c.values[2]);
+    match answer {
+        segments::Answer::Records { offset, length } => {
+            c.number == 0
+                && offset == c.values[3]
+                && length == c.values[4]
+                && part.len() == length as usize
+        }
+        segments::Answer::Refused(n) => n == c.number && part.len() == 0,
+    }
+}
+
+fn right(s: &[u8], c: Case) -> bool {
+    let kind = c.kind;
+    match kind {
+        0 => reading_right(s, c),
+        1 => segment_right(s, c),
+        _ => false,
+    }
+}
+
+// Whether all bytes of the table were there and the answer is right.
+fn case_right(c: Case, body: &mut [u8]) -> bool {
+    let length = c.length;
+    if body.len() < length {
+        return false;
+    }
+    let bytes = &mut body[..length];
+    io::read_full(libc::STDIN_FILENO, bytes) == length && right(bytes, c)
+}
+
+fn next_case() -> Outcome {
+    let mut head = [0u8; 28];
+    if io::read_full(libc::STDIN_FILENO, &mut head) < 28 {
+        return Outcome::End;
+    }
+    let mut body = io::buffer();
+    if case_right(case_of(&head), &mut body) {
+        Outcome::Right
+    } else {
+        Outcome::Wrong
+    }
+}
+
+fn main() {
+    let mut all: u64 = 0;
+    let mut as_expected: u64 = 0;
+    while all < 100_000 {
+        match next_case() {
+            Outcome::End => break,
+            Outcome::Right => {
+                all += 1;
+                as_expected += 1;
+            }
+            Outcome::Wrong => {
+                say(b"not as expected: case ", all);
+                io::write_all(libc::STDOUT_FILENO, b"\n");
+                all += 1;
+            }
+        }
+    }
+    say(b"", all);
+    say(b" cases, as expected ", as_expected);
+    io::write_all(libc::STDOUT_FILENO, b"\n");
+}
