@@ -47,8 +47,8 @@ pub fetched : (a b : Row) (l : Actives) (n : ℕ) → l ≡ arraysOf (activesOf 
 fetched a b l n e some few =
     let h : n - 1 < length (activesOf a b) = omega (arith, ap (λ o. o .count) e) in
     record {
-      start = ap (λ o. getD (o .start) (n - 1) 0) e ∙ array-at (λ s. s .start) (activesOf a b) (n - 1) h;
-      len = ap (λ o. getD (o .len) (n - 1) 0) e ∙ array-at (λ s. s .len) (activesOf a b) (n - 1) h;
+      start = rw e (array-at (λ s. s .start) (activesOf a b) (n - 1) h);
+      len = rw e (array-at (λ s. s .len) (activesOf a b) (n - 1) h);
       few = omega (arith, actives-tasks a b);
       inside = all-at (Stands a) (activesOf a b) (n - 1) (actives-stand a b) h .inside;
     }
