@@ -1,0 +1,91 @@
+-- Floor and tail; the tasks before the first at the floor; deferred or free. Assumes nothing.
+use Prim.Native.Nat.{ℕ, zero, suc, _+_, _*_, _-_, _<_, _≤_, min}
+use native.Mathlib.Omega.{arith}
+use native.Mathlib.Nat.{eq-or-lt-of-le}
+use mathlib.Core.Path.{_≡_, refl, ap, ap₂, sym, subst, _∙_}
+use mathlib.Core.Logic.{⊎-elim}
+use mathlib.Core.List.{List, [], _∷_}
+use mathlib.Core.Bool.{Bool, true, false, not, _||_}
+use borrow.Author.Tests.{lt-ltb, le-ltb, eq-eqb, ne-eqb, not-true}
+use lib.Dec.{ltb, eqb, eqb·suc-suc}
+use lib.ListN.{length, getD}
+use Rattle.search.specs.Choice.{_when_else_}
+use Rattle.search.specs.Lists.{sumOf, All}
+use Rattle.search.proofs.Choice.{lt-or-le}
+use Rattle.table.specs.declared.Row.{Row}
+use Rattle.table.specs.Good.{GoodTasks}
+use Rattle.segments.specs.Tasks.{Task, tasksFrom, below, at, before, some, lowest, stretchOf}
+use Rattle.segments.specs.declared.Stretch.{Stretch}
+use Rattle.segments.proofs.Steps.{rest-each, rest-all, rest-length, aheadOf}
+
+-- the lowest is one of them, and none lies below it
+pub lowest-le : (ps : List ℕ) (n k : ℕ) → k ≤ n → lowest ps n ≤ getD ps k 0
+unfolding lowest
+lowest-le ps zero k h = let e : k ≡ 0 = omega arith in omega (arith, ap (λ j. getD ps j 0) e)
+lowest-le ps (suc n) k h =
+    ⊎-elim (λ e. omega (arith, ap (λ j. getD ps j 0) e)) (λ l. omega (arith, lowest-le ps n k (omega arith))) (eq-or-lt-of-le h)
+
+pub lowest-on : (ps : List ℕ) (k : ℕ) → 1 ≤ k → lowest ps (k + 1 - 1) ≡ min (lowest ps (k - 1)) (getD ps k 0)
+unfolding lowest
+lowest-on ps k h =
+    let e : k + 1 - 1 ≡ suc (k - 1) = omega arith in
+    let f : suc (k - 1) ≡ k = omega arith in
+    rw (e, f)
+
+pub lowest-one : (ps : List ℕ) → lowest ps (1 - 1) ≡ getD ps 0 0
+unfolding lowest
+lowest-one ps = refl
+
+-- where no task lies below a level, the first at it is the first below the next
+before-at : (f : ℕ) (ts : List Task) → All (λ t. f ≤ t .priority) ts → before (at f) ts ≡ before (below (f + 1)) ts
+unfolding before
+before-at f [] h = refl
+before-at f (t ∷ ts) h = ap₂ (λ b r. [] when b else t ∷ r) same (before-at f ts (h .1))
+  where
+    same : at f t ≡ below (f + 1) t
+    same = ⊎-elim
+        (λ l. ne-eqb (t .priority) f (λ e. omega arith) ∙ sym (le-ltb (t .priority) (f + 1) (omega arith)))
+        (λ l. eq-eqb (t .priority) f (omega (arith, h .0)) ∙ sym (lt-ltb (t .priority) (f + 1) (omega arith)))
+        (lt-or-le f (t .priority))
+
+pub own-before : (ps cs : List ℕ) (n : ℕ)
+    → before (at (lowest ps (n - 1))) (tasksFrom ps cs n 0) ≡ before (below (lowest ps (n - 1) + 1)) (tasksFrom ps cs n 0)
+own-before ps cs n =
+    before-at (lowest ps (n - 1)) (tasksFrom ps cs n 0) (rest-each _ ps cs n 0 (λ j l. lowest-le ps (n - 1) j (omega arith)))
+
+-- no task lies below the level 0
+pub before-zero : (ts : List Task) → before (below 0) ts ≡ ts
+unfolding before _when_else_
+before-zero [] = refl
+before-zero (t ∷ ts) = rw (le-ltb (t .priority) 0 (omega arith)) (ap (λ r. t ∷ r) (before-zero ts))
+
+-- where none is p, all come before the first that is; and only there
+module _ (p : Task → Bool) where
+  pub some-before : (ts : List Task) → not (some p ts) ≡ eqb (length (before p ts)) (length ts)
+  unfolding some before _when_else_
+  some-before [] = refl
+  some-before (t ∷ ts) = go (p t) (some-before ts)
+    where
+      go : (b : Bool) → not (some p ts) ≡ eqb (length (before p ts)) (length ts)
+          → not (b || some p ts) ≡ eqb (length ([] when b else t ∷ before p ts)) (suc (length ts))
+      go true e = sym (ne-eqb 0 (suc (length ts)) (λ z. omega arith))
+      go false e = e ∙ sym (eqb·suc-suc (length (before p ts)) (length ts))
+
+  pub all-before : (ts : List Task) → length (before p ts) ≡ length ts → some p ts ≡ false
+  all-before ts h = not-true (some p ts) (some-before ts ∙ eq-eqb _ _ h)
+
+  pub none-before : (ts : List Task) → some p ts ≡ false → before p ts ≡ ts
+  unfolding some before _when_else_
+  none-before [] h = refl
+  none-before (t ∷ ts) h = go (p t) h (none-before ts)
+    where
+      go : (b : Bool) → b || some p ts ≡ false → (some p ts ≡ false → before p ts ≡ ts) → ([] when b else t ∷ before p ts) ≡ t ∷ ts
+      go true e r = let z : _≡_ {A = ℕ} 0 1 = cc in absurd (omega arith)
+      go false e r = ap (λ l. t ∷ l) (r e)
+
+-- from what `ahead` finds: a chain interferes freely where that is all of it
+pub free-is : (ps cs : List ℕ) (n floor : ℕ) (r : Stretch) → r ≡ stretchOf (aheadOf ps cs n floor 0)
+    → eqb (r .len) n ≡ not (some (below floor) (tasksFrom ps cs n 0))
+free-is ps cs n floor r d =
+    ap₂ eqb (ap (λ s. s .len) d ∙ ap (λ l. length (before (below floor) l)) (rest-all ps cs n)) (sym (rest-length ps cs n 0))
+    ∙ sym (some-before (below floor) (tasksFrom ps cs n 0))

@@ -1,0 +1,4 @@
+pub mod Tasks
+pub mod Segments
+pub mod Actives
+pub mod View
