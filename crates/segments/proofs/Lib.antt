@@ -4,3 +4,11 @@ pub mod Lists
 pub mod Stretches
 pub mod Costing
 pub mod Cuts
+pub mod Standing
+pub mod Views
+pub mod Bounds
+pub mod Order
+pub mod Masks
+pub mod Renaming
+pub mod Pairs
+pub mod Samples

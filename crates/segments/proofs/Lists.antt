@@ -5,7 +5,7 @@ use mathlib.Core.Path.{_≡_, refl, ap, ap₂, sym, _∙_}
 use mathlib.Core.List.{List, [], _∷_, _++_, append-assoc, map, flatten}
 use lib.ListN.{length}
 use Rattle.search.specs.Lists.{sumOf, mostOf, All}
-use Rattle.search.proofs.Lists.{sum-append}
+use Rattle.search.proofs.Lists.{sum-append, all-map}
 use Rattle.segments.specs.Segments.{_on_, onward, around, full}
 
 module _ {A B : Type 0} (f : A → B) (g : B → ℕ) where
@@ -19,7 +19,18 @@ module _ {A B : Type 0} (f : A → B) (g : B → ℕ) where
   most-map [] = refl
   most-map (a ∷ l) = ap (max (g (f a))) (most-map l)
 
+pub sum-ones : {A : Type 0} (l : List A) → sumOf (λ a. 1) l ≡ length l
+unfolding sumOf
+sum-ones [] = refl
+sum-ones (a ∷ l) = omega (arith, sum-ones l)
+
 module _ {A : Type 0} (f : A → ℕ) where
+  -- each is no more than all together, and so is the greatest
+  pub each-sum : (l : List A) → All (λ a. f a ≤ sumOf f l) l
+  unfolding sumOf
+  each-sum [] = tt
+  each-sum (a ∷ l) = (omega arith, all-map (λ b h. omega arith) l (each-sum l))
+
   pub most-sum : (l : List A) → mostOf f l ≤ sumOf f l
   unfolding sumOf mostOf
   most-sum [] = omega arith

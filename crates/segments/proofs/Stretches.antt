@@ -91,7 +91,7 @@ module _ (p : Task → Bool) where
       go true e = ap (λ l. t ∷ l) e
       go false e = flatten-on t (cuts p (u ∷ s)) ∙ ap (λ l. t ∷ l) e
 
-  all-solid : (ss : List (List Task)) → All Solid (map (cuts p) ss)
+  pub all-solid : (ss : List (List Task)) → All Solid (map (cuts p) ss)
   all-solid [] = tt
   all-solid (s ∷ ss) = (cuts-solid s, all-solid ss)
 

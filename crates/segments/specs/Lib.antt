@@ -2,3 +2,4 @@ pub mod Tasks
 pub mod Segments
 pub mod Actives
 pub mod View
+pub mod Combination

@@ -3,7 +3,7 @@ use Prim.Native.Nat.{ℕ}
 use mathlib.Core.Path.{_≡_}
 use mathlib.Core.List.{List, map, List·Permᴰ}
 use mathlib.Core.Bool.{Bool, not}
-use lib.ListN.{take}
+use lib.ListN.{length, take}
 use Rattle.search.specs.Lists.{sumOf, mostOf, Paired}
 use Rattle.table.specs.declared.Row.{Row}
 use Rattle.segments.specs.Tasks.{tasksOf, costOf, chainCost, floorOf, tailOf, deferred, firstCost}
@@ -41,6 +41,10 @@ allOf v = sumOf sum (v .segments)
 
 abbrev pub dearestOf : View → ℕ
 dearestOf v = mostOf sum (v .segments)
+
+-- how many active segments it has
+abbrev pub countOf : View → ℕ
+countOf v = sumOf length (v .segments)
 
 -- the same view up to order: the segments pair off one to one, each pair with the same active-segment costs in some order
 pub record Alike (v w : View) : Type 0 where

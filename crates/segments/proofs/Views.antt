@@ -1,0 +1,152 @@
+-- What matters of a chain a to a chain b comes from its view, and views that are alike give the same. Assumes nothing.
+use Prim.Native.Nat.{ℕ, _+_, _<_, _≤_}
+use native.Mathlib.Omega.{arith}
+use mathlib.Core.Path.{_≡_, refl, ap, ap₂, sym, subst, _∙_}
+use mathlib.Core.List.{List, [], _∷_, _++_, map, map-map, flatten, List·Permᴰ, Permᴰ·symm, Permᴰ·refl, List·Permᴰ·trans}
+use mathlib.Core.Bool.{Bool, true, false, not}
+use borrow.Author.Tests.{not-true}
+use lib.ListN.{length, take}
+use Rattle.search.specs.Lists.{sumOf, mostOf, All, Paired}
+use Rattle.search.proofs.Lists.{sum-ext, perm-sum, perm-most, all-map, paired-perm}
+use Rattle.table.specs.declared.Row.{Row}
+use Rattle.segments.specs.Tasks.{Task, tasksOf, costOf, chainCost, floorOf, tailOf, below, deferred, firstCost}
+use Rattle.segments.specs.Segments.{stretches, onward, around, full, segments, segmentsOf, cutSegments, allCost, dearestCost}
+use Rattle.segments.specs.View.{View, viewOf, sum, allOf, dearestOf, countOf, Alike, seenOf}
+use Rattle.segments.specs.declared.Seen.{Seen}
+use Rattle.segments.proofs.Steps.{rest-length, cost-nil}
+use Rattle.segments.proofs.Lists.{sum-map, most-map, sum-ones, sum-flatten, full-sum}
+use Rattle.segments.proofs.Stretches.{stretches-none, cut-flatten}
+
+-- what the active segments of a segment cost together is what the segment costs
+sum-costs : (l : List (List Task)) → sum (map costOf l) ≡ costOf (flatten l)
+sum-costs l = sum-map costOf (λ c. c) l ∙ sym (sum-flatten (λ t. t .cost) l)
+
+all-costs : (ls : List (List (List Task))) → map sum (map (map costOf) ls) ≡ map costOf (map flatten ls)
+all-costs [] = refl
+all-costs (l ∷ ls) = ap₂ _∷_ (sum-costs l) (all-costs ls)
+
+module _ (a b : Row) where
+  -- its parts, by name
+  pub view-kind : viewOf a b .kind ≡ a .kind
+  unfolding viewOf
+  view-kind = refl
+
+  pub view-overload : viewOf a b .overload ≡ a .overload
+  unfolding viewOf
+  view-overload = refl
+
+  pub view-list : viewOf a b .list ≡ take (a .listed) (a .list)
+  unfolding viewOf
+  view-list = refl
+
+  pub view-free : viewOf a b .free ≡ not (deferred a b)
+  unfolding viewOf
+  view-free = refl
+
+  pub view-first : viewOf a b .first ≡ firstCost a b
+  unfolding viewOf
+  view-first = refl
+
+  -- a segment's cost is the sum of its active segments' costs
+  pub segment-costs : map sum (viewOf a b .segments) ≡ map costOf (segmentsOf a b)
+  unfolding viewOf
+  segment-costs = all-costs (cutSegments (floorOf b) (tailOf b) (tasksOf a)) ∙ ap (map costOf) (cut-flatten (floorOf b) (tailOf b) (tasksOf a))
+
+  -- a chain that interferes freely is one segment, from its first task to its last
+  pub free-one : deferred a b ≡ false → 0 < a .tasks → segmentsOf a b ≡ tasksOf a ∷ []
+  unfolding segments around onward full
+  free-one free some =
+      ap (λ ss. full (around _++_ ss)) (stretches-none (below (floorOf b)) (tasksOf a) free)
+      ∙ one (tasksOf a) (omega (arith, rest-length (a .priority) (a .cost) (a .tasks) 0))
+    where
+      one : (ts : List Task) → 0 < length ts → full (ts ∷ []) ≡ ts ∷ []
+      one [] h = absurd (omega arith)
+      one (t ∷ ts) h = refl
+
+  -- so its only segment has its cost
+  pub free-cost : deferred a b ≡ false → allCost a b ≡ chainCost a
+  unfolding segments around onward sumOf
+  free-cost free =
+      ap (λ ss. sumOf costOf (full (around _++_ ss))) (stretches-none (below (floorOf b)) (tasksOf a) free)
+      ∙ full-sum costOf cost-nil (tasksOf a ∷ []) ∙ omega arith
+
+  -- the figures of 01 are figures of the view
+  pub all-view : allCost a b ≡ allOf (viewOf a b)
+  all-view =
+      sym (sum-map costOf (λ c. c) (segmentsOf a b)) ∙ ap sum (sym segment-costs) ∙ sum-map sum (λ c. c) (viewOf a b .segments)
+
+  pub dearest-view : dearestCost a b ≡ dearestOf (viewOf a b)
+  dearest-view =
+      sym (most-map costOf (λ c. c) (segmentsOf a b)) ∙ ap (mostOf (λ c. c)) (sym segment-costs) ∙ most-map sum (λ c. c) (viewOf a b .segments)
+
+-- r holds the figures of the view v; a chain's cost comes from its view where it interferes freely
+pub record Shows (v : View) (r : Seen) : Type 0 where
+  pub free : r .free ≡ v .free
+  pub cost : v .free ≡ true → r .cost ≡ allOf v
+  pub first : r .first ≡ v .first
+  pub all : r .all ≡ allOf v
+  pub dearest : r .dearest ≡ dearestOf v
+
+-- what `see` answers shows the view
+pub seen-shows : (a b : Row) → Shows (viewOf a b) (seenOf a b)
+unfolding viewOf
+seen-shows a b = record {
+  free = refl;
+  cost = λ f. sym (free-cost a b (not-true (deferred a b) f)) ∙ all-view a b;
+  first = refl;
+  all = all-view a b;
+  dearest = dearest-view a b;
+}
+
+-- what no order of a segment's active segments moves is the same, segment by segment, in views that are alike
+module _ {v w : View} (s : Alike v w) where
+  alike-perm : (f : List ℕ → ℕ) → ((l r : List ℕ) → List·Permᴰ l r → f l ≡ f r) → List·Permᴰ (map f (v .segments)) (map f (w .segments))
+  alike-perm f same =
+      paired-perm f f
+      (record {
+        pairs = s .segments .pairs;
+        firsts = s .segments .firsts;
+        seconds = s .segments .seconds;
+        related = all-map (λ p h. same (p .0) (p .1) h) (s .segments .pairs) (s .segments .related);
+      })
+
+  alike-sum : (f : List ℕ → ℕ) → ((l r : List ℕ) → List·Permᴰ l r → f l ≡ f r) → sumOf f (v .segments) ≡ sumOf f (w .segments)
+  alike-sum f same =
+      sym (sum-map f (λ c. c) (v .segments)) ∙ perm-sum (λ c. c) (alike-perm f same) ∙ sum-map f (λ c. c) (w .segments)
+
+  pub alike-all : allOf v ≡ allOf w
+  alike-all = alike-sum sum (λ l r p. perm-sum (λ c. c) p)
+
+  pub alike-count : countOf v ≡ countOf w
+  alike-count = alike-sum length (λ l r p. sym (sum-ones l) ∙ perm-sum (λ c. 1) p ∙ sum-ones r)
+
+  pub alike-dearest : dearestOf v ≡ dearestOf w
+  alike-dearest =
+      sym (most-map sum (λ c. c) (v .segments)) ∙ perm-most (λ c. c) (alike-perm sum (λ l r p. perm-sum (λ c. c) p)) ∙ most-map sum (λ c. c) (w .segments)
+
+-- paired off the other way round
+module _ {A B : Type 0} {R : A → B → Type 0} {S : B → A → Type 0} (turn : (a : A) (b : B) → R a b → S b a) where
+  abbrev other : A × B → B × A
+  other p = (p .1, p .0)
+
+  related-turn : (ps : List (A × B)) → All (λ p. R (p .0) (p .1)) ps → All (λ p. S (p .0) (p .1)) (map other ps)
+  related-turn [] h = tt
+  related-turn (p ∷ ps) h = (turn (p .0) (p .1) (h .0), related-turn ps (h .1))
+
+  pub paired-turn : {xs : List A} {ys : List B} → Paired R xs ys → Paired S ys xs
+  paired-turn {xs} {ys} p = record {
+    pairs = map other (p .pairs);
+    firsts = rw (map-map (λ q. q .0) other (p .pairs)) (Permᴰ·symm (p .seconds));
+    seconds = rw (map-map (λ q. q .1) other (p .pairs)) (Permᴰ·symm (p .firsts));
+    related = related-turn (p .pairs) (p .related);
+  }
+
+pub alike-turn : {v w : View} → Alike v w → Alike w v
+alike-turn s = record {
+  kind = sym (s .kind);
+  overload = sym (s .overload);
+  list = sym (s .list);
+  free = sym (s .free);
+  first = sym (s .first);
+  segments = paired-turn (λ a b h. Permᴰ·symm h) (s .segments);
+}
