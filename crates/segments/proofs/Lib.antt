@@ -12,3 +12,5 @@ pub mod Masks
 pub mod Renaming
 pub mod Pairs
 pub mod Samples
+pub mod Asking
+pub mod Answers

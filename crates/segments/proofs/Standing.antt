@@ -1,10 +1,10 @@
 -- An active segment is contiguous: its tasks follow one another in the chain, inside it. Assumes nothing.
 use Prim.Native.Nat.{ℕ, zero, suc, _+_, _-_, _<_, _≤_}
 use native.Mathlib.Omega.{arith}
-use mathlib.Core.Path.{_≡_, refl, ap, ap₂, sym, subst, _∙_}
-use mathlib.Core.List.{List, [], _∷_, _++_, map}
+use mathlib.Core.Path.{_≡_, refl, ap, sym, subst, _∙_}
+use mathlib.Core.List.{List, [], _∷_, map}
 use mathlib.Core.Bool.{Bool, true, false}
-use lib.ListN.{length, getD, replicate, length-map, List·getD-append, List·getD-eq-default}
+use lib.ListN.{length, getD, replicate, length-map, List·getD-append}
 use Rattle.search.specs.Choice.{_when_else_}
 use Rattle.search.specs.Lists.{All}
 use Rattle.search.proofs.Lists.{all-append, all-map}
@@ -13,7 +13,7 @@ use Rattle.table.specs.Record.{pad}
 use Rattle.table.specs.declared.Row.{Row}
 use Rattle.segments.specs.Tasks.{Task, tasksFrom, tasksOf, costOf, floorOf, tailOf, below}
 use Rattle.segments.specs.Segments.{_on_, stretches, cuts, parts}
-use Rattle.segments.specs.Actives.{Active, startOf, active, numbered, inOrder, actives, activesOf}
+use Rattle.segments.specs.Actives.{Active, startOf, active, numbered, inOrder, actives, activesOf, nothing}
 use Rattle.segments.proofs.Steps.{task}
 use Rattle.segments.proofs.Lists.{Solid}
 use Rattle.segments.proofs.Stretches.{all-solid}
@@ -135,9 +135,6 @@ actives-stand a b =
         }
 
 -- each of a list, by its place in it
-abbrev pub nothing : Active
-nothing = record { start = 0; len = 0; cost = 0; segment = 0 }
-
 pub all-at : (P : Active → Type 0) (l : List Active) (k : ℕ) → All P l → k < length l → P (getD l k nothing)
 all-at P [] k h lt = absurd (omega arith)
 all-at P (a ∷ l) zero h lt = h .0

@@ -1,5 +1,5 @@
 -- A chain's active segments by number (01, 'Segments against chain b').
-use Prim.Native.Nat.{ℕ, zero, suc, _+_}
+use Prim.Native.Nat.{ℕ, _+_}
 use mathlib.Core.List.{List, [], _∷_, _++_, map}
 use lib.ListN.{length, set}
 use Rattle.table.specs.Limits.{maxTasks}
@@ -40,6 +40,10 @@ actives floor tail ts = inOrder (parts floor tail ts)
 
 abbrev pub activesOf : Row → Row → List Active
 activesOf a b = actives (floorOf b) (tailOf b) (tasksOf a)
+
+-- no active segment: what stands past the end of the list
+abbrev pub nothing : Active
+nothing = record { start = 0; len = 0; cost = 0; segment = 0 }
 
 -- as the code holds them: how many there are, and arrays that are 0 past the last
 abbrev pub arraysOf : List Active → Actives

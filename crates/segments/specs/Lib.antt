@@ -3,3 +3,4 @@ pub mod Segments
 pub mod Actives
 pub mod View
 pub mod Combination
+pub mod Query

@@ -1,10 +1,13 @@
 // The segments of a chain a against a chain b (document 01, 'Segments against chain b'), and what b sees of a.
 mod costs;
 mod cutting;
+mod query;
 mod sight;
 mod tasks;
 
 pub use cutting::active_segments;
+pub use query::segment;
+pub use query::segment_part;
 pub use sight::chain_cost;
 pub use sight::own_part;
 pub use sight::see;
@@ -34,4 +37,10 @@ pub struct Seen {
     pub first: u32,
     pub all: u32,
     pub dearest: u32,
+}
+
+// The task records of an active segment: their offset from the table's first byte and their length; or the refusal.
+pub enum Answer {
+    Records { offset: u32, length: u32 },
+    Refused(u32),
 }

@@ -1,0 +1,150 @@
+-- What an answer of the segment query says: who is in the table, and which bytes the task records are. Assumes nothing.
+use Prim.Native.Nat.{ℕ, zero, suc, _+_, _*_, _-_, _<_, _≤_}
+use native.Mathlib.Omega.{arith}
+use mathlib.Core.Path.{_≡_, refl, ap, ap₂, sym, _∙_}
+use mathlib.Core.List.{List}
+use mathlib.Core.Bool.{not, _||_}
+use borrow.Author.Tests.{ltb-true, eqb-false, not-false}
+use lib.Dec.{eqb}
+use lib.ListN.{length, getD, take, drop, length-take, length-drop}
+use lib.Seq.{getD-take, getD-drop}
+use Rattle.search.proofs.Choice.{when-cases}
+use Rattle.table.specs.Limits.{maxTasks}
+use Rattle.table.specs.Bytes.{word, Bytes}
+use Rattle.table.specs.Record.{priorityAt, costAt, firstTask, prioritiesAt, costsAt, rowAt}
+use Rattle.table.specs.Find.{rowOf, findOf, used}
+use Rattle.table.specs.Place.{placeOf, Holds}
+use Rattle.table.specs.Read.{readTable}
+use Rattle.table.specs.declared.Row.{Row}
+use Rattle.table.specs.declared.Table.{Table}
+use Rattle.table.specs.declared.Verdict.{Verdict}
+use Rattle.table.specs.declared.Verdict.the-variants as verdict
+use Rattle.table.proofs.Lists.{every-at}
+use Rattle.table.proofs.Goods.{pad-at}
+use Rattle.table.proofs.Firsts.{none-or}
+use Rattle.table.proofs.Faultless.{inside}
+use Rattle.table.proofs.Accepted.{accepted-holds}
+use Rattle.segments.specs.Actives.{Active, nothing, activesOf}
+use Rattle.segments.specs.Query.{firstTaskOf, nthOf, answerOf, judged, segmentOf, partOf}
+use Rattle.segments.specs.declared.Answer.the-variants.{Records, Refused}
+use Rattle.segments.proofs.Standing.{Stands, actives-stand, all-at}
+
+-- the active segments of one chain of a table against another, by their ids, and the one of a number
+abbrev pub activesIn : Table → ℕ → ℕ → List Active
+activesIn t chain against = activesOf (rowOf t (findOf t chain)) (rowOf t (findOf t against))
+
+abbrev pub activeIn : Table → ℕ → ℕ → ℕ → Active
+activeIn t chain against number = getD (activesIn t chain against) (number - 1) nothing
+
+-- records are answered of two chains of the table, for a number that an active segment has
+pub record Answered (t : Table) (chain against number offset len : ℕ) : Type 0 where
+  pub chain-there : findOf t chain < t .count
+  pub against-there : findOf t against < t .count
+  pub apart : chain ≡ against → ⊥
+  pub low : 1 ≤ number
+  pub high : number ≤ length (activesIn t chain against)
+  pub offset-is : offset ≡ firstTaskOf t (findOf t chain) + 8 * activeIn t chain against number .start
+  pub length-is : len ≡ 8 * activeIn t chain against number .len
+
+-- no refusal is a figure
+refused : {A : Type 0} (n offset len : ℕ) → Refused n ≡ Records offset len → A
+refused n offset len e = absurd (let z : _≡_ {A = ℕ} 0 1 = cc in omega arith)
+
+pub answered : (t : Table) (chain against number offset len : ℕ) → answerOf t chain against number ≡ Records offset len
+    → Answered t chain against number offset len
+unfolding answerOf nthOf
+answered t chain against number offset len =
+    when-cases (λ r. r ≡ Records offset len → Answered t chain against number offset len) (not (used t chain) || not (used t against))
+    (λ u. refused 12 offset len)
+    (λ u. when-cases (λ r. r ≡ Records offset len → Answered t chain against number offset len) (eqb chain against)
+    (λ v. refused 25 offset len)
+    (λ v. when-cases (λ r. r ≡ Records offset len → Answered t chain against number offset len) _
+    (λ w. refused 26 offset len)
+    (λ w e.
+    let both = none-or (not (used t chain)) (not (used t against)) u in
+    let range = inside 1 _ number w in
+    record {
+      chain-there = ltb-true _ _ (not-false _ (both .0));
+      against-there = ltb-true _ _ (not-false _ (both .1));
+      apart = eqb-false chain against v;
+      low = range .0;
+      high = range .1;
+      offset-is = cc;
+      length-is = cc;
+    })))
+
+-- a number in a part of the bytes
+word-part : (n : ℕ) (s : List ℕ) (from len at : ℕ) → at + n ≤ len → word n (take len (drop from s)) at ≡ word n s (from + at)
+unfolding word
+word-part zero s from len at h = refl
+word-part (suc n) s from len at h =
+    let e : from + (at + 1) ≡ from + at + 1 = omega arith in
+    ap₂ (λ x y. x + 256 * y) (getD-take len (drop from s) at 0 (omega arith) ∙ getD-drop from s at 0)
+    (word-part n s from len (at + 1) (omega arith) ∙ ap (word n s) e)
+
+-- a row's task out of its record, whose task records start at `first`
+row-priority : (s : List ℕ) (at j : ℕ) → j < rowAt s at .tasks → getD (rowAt s at .priority) j 0 ≡ priorityAt s (at + 16 + 4 * rowAt s at .listed + 8 * j)
+unfolding rowAt
+row-priority s at j h = pad-at maxTasks (prioritiesAt s at) j ∙ every-at (priorityAt s) 8 (rowAt s at .tasks) j (firstTask s at) h
+
+row-cost : (s : List ℕ) (at j : ℕ) → j < rowAt s at .tasks → getD (rowAt s at .cost) j 0 ≡ costAt s (at + 16 + 4 * rowAt s at .listed + 8 * j)
+unfolding rowAt
+row-cost s at j h = pad-at maxTasks (costsAt s at) j ∙ every-at (costAt s) 8 (rowAt s at .tasks) j (firstTask s at) h
+
+-- the bytes are task records: those of the tasks of an active segment of the row a, one after the other
+pub record Recorded (part : List ℕ) (a : Row) (s : Active) : Type 0 where
+  pub size : length part ≡ 8 * s .len
+  pub priorities : (k : ℕ) → k < s .len → priorityAt part (8 * k) ≡ getD (a .priority) (s .start + k) 0
+  pub costs : (k : ℕ) → k < s .len → costAt part (8 * k) ≡ getD (a .cost) (s .start + k) 0
+
+recorded : (s : List ℕ) (at offset len : ℕ) (a : Row) (x : Active) → rowAt s at ≡ a → offset ≡ at + 16 + 4 * a .listed + 8 * x .start → len ≡ 8 * x .len
+    → x .start + x .len ≤ a .tasks → offset + len ≤ length s → Recorded (take len (drop offset s)) a x
+recorded s at offset len a x e o l i h = record {
+  size = length-take len (drop offset s) ∙ omega (arith, length-drop offset s);
+  priorities = λ k lt. word-part 2 s offset len (8 * k + 2) (omega arith) ∙ ap (word 2 s) (place k 2) ∙ sym (row-priority s at (x .start + k) (there k lt)) ∙ ap (λ r. getD (r .priority) (x .start + k) 0) e;
+  costs = λ k lt. word-part 4 s offset len (8 * k + 4) (omega arith) ∙ ap (word 4 s) (place k 4) ∙ sym (row-cost s at (x .start + k) (there k lt)) ∙ ap (λ r. getD (r .cost) (x .start + k) 0) e;
+}
+  where
+    place : (k d : ℕ) → offset + (8 * k + d) ≡ at + 16 + 4 * rowAt s at .listed + 8 * (x .start + k) + d
+    place k d = omega (arith, ap (λ r. r .listed) e)
+
+    there : (k : ℕ) → k < x .len → x .start + k < rowAt s at .tasks
+    there k lt = omega (arith, ap (λ r. r .tasks) e)
+
+-- an answer comes from an accepted table, which its bytes hold
+module _ (s : List ℕ) (bytes : Bytes s) (chain against number offset len : ℕ) (e : segmentOf s chain against number ≡ Records offset len) where
+  accepted : readTable s .verdict ≡ verdict.Accepted
+  unfolding segmentOf
+  accepted = by (readTable s .verdict) e
+    where
+      by : (v : Verdict) → judged v (answerOf (readTable s .table) chain against number) ≡ Records offset len → v ≡ verdict.Accepted
+      by verdict.Accepted q = refl
+      by (verdict.Refused n) q = refused n offset len q
+
+  pub answer-of : Answered (readTable s .table) chain against number offset len
+  unfolding segmentOf
+  answer-of =
+      answered (readTable s .table) chain against number offset len
+      (sym (ap (λ v. judged v (answerOf (readTable s .table) chain against number)) accepted) ∙ e)
+
+  holds : Holds s (readTable s .table)
+  holds = accepted-holds s bytes accepted
+
+  -- the active segment stands in its chain
+  stands : Stands (rowOf (readTable s .table) (findOf (readTable s .table) chain)) (activeIn (readTable s .table) chain against number)
+  stands =
+      let t = readTable s .table in
+      all-at (Stands (rowOf t (findOf t chain))) (activesIn t chain against) (number - 1) (actives-stand (rowOf t (findOf t chain)) (rowOf t (findOf t against))) (omega (arith, answer-of .low, answer-of .high))
+
+  -- so its task records lie in the bytes, inside their chain's record
+  pub answer-inside : offset + len ≤ length s
+  answer-inside =
+      let t = readTable s .table in
+      omega (arith, answer-of .offset-is, answer-of .length-is, stands .inside, holds .inside (findOf t chain) (answer-of .chain-there))
+
+  -- and they are the records of its tasks, where these stand
+  pub answer-records : Recorded (partOf s (Records offset len)) (rowOf (readTable s .table) (findOf (readTable s .table) chain)) (activeIn (readTable s .table) chain against number)
+  answer-records =
+      let t = readTable s .table in
+      let k = findOf t chain in
+      recorded s (placeOf t k) offset len (rowOf t k) (activeIn t chain against number) (holds .makes k (answer-of .chain-there)) (answer-of .offset-is) (answer-of .length-is) (stands .inside) answer-inside
