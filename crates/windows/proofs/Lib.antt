@@ -9,3 +9,4 @@ pub mod Besides
 pub mod Walks
 pub mod Margins
 pub mod Answers
+pub mod Starred
