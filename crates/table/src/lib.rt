@@ -11,6 +11,9 @@ mod places;
 mod reader;
 mod record;
 
+pub use bytes::u16_at;
+pub use bytes::u32_at;
+pub use fault::mark_of;
 pub use places::find;
 pub use places::place;
 pub use reader::read;
