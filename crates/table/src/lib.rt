@@ -11,6 +11,7 @@ mod places;
 mod reader;
 mod record;
 
+pub use bytes::put_u32;
 pub use places::find;
 pub use places::place;
 pub use reader::read;
