@@ -1,0 +1,11 @@
+pub mod Least
+pub mod Growth
+pub mod Views
+pub mod Bounds
+pub mod Terms
+pub mod Lists
+pub mod Joining
+pub mod Besides
+pub mod Walks
+pub mod Margins
+pub mod Answers
