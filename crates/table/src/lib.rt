@@ -12,6 +12,9 @@ mod reader;
 mod record;
 
 pub use bytes::put_u32;
+pub use bytes::u16_at;
+pub use bytes::u32_at;
+pub use fault::mark_of;
 pub use places::find;
 pub use places::place;
 pub use reader::read;

@@ -1,0 +1,138 @@
+// Runs packed cases of a save (tests/pack_save.py says how they are packed) from standard input, and prints a line for each
+// case that is not as expected and a last line with the counts.
+use libc::STDIN_FILENO;
+use libc::STDOUT_FILENO;
+use saving::Saved;
+ghost use Prim.Native.Nat.{_<_};
+ghost use Rattle.io.specs.Counts.{Counts};
+
+// How a case went; `End` where none is left.
+enum Outcome {
+    End,
+    Right,
+    Wrong,
+}
+
+// Reads n bytes to the start of the buffer, and answers how many it put there: fewer where they do not fit or the input ends.
+fn filled(buffer: &mut [u8], n: usize) -> usize
+    ensures { λ r. ⌜ Counts r (now (buffer .exit)) ⌝ }
+{
+    if buffer.len() < n {
+        return 0;
+    }
+    io::read_full(STDIN_FILENO, &mut buffer[..n])
+}
+
+// Whether the answer has the expected number, and figure where it is accepted.
+fn answers(saved: Saved, number: u32, length: u32) -> bool {
+    match saved {
+        Saved::Used(n) => number == 0 && n == length,
+        Saved::Refused(n) => number == n && 0 < n,
+    }
+}
+
+// Whether the save answers as expected and leaves the expected bytes.
+fn as_expected(
+    buffer: &mut [u8],
+    used: u64,
+    old: &[u8],
+    new: &[u8],
+    number: u32,
+    length: u32,
+    after: &[u8],
+) -> bool {
+    let saved = saving::save(buffer, used, old, new);
+    if !answers(saved, number, length) {
+        return false;
+    }
+    check::same(buffer, after)
+}
+
+// Reads the bytes of a case and runs it.
+fn run(n: usize, used: u64, o: usize, m: usize, number: u32, length: u32) -> Outcome {
+    let mut buffer = [0u8; 8192];
+    let mut old = [0u8; 8192];
+    let mut new = [0u8; 8192];
+    let mut after = [0u8; 8192];
+    let b = filled(&mut buffer, n);
+    let c = filled(&mut old, o);
+    let d = filled(&mut new, m);
+    let e = filled(&mut after, n);
+    if b != n || c != o || d != m || e != n {
+        return Outcome::Wrong;
+    }
+    if as_expected(
+        &mut buffer[..b],
+        used,
+        &old[..c],
+        &new[..d],
+        number,
+        length,
+        &after[..e],
+    ) {
+        Outcome::Right
+    } else {
+        Outcome::Wrong
+    }
+}
+
+fn wide(x: u32) -> u64
+    ensures { λ r. ⌜ r < 4294967296 ⌝ }
+{
+    x as u64
+}
+
+// Reads the numbers of a case, and then the rest of it.
+fn case() -> Outcome {
+    let mut head = [0u8; 28];
+    if io::read_full(STDIN_FILENO, &mut head) < 28 {
+        return Outcome::End;
+    }
+    let n = table::u32_at(&head, 0) as usize;
+    let used = wide(table::u32_at(&head, 4)) + wide(table::u32_at(&head, 8)) * 4_294_967_296;
+    let o = table::u32_at(&head, 12) as usize;
+    let m = table::u32_at(&head, 16) as usize;
+    run(
+        n,
+        used,
+        o,
+        m,
+        table::u32_at(&head, 20),
+        table::u32_at(&head, 24),
+    )
+}
+
+fn say_wrong(case: u64) {
+    io::write_all(STDOUT_FILENO, b"not as expected: case ");
+    io::print_decimal(STDOUT_FILENO, case);
+    io::write_all(STDOUT_FILENO, b"\n");
+}
+
+fn say_counts(cases: u64, right: u64) {
+    io::print_decimal(STDOUT_FILENO, cases);
+    io::write_all(STDOUT_FILENO, b" cases, ");
+    io::print_decimal(STDOUT_FILENO, right);
+    io::write_all(STDOUT_FILENO, b" as expected\n");
+}
+
+// The cases count from 1. The bound is there so that the loop is known to end.
+fn main() {
+    let mut cases: u64 = 0;
+    let mut right: u64 = 0;
+    while cases < 1_000_000 {
+        match case() {
+            Outcome::End => {
+                break;
+            }
+            Outcome::Right => {
+                cases += 1;
+                right += 1;
+            }
+            Outcome::Wrong => {
+                cases += 1;
+                say_wrong(cases);
+            }
+        }
+    }
+    say_counts(cases, right);
+}

@@ -1,0 +1,86 @@
+-- The order of the refusals: what `changeFault` is at each step, and what a save then answers and leaves. Assumes nothing.
+use Prim.Native.Nat.{ℕ, zero, suc, _<_, _≤_}
+use mathlib.Core.Path.{_≡_, refl, _∙_}
+use mathlib.Core.List.{List}
+use mathlib.Core.Bool.{true, false}
+use lib.ListN.{length, take}
+use borrow.Author.Tests.{lt-ltb, le-ltb, eq-eqb, ne-eqb, ltb-false, eqb-false}
+use Rattle.search.specs.Choice.{_when_else_}
+use Rattle.table.specs.Find.{rowOf}
+use Rattle.table.specs.Read.{accepted, readTable}
+use Rattle.table.specs.declared.Table.{Table}
+use Rattle.search.proofs.Choice.{when-yes, when-no}
+use Rattle.table.proofs.Firsts.{then-stop, then-go, then-zero, when-zero}
+use Rattle.saving.specs.Save.{tableOf, readFault, seenOf, unfit, resultOf, resultFault, changeFault, saveFault, answerOf, written, savedOf, bufferAfter, Saves}
+use Rattle.saving.specs.declared.Saved.the-variants.{Used, Refused}
+use Rattle.saving.proofs.Stored.{table-is}
+
+-- the result
+module _ (room : ℕ) (result : List ℕ) where
+  pub result-long : room < length result → resultFault room result ≡ 24
+  unfolding resultFault _when_else_
+  result-long h = rw (lt-ltb _ _ h)
+
+  pub result-read : length result ≤ room → resultFault room result ≡ readFault result
+  unfolding resultFault _when_else_
+  result-read h = rw (le-ltb _ _ h)
+
+-- the table's own fault
+pub change-unread : (room : ℕ) (s old new : List ℕ) → (readFault s ≡ 0 → ⊥) → changeFault room s old new ≡ readFault s
+unfolding changeFault
+change-unread room s old new h = then-stop _ _ h
+
+module _ (room : ℕ) (s : List ℕ) (t : Table) (read : readTable s ≡ accepted t) (old new : List ℕ) where
+  no-fault : readFault s ≡ 0
+  no-fault = rw read
+
+  pub change-unseen : seenOf s old ≡ t .count → changeFault room s old new ≡ 22
+  unfolding changeFault
+  change-unseen e = then-go _ _ no-fault ∙ when-yes 22 _ (rw (table-is s t read) (eq-eqb _ _ e))
+
+  module _ (seen : seenOf s old ≡ t .count → ⊥) where
+    pub change-unfit : unfit new (rowOf t (seenOf s old) .id) ≡ true → changeFault room s old new ≡ 23
+    unfolding changeFault
+    change-unfit e = then-go _ _ no-fault ∙ when-no 22 _ (rw (table-is s t read) (ne-eqb _ _ seen)) ∙ when-yes 23 _ (rw (table-is s t read) e)
+
+    pub change-result : unfit new (rowOf t (seenOf s old) .id) ≡ false → changeFault room s old new ≡ resultFault room (resultOf s old new)
+    unfolding changeFault
+    change-result e = then-go _ _ no-fault ∙ when-no 22 _ (rw (table-is s t read) (ne-eqb _ _ seen)) ∙ when-no 23 _ (rw (table-is s t read) e)
+
+-- no fault: what it says
+pub record Passed (room : ℕ) (s old new : List ℕ) : Type 0 where
+  pub table : readFault s ≡ 0
+  pub seen : seenOf s old ≡ tableOf s .count → ⊥
+  pub fit : unfit new (rowOf (tableOf s) (seenOf s old) .id) ≡ false
+  pub fits : length (resultOf s old new) ≤ room
+  pub result : readFault (resultOf s old new) ≡ 0
+
+pub passed : (room : ℕ) (s old new : List ℕ) → changeFault room s old new ≡ 0 → Passed room s old new
+unfolding changeFault resultFault
+passed room s old new e =
+    let e1 = then-zero _ _ e in
+    let e22 = when-zero 21 _ _ (e1 .1) in
+    let e23 = when-zero 22 _ _ (e22 .1) in
+    let e24 = when-zero 23 _ _ (e23 .1) in
+    record { table = e1 .0; seen = eqb-false _ _ (e22 .0); fit = e23 .0; fits = ltb-false _ _ (e24 .0); result = e24 .1 }
+
+-- the save
+module _ (buffer : List ℕ) (used : ℕ) (old new : List ℕ) where
+  pub save-beyond : length buffer < used → saveFault buffer used old new ≡ 1
+  unfolding saveFault _when_else_
+  save-beyond h = rw (lt-ltb _ _ h)
+
+  pub save-within : used ≤ length buffer → saveFault buffer used old new ≡ changeFault (length buffer) (take used buffer) old new
+  unfolding saveFault _when_else_
+  save-within h = rw (le-ltb _ _ h)
+
+  -- a refusal leaves every byte
+  pub refuses : (f : ℕ) → saveFault buffer used old new ≡ f → (f ≡ 0 → ⊥) → Saves buffer used old new (Refused f) buffer
+  unfolding savedOf bufferAfter answerOf _when_else_
+  refuses zero e h = absurd (h refl)
+  refuses (suc f) e h = record { answers = rw e; leaves = rw (e, ne-eqb (suc f) 0 h) }
+
+  pub accepts : saveFault buffer used old new ≡ 0
+      → Saves buffer used old new (Used (length (resultOf (take used buffer) old new))) (written buffer used (resultOf (take used buffer) old new))
+  unfolding savedOf bufferAfter answerOf _when_else_
+  accepts e = record { answers = rw e; leaves = rw e }

@@ -1,0 +1,33 @@
+-- What is known of bytes that were read as a table. Assumes nothing.
+use Prim.Native.Nat.{ℕ, _<_}
+use mathlib.Core.Path.{_≡_, ap, subst}
+use mathlib.Core.List.{List}
+use native.Mathlib.Omega.{arith}
+use lib.ListN.{length, take, drop, length-take, length-drop}
+use Rattle.table.specs.Bytes.{Bytes}
+use Rattle.table.specs.Find.{rowOf}
+use Rattle.table.specs.Read.{accepted, readTable}
+use Rattle.table.specs.Place.{size, placeOf, Holds}
+use Rattle.table.specs.Good.{GoodTable}
+use Rattle.table.specs.declared.Table.{Table}
+use Rattle.table.specs.declared.Reading.{Reading}
+use Rattle.table.proofs.Accepted.{accepted-good, accepted-holds}
+use Rattle.saving.specs.Save.{tableOf, recordOf}
+
+module _ (s : List ℕ) (t : Table) (read : readTable s ≡ accepted t) where
+  pub table-is : tableOf s ≡ t
+  table-is = ap (λ (r : Reading). r .table) read
+
+  pub record-is : (k : ℕ) → recordOf s k ≡ take (size (rowOf t k)) (drop (placeOf t k) s)
+  unfolding recordOf
+  record-is k = rw table-is
+
+  pub stored-good : Bytes s → GoodTable t
+  stored-good bytes = subst GoodTable table-is (accepted-good s bytes (ap (λ (r : Reading). r .verdict) read))
+
+  pub stored-holds : Bytes s → Holds s t
+  stored-holds bytes = subst (Holds s) table-is (accepted-holds s bytes (ap (λ (r : Reading). r .verdict) read))
+
+  -- a stored record is whole
+  pub record-size : Bytes s → (k : ℕ) → k < t .count → length (recordOf s k) ≡ size (rowOf t k)
+  record-size bytes k h = rw (record-is k, length-take, length-drop) (omega (arith, stored-holds bytes .inside k h))

@@ -1,0 +1,70 @@
+-- A reading whose number is 0 is accepted: no table is refused with 0. Assumes nothing.
+use Prim.Native.Nat.{ℕ, zero, suc, _+_, _<_, _≤_}
+use native.Mathlib.Omega.{arith}
+use mathlib.Core.Path.{_≡_, refl}
+use mathlib.Core.List.{List}
+use mathlib.Core.Bool.{_||_}
+use mathlib.Core.Logic.{⊎-elim}
+use lib.ListN.{length}
+use lib.Dec.{eqb, ltb}
+use borrow.Author.Tests.{lt-ltb}
+use Rattle.search.proofs.Choice.{when-cases, lt-or-le}
+use Rattle.table.specs.Limits.{maxChains, maxBytes}
+use Rattle.table.specs.Bytes.{word}
+use Rattle.table.specs.Record.{rowAt, lengthAt}
+use Rattle.table.specs.Fault.{markOf, chainFault, endFault}
+use Rattle.table.specs.Read.{empty, plus, refusal, accepted, unless, byMark, start, records, readTable, numberOf}
+use Rattle.table.specs.declared.Table.{Table}
+use Rattle.table.specs.declared.Reading.{Reading}
+use Rattle.table.specs.declared.Mark.{Mark}
+use Rattle.table.specs.declared.Mark.the-variants.{Chain, Task, End, Other}
+use Rattle.table.proofs.Firsts.{or-right}
+use Rattle.table.proofs.Steps.{read-long}
+use Rattle.saving.specs.Save.{tableOf, readFault}
+
+Right : Reading → Type 0
+Right r = numberOf (r .verdict) ≡ 0 → r ≡ accepted (r .table)
+
+refused : (n : ℕ) → Right (refusal (suc n))
+unfolding Right
+refused n e = absurd (omega (arith, e))
+
+unless-right : (n : ℕ) (r : Reading) → Right r → Right (unless n r)
+unfolding unless
+unless-right zero r h = h
+unless-right (suc n) r h = refused n
+
+start-right : (s : List ℕ) (at : ℕ) (t : Table) (chain : Reading) → Right chain → Right (start s at t chain)
+unfolding start Right
+start-right s at t chain h = when-cases Right (ltb (length s) (at + 2)) (λ e. refused 1) (λ e. by (markOf (word 2 s at)))
+  where
+    end : Right (accepted t)
+    end e = refl
+
+    by : (m : Mark) → Right (byMark m chain (unless (endFault s at t) (accepted t)))
+    by Chain = h
+    by Task = refused 2
+    by End = unless-right (endFault s at t) (accepted t) end
+    by Other = refused 2
+
+records-right : (left : ℕ) (s : List ℕ) (at : ℕ) (t : Table) → Right (records left s at t)
+unfolding records
+records-right zero s at t = start-right s at t (refusal 11) (refused 10)
+records-right (suc left) s at t =
+    start-right s at t _ (unless-right (chainFault s at t) _ (records-right left s (at + lengthAt s at) (plus t (rowAt s at))))
+
+right : (s : List ℕ) → Right (readTable s)
+unfolding readTable
+right s = when-cases Right (eqb (length s) 0 || ltb maxBytes (length s)) (λ e. refused 0) (λ e. records-right maxChains s 0 empty)
+
+module _ (s : List ℕ) (none : readFault s ≡ 0) where
+  pub read-accepted : readTable s ≡ accepted (tableOf s)
+  unfolding Right
+  read-accepted = right s none
+
+-- a table beyond the limit is refused with 1
+pub read-beyond : (s : List ℕ) → maxBytes < length s → readFault s ≡ 1
+read-beyond s h = rw (read-long s (or-right (eqb (length s) 0) (ltb maxBytes (length s)) (lt-ltb _ _ h)))
+
+pub read-within : (s : List ℕ) → readFault s ≡ 0 → length s ≤ maxBytes
+read-within s e = ⊎-elim (λ h. absurd (omega (arith, e, read-beyond s h))) (λ h. h) (lt-or-le maxBytes (length s))

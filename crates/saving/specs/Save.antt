@@ -1,0 +1,111 @@
+-- Saving one record: given a buffer, the used length, the old record as the editor saw it, and the new (01, 'Saving one record').
+use Prim.Native.Nat.{ℕ, zero, suc, max, _+_, _-_}
+use mathlib.Core.Path.{_≡_}
+use mathlib.Core.List.{List, [], _∷_, _++_}
+use mathlib.Core.Bool.{Bool, true, false, not, _&&_, _||_}
+use lib.ListN.{length, take, drop, replicate}
+use lib.Dec.{ltb, eqb}
+use Rattle.search.specs.Choice.{_when_else_}
+use Rattle.search.specs.Find.{first}
+use Rattle.table.specs.Bytes.{word}
+use Rattle.table.specs.Record.{idAt, lengthAt}
+use Rattle.table.specs.Find.{rowOf}
+use Rattle.table.specs.Fault.{_then_, markOf}
+use Rattle.table.specs.Read.{numberOf as verdictNumber, readTable}
+use Rattle.table.specs.Place.{size, placeOf}
+use Rattle.table.specs.declared.Table.{Table}
+use Rattle.table.specs.declared.Mark.{Mark}
+use Rattle.table.specs.declared.Mark.the-variants.{Chain, Task, End, Other}
+use Rattle.saving.specs.declared.Saved.{Saved}
+use Rattle.saving.specs.declared.Saved.the-variants.{Used, Refused}
+
+-- this page's number for each answer, 0 where the save is accepted
+abbrev pub numberOf : Saved → ℕ
+numberOf (Used n) = 0
+numberOf (Refused n) = n
+
+-- and its figures: the new used length, or none
+abbrev pub figuresOf : Saved → List ℕ
+figuresOf (Used n) = n ∷ []
+figuresOf (Refused n) = []
+
+-- the table that the bytes store, and its fault, 1 to 11, 0 if there is none
+abbrev pub tableOf : List ℕ → Table
+tableOf s = readTable s .table
+
+abbrev pub readFault : List ℕ → ℕ
+readFault s = verdictNumber (readTable s .verdict)
+
+-- the two are the same in every byte
+unfoldable pub same : List ℕ → List ℕ → Bool
+same [] [] = true
+same [] (b ∷ t) = false
+same (a ∷ s) [] = false
+same (a ∷ s) (b ∷ t) = eqb a b && same s t
+
+-- the whole stored record of the chain k
+unfoldable pub recordOf : List ℕ → ℕ → List ℕ
+recordOf s k = take (size (rowOf (tableOf s) k)) (drop (placeOf (tableOf s) k) s)
+
+-- the chain whose stored record equals the old one, the count of chains if none does
+unfoldable pub seenOf : List ℕ → List ℕ → ℕ
+seenOf s old = first (λ k. same (recordOf s k) old) 0 (tableOf s .count)
+
+abbrev pub isChain : Mark → Bool
+isChain Chain = true
+isChain Task = false
+isChain End = false
+isChain Other = false
+
+-- the new record is under 16 bytes, lacks mark `CH`, is not exactly as long as its own list length and task count say, or
+-- bears another id
+unfoldable pub unfit : List ℕ → ℕ → Bool
+unfit new id =
+    ltb (length new) 16 || not (isChain (markOf (word 2 new 0))) || not (eqb (length new) (lengthAt new 0)) || not (eqb (idAt new 0) id)
+
+-- the n bytes from `at` on give way to the new ones, and the rest follows in order
+abbrev pub splice : List ℕ → ℕ → ℕ → List ℕ → List ℕ
+splice s at n new = take at s ++ new ++ drop (at + n) s
+
+-- the result: the new record in the old one's place
+unfoldable pub resultOf : List ℕ → List ℕ → List ℕ → List ℕ
+resultOf s old new = splice s (placeOf (tableOf s) (seenOf s old)) (size (rowOf (tableOf s) (seenOf s old))) new
+
+-- longer than the buffer's room, then 1 to 11 on the result
+unfoldable pub resultFault : ℕ → List ℕ → ℕ
+resultFault room result = 24 when ltb room (length result) else readFault result
+
+-- the order: 1 to 11 on the table, 22, 23, 24, 1 to 11 on the result
+unfoldable pub changeFault : ℕ → List ℕ → List ℕ → List ℕ → ℕ
+changeFault room s old new =
+    readFault s then
+    (22 when eqb (seenOf s old) (tableOf s .count) else
+    23 when unfit new (rowOf (tableOf s) (seenOf s old) .id) else
+    resultFault room (resultOf s old new))
+
+-- the table is the first `used` bytes of the buffer; 1 where those are more than it has
+unfoldable pub saveFault : List ℕ → ℕ → List ℕ → List ℕ → ℕ
+saveFault buffer used old new =
+    1 when ltb (length buffer) used else changeFault (length buffer) (take used buffer) old new
+
+-- no fault answers the new used length, any other that refusal
+unfoldable pub answerOf : ℕ → ℕ → Saved
+answerOf zero n = Used n
+answerOf (suc fault) n = Refused (suc fault)
+
+-- the result first; bytes between a shorter end and the former end become 0; bytes past both ends stay
+unfoldable pub written : List ℕ → ℕ → List ℕ → List ℕ
+written buffer used result = result ++ replicate (used - length result) 0 ++ drop (max used (length result)) buffer
+
+-- The answer, and the whole buffer afterwards: refused, every byte stays
+
+unfoldable pub savedOf : List ℕ → ℕ → List ℕ → List ℕ → Saved
+savedOf buffer used old new = answerOf (saveFault buffer used old new) (length (resultOf (take used buffer) old new))
+
+unfoldable pub bufferAfter : List ℕ → ℕ → List ℕ → List ℕ → List ℕ
+bufferAfter buffer used old new =
+    written buffer used (resultOf (take used buffer) old new) when eqb (saveFault buffer used old new) 0 else buffer
+
+pub record Saves (buffer : List ℕ) (used : ℕ) (old new : List ℕ) (answer : Saved) (after : List ℕ) : Type 0 where
+  pub answers : answer ≡ savedOf buffer used old new
+  pub leaves : after ≡ bufferAfter buffer used old new

@@ -1,0 +1,73 @@
+// Byte slices: compared, copied and cleared.
+use table::Table;
+ghost use mathlib.Core.Path.{_≡_};
+ghost use mathlib.Core.List.{_++_};
+ghost use Prim.Native.Nat.{_+_, _-_, _≤_};
+ghost use lib.ListN.{length, take, drop, replicate};
+ghost use Rattle.table.specs.Limits.{maxBytes};
+ghost use Rattle.table.specs.Record.{pad};
+ghost use Rattle.saving.specs.Save.{same as sameOf, splice, written};
+
+// Whether the two are the same in every byte.
+pub fn same(a: &[u8], b: &[u8]) -> bool
+    ensures { λ r. ⌜ r ≡ sameOf (now (a .entry)) (now (b .entry)) ⌝ }
+{
+    if a.len() != b.len() {
+        return false;
+    }
+    let mut i: usize = 0;
+    while i < a.len() {
+        if a[i] != b[i] {
+            return false;
+        }
+        i += 1;
+    }
+    true
+}
+
+// Copies all of `from` into `to`, from `at` on.
+fn put(to: &mut [u8], at: usize, from: &[u8])
+    requires { ⌜ at + length (now from) ≤ length (now to) ⌝ }
+    ensures { λ _. ⌜ now (to .exit) ≡ splice (now (to .entry)) at (length (now (from .entry))) (now (from .entry)) ⌝ }
+{
+    let mut i: usize = 0;
+    while i < from.len() {
+        to[at + i] = from[i];
+        i += 1;
+    }
+}
+
+// Every byte becomes 0.
+fn clear(s: &mut [u8])
+    ensures { λ _. ⌜ now (s .exit) ≡ replicate (length (now (s .entry))) 0 ⌝ }
+{
+    let mut i: usize = 0;
+    while i < s.len() {
+        s[i] = 0;
+        i += 1;
+    }
+}
+
+// The bytes with `new` in the place of `gone` of them from `at` on, filled up with 0.
+pub fn spliced(s: &[u8], at: usize, gone: usize, new: &[u8]) -> [u8; Table::BYTES]
+    requires { ⌜ (at + gone ≤ length (now s)) × (length (splice (now s) at gone (now new)) ≤ maxBytes) ⌝ }
+    ensures { λ r. ⌜ r ≡ pad maxBytes (splice (now (s .entry)) at gone (now (new .entry))) ⌝ }
+{
+    let mut out = [0u8; Table::BYTES];
+    put(&mut out, 0, &s[..at]);
+    put(&mut out, at, new);
+    put(&mut out, at + new.len(), &s[at + gone..]);
+    out
+}
+
+// The result becomes the first bytes of the buffer, and what is left of the former table becomes 0.
+pub fn store(buffer: &mut [u8], used: usize, result: &[u8])
+    requires { ⌜ (used ≤ length (now buffer)) × (length (now result) ≤ length (now buffer)) ⌝ }
+    ensures { λ _. ⌜ now (buffer .exit) ≡ written (now (buffer .entry)) used (now (result .entry)) ⌝ }
+{
+    put(buffer, 0, result);
+    let n = result.len();
+    if n < used {
+        clear(&mut buffer[n..used]);
+    }
+}

@@ -1,0 +1,88 @@
+#!/usr/bin/env python3
+"""Packs cases of a save with known answers for the program crates/save_vectors.
+
+Usage: tests/pack_save.py VECTORS OUT
+
+VECTORS is a file of one JSON object a line, with the keys buffer, used, old, new, rc, after and buffer_after: bytes in
+hex, `=` for 'no byte changed'. rc is 0 or the refusal number, and the first four bytes of after are the new used length.
+Cases of refusal 27 are left out: it belongs to the C entry, and a save knows no answer buffer. After them come the shapes
+made here: a record that stays as long, grows or shrinks, as the only, first, middle or last one, with and without room.
+
+A case in OUT, every number little-endian:
+
+    u32  bytes of the buffer, B
+    u64  used length
+    u32  bytes of the old record, O
+    u32  bytes of the new record, N
+    u32  refusal number, 0 where the save is accepted
+    u32  new used length, 0 where it is refused
+    B bytes   the buffer
+    O bytes   the old record
+    N bytes   the new record
+    B bytes   the whole buffer afterwards
+"""
+import json
+import struct
+import sys
+
+
+def packed(buffer, used, old, new, number, length, after):
+    assert len(after) == len(buffer)
+    return struct.pack("<IQIIII", len(buffer), used, len(old), len(new), number, length) + buffer + old + new + after
+
+
+def from_vectors(path):
+    for line in open(path, encoding="utf8"):
+        case = json.loads(line)
+        if case["rc"] == 27:
+            continue
+        buffer = bytes.fromhex(case["buffer"])
+        after = buffer if case["buffer_after"] == "=" else bytes.fromhex(case["buffer_after"])
+        length = struct.unpack("<I", bytes.fromhex(case["after"])[:4])[0] if case["rc"] == 0 else 0
+        yield packed(buffer, case["used"], bytes.fromhex(case["old"]), bytes.fromhex(case["new"]), case["rc"], length, after)
+
+
+def chain(ident, deadline, distances, tasks):
+    """A chain record: synchronous, no overload, no gap known."""
+    head = b"CH" + struct.pack("<HBBIIBB", ident, 0, 0, deadline, 0, len(distances), len(tasks))
+    return head + b"".join(struct.pack("<I", d) for d in distances) + b"".join(b"TK" + struct.pack("<HI", p, c) for p, c in tasks)
+
+
+def table(records):
+    return b"".join(records) + b"EN" + struct.pack("<H", len(records))
+
+
+def shapes():
+    """Every place of a record with every change of its length; the rest of the buffer is 0xAA, to see what stays."""
+    for count in (1, 3):
+        stored = [chain(i + 1, 40 + i, [100], [(5, 10), (3, 10)]) for i in range(count)]
+        for at in range(count):
+            for new in (
+                chain(at + 1, 30, [100], [(5, 10), (3, 10)]),
+                chain(at + 1, 40, [100, 200], [(5, 10), (3, 10), (2, 1)]),
+                chain(at + 1, 40, [100], [(5, 10)]),
+                stored[at],
+            ):
+                old, before = stored[at], table(stored)
+                result = table(stored[:at] + [new] + stored[at + 1:])
+                for room in (0, 5, 64):
+                    buffer = before + b"\xaa" * room
+                    if len(buffer) < len(result):
+                        yield packed(buffer, len(before), old, new, 24, 0, buffer)
+                        continue
+                    cleared = result + bytes(max(0, len(before) - len(result)))
+                    yield packed(buffer, len(before), old, new, 0, len(result), cleared + buffer[len(cleared):])
+                # a used length of more than 32 bits is above any buffer
+                yield packed(before, len(before) + 2**32, old, new, 1, 0, before)
+
+
+def main():
+    if len(sys.argv) != 3:
+        sys.exit(__doc__)
+    cases = list(from_vectors(sys.argv[1])) + list(shapes())
+    with open(sys.argv[2], "wb") as out:
+        out.write(b"".join(cases))
+    print(f"{len(cases)} cases")
+
+
+main()
