@@ -26,7 +26,7 @@ unfolding figureBytes
 written-none before = refl
 
 -- one more, at its place
-pub written-on : (xs : List ℕ) (x : ℕ) (before : List ℕ)
+written-on : (xs : List ℕ) (x : ℕ) (before : List ℕ)
     → take (4 * length xs) (written xs before) ++ bytesOf 4 x ++ drop (4 * length xs + 4) (written xs before) ≡ written (xs ++ (x ∷ [])) before
 written-on xs x before =
     let n : length (figureBytes xs) ≡ 4 * length xs = length-figures xs in
@@ -35,6 +35,12 @@ written-on xs x before =
     let t : take (4 * length xs) (written xs before) ≡ figureBytes xs = take-at (figureBytes xs) rest (4 * length xs) n in
     let d : drop (4 * length xs + 4) (written xs before) ≡ drop 4 rest = ap (λ (k : ℕ). drop (k + 4) (written xs before)) (sym n) ∙ drop-append-add (figureBytes xs) rest 4 in
     rw (t, d, m, figures-more xs x, drop-drop 4 (4 * length xs) before)
+
+-- a store of the next figure takes what holds some of them to what holds one more
+pub stored-next : (xs : List ℕ) (x : ℕ) (before held after : List ℕ) → held ≡ written xs before
+    → after ≡ take (4 * length xs) held ++ bytesOf 4 x ++ drop (4 * length xs + 4) held → after ≡ written (xs ++ (x ∷ [])) before
+stored-next xs x before held after e f =
+    f ∙ ap (λ (l : List ℕ). take (4 * length xs) l ++ bytesOf 4 x ++ drop (4 * length xs + 4) l) e ∙ written-on xs x before
 
 -- the three ways an entry ends
 module _ (n number : ℕ) (figures before : List ℕ) where

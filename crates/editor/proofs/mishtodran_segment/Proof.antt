@@ -1,13 +1,11 @@
 -- Each way the entry ends, by its law.
-use mathlib.Core.Path.{_≡_, refl, ap, sym, _∙_}
 use Prim.Native.Nat.{ℕ}
-use mathlib.Core.List.{List, [], _∷_, _++_}
-use lib.ListN.{take, drop}
-use Rattle.table.specs.Bytes.{bytesOf}
-use Rattle.editor.specs.Entry.{figureBytes, written}
+use mathlib.Core.Path.{_≡_, refl, ap, sym, _∙_}
+use mathlib.Core.List.{List, [], _∷_}
 use denote.Ref.{now}
 use Rattle.segments.specs.Query.{numberOf, valuesOf, segmentOf}
-use Rattle.editor.proofs.Writing.{written-on, answered-short, answered-refusal, answered-figures}
+use Rattle.editor.specs.Entry.{written}
+use Rattle.editor.proofs.Writing.{written-none, stored-next, answered-short, answered-refusal, answered-figures}
 use borrow.Author.Needs.{needs}
 use Rattle.editor.proofs.mishtodran_segment.Statement.{statement}
 use Rattle.editor.proofs.mishtodran_segment.Tie as tie
@@ -35,17 +33,17 @@ same-length : tie.Need-same-length
 same-length c = search needs
 
 returns-2 : tie.Need-returns-2
-unfolding figureBytes
 returns-2 c = let a = c .before .before .before .before .before .before .before .before .before .before .before .before .before .before .before .args in
     let g = c .before .before .before .before .before .before .before .before .before .offset .given in
     let before : List ℕ = now (a .answer) in
-    let offset : ℕ = g .0 .0 in
-    let length : ℕ = g .0 .1 .0 in
+    let offset = g .0 .0 in
+    let length = g .0 .1 .0 in
     let e = sym (c .before .before .before .before .before .before .before .before .before .before .before .segment .ensures) ∙ g .1 in
-    let one : c .before .before .before .before .before .before .put-u32 .last .0 ≡ written (offset ∷ []) before = c .before .before .before .before .before .before .put-u32 .ensures ∙ written-on [] offset before in
-    let two : c .before .before .put-u322 .last .0 ≡ written (offset ∷ length ∷ []) before =
-    c .before .before .put-u322 .ensures ∙ ap (λ (l : List ℕ). take 4 l ++ bytesOf 4 length ++ drop 8 l) one ∙ written-on (offset ∷ []) length before in
-    rw e (answered-figures 2 0 (offset ∷ length ∷ []) before (c .before .before .before .before .before .before .before .before .before .before .before .before .if1 .left) (c .before .before .put-u322 .last .0) refl two)
+    let held1 : c .before .before .before .before .before .before .put-u32 .last .0 ≡ written (offset ∷ []) before =
+    stored-next ([]) offset before before (c .before .before .before .before .before .before .put-u32 .last .0) (sym (written-none before)) (c .before .before .before .before .before .before .put-u32 .ensures) in
+    let held2 : c .before .before .put-u322 .last .0 ≡ written (offset ∷ length ∷ []) before =
+    stored-next (offset ∷ []) length before (c .before .before .before .before .before .before .put-u32 .last .0) (c .before .before .put-u322 .last .0) held1 (c .before .before .put-u322 .ensures) in
+    rw e (answered-figures 2 0 (offset ∷ length ∷ []) before (c .before .before .before .before .before .before .before .before .before .before .before .before .if1 .left) (c .before .before .put-u322 .last .0) refl held2)
 
 returns-3 : tie.Need-returns-3
 returns-3 c = let a = c .before .before .before .before .before .before .before .args in
