@@ -1,10 +1,12 @@
 -- Laws of little-endian numbers, for any width. Assumes nothing.
-use Prim.Native.Nat.{ℕ, zero, suc, _+_, _*_, _^_, _<_}
-use mathlib.Core.Path.{_≡_, ap}
-use mathlib.Core.List.{List}
+use Prim.Native.Nat.{ℕ, zero, suc, _+_, _*_, _/_, _%_, _^_, _<_}
+use mathlib.Core.Path.{_≡_, refl, ap, sym, _∙_}
+use mathlib.Core.List.{List, [], _∷_, _++_, append-assoc}
 use native.Mathlib.Omega.{arith}
 use native.Mathlib.Nat.{pow-suc}
-use Rattle.table.specs.Bytes.{word, Bytes}
+use lib.ListN.{length, getD, length-append}
+use lib.Seq.{getD-append-seam}
+use Rattle.table.specs.Bytes.{word, bytesOf, Bytes}
 
 -- a number of m + n bytes is one of m bytes and one of n bytes after it
 pub word-split : (m n : ℕ) (s : List ℕ) (at : ℕ) → word (m + n) s at ≡ word m s at + 256 ^ m * word n s (at + m)
@@ -23,3 +25,23 @@ pub word-below : (n : ℕ) (s : List ℕ) (at : ℕ) → Bytes s → word n s at
 unfolding word
 word-below zero s at h = omega arith
 word-below (suc n) s at h = omega (arith, h at, word-below n s (at + 1) h, pow-suc 256 n)
+
+-- a number's bytes are as many as asked for, and are read back as the number
+pub length-bytes : (n x : ℕ) → length (bytesOf n x) ≡ n
+unfolding bytesOf
+length-bytes zero x = refl
+length-bytes (suc n) x = ap suc (length-bytes n (x / 256))
+
+pub word-bytes : (n x : ℕ) (l r : List ℕ) → x < 256 ^ n → word n (l ++ (bytesOf n x ++ r)) (length l) ≡ x
+unfolding word bytesOf
+word-bytes zero x l r h = omega arith
+word-bytes (suc n) x l r h =
+    let rest : List ℕ = bytesOf n (x / 256) ++ r in
+    let first : List ℕ = l ++ (x % 256 ∷ []) in
+    let e : getD (l ++ x % 256 ∷ rest) (length l) 0 ≡ x % 256 = getD-append-seam l (x % 256) rest 0 in
+    let f : l ++ x % 256 ∷ rest ≡ first ++ rest = sym (append-assoc l (x % 256 ∷ []) rest) in
+    let g : length l + 1 ≡ length first = sym (length-append l (x % 256 ∷ [])) in
+    let w : word n (l ++ x % 256 ∷ rest) (length l + 1) ≡ x / 256 =
+    ap (λ (k : ℕ). word n (l ++ x % 256 ∷ rest) k) g ∙ ap (λ (s : List ℕ). word n s (length first)) f
+    ∙ word-bytes n (x / 256) first r (omega (arith, pow-suc 256 n)) in
+    omega (arith, e, w)

@@ -1,8 +1,9 @@
 // Little-endian numbers in a slice.
 ghost use mathlib.Core.Path.{_≡_};
 ghost use Prim.Native.Nat.{_+_, _≤_, _<_};
-ghost use lib.ListN.{length, getD};
-ghost use Rattle.table.specs.Bytes.{word};
+ghost use lib.ListN.{length, getD, take, drop};
+ghost use mathlib.Core.List.{_++_};
+ghost use Rattle.table.specs.Bytes.{word, bytesOf};
 
 // A byte as a wider number: a cast that asks nothing of its caller.
 fn wide(x: u8) -> u16
@@ -37,4 +38,15 @@ pub fn count_at(s: &[u8], at: usize) -> usize
     ensures { λ r. ⌜ (r ≡ getD (now (s .entry)) at 0) × (r < 256) ⌝ }
 {
     s[at] as usize
+}
+
+// The four bytes of x from `at` on, the smallest first.
+pub fn put_u32(s: &mut [u8], at: usize, x: u32)
+    requires { ⌜ at + 4 ≤ length (now s) ⌝ }
+    ensures { λ _. ⌜ now (s .exit) ≡ take at (now (s .entry)) ++ bytesOf 4 x ++ drop (at + 4) (now (s .entry)) ⌝ }
+{
+    s[at] = (x % 256) as u8;
+    s[at + 1] = (x / 256 % 256) as u8;
+    s[at + 2] = (x / 256 / 256 % 256) as u8;
+    s[at + 3] = (x / 256 / 256 / 256 % 256) as u8;
 }

@@ -11,6 +11,7 @@ mod places;
 mod reader;
 mod record;
 
+pub use bytes::put_u32;
 pub use bytes::u16_at;
 pub use bytes::u32_at;
 pub use fault::mark_of;
