@@ -11,8 +11,8 @@ use Rattle.table.specs.declared.Row.{Row}
 use Rattle.arrivals.specs.Arrivals.{η}
 use Rattle.segments.specs.Tasks.{chainCost, firstCost, deferred}
 use Rattle.segments.specs.Segments.{allCost, dearestCost}
-use Rattle.segments.specs.View.{View, viewOf, allOf, dearestOf, seenOf}
-use Rattle.segments.proofs.Views.{Shows, seen-shows, view-kind}
+use Rattle.segments.specs.View.{Shows, View, viewOf, allOf, dearestOf, seenOf}
+use Rattle.segments.proofs.Views.{seen-shows, view-kind}
 use Rattle.segments.proofs.Bounds.{chain-max, all-max, first-all, dearest-all}
 use Rattle.windows.specs.Demand.{asynchronous, termOf}
 use Rattle.windows.specs.Load.{dearest, Adds}
