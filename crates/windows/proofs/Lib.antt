@@ -6,7 +6,9 @@ pub mod Terms
 pub mod Lists
 pub mod Joining
 pub mod Besides
+pub mod Latencies
 pub mod Walks
+pub mod Closing
 pub mod Margins
 pub mod Answers
 pub mod Starred

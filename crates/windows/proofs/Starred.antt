@@ -31,7 +31,7 @@ use Rattle.segments.specs.Segments.{stretches, onward, around, full, segments, 
 use Rattle.segments.specs.View.{viewOf}
 use Rattle.windows.specs.Demand.{termOf, partOf, demandOf, othersOf}
 use Rattle.windows.specs.Window.{windowOf, Under}
-use Rattle.windows.specs.Latency.{marginOf, windowsOf, boundOf, chainOf, latencyOf}
+use Rattle.windows.specs.Latency.{overOf, marginOf, windowsOf, boundOf, chainOf, latencyOf}
 use Rattle.windows.specs.declared.Windows.{Windows}
 use Rattle.windows.specs.declared.Window.the-variants.{At, Nothing}
 use Rattle.windows.specs.declared.Answer.{Answer}
@@ -39,7 +39,7 @@ use Rattle.windows.specs.declared.Answer.the-variants.{Figures, Refused}
 use Rattle.windows.proofs.Least.{Grows, under-one, under-next, under-solves, under-none}
 use Rattle.windows.proofs.Growth.{Growing, demand-growing}
 use Rattle.windows.proofs.Besides.{others-paced}
-use Rattle.windows.proofs.Walks.{overOf, walk-start, walk-close, walk-none}
+use Rattle.windows.proofs.Walks.{walk-start, walk-close, walk-none}
 use Rattle.windows.proofs.Answers.{chain-found, latency-accepted}
 
 -- a chain, and its record in bytes: `CH`, and for each task `TK`

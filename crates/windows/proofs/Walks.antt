@@ -3,36 +3,25 @@
 use Prim.Native.Nat.{ℕ, zero, suc, zero-le, _+_, _-_, max, _≤_, _<_}
 use mathlib.Core.Path.{_≡_, refl, subst, ap, ap₂, sym, _∙_}
 use mathlib.Core.List.{List}
-use mathlib.Core.Bool.{Bool, true}
+use mathlib.Core.Bool.{true}
 use mathlib.Core.Logic.{⊎-elim}
-use lib.Dec.{leb, ltb}
 use borrow.Author.Tests.{le-leb, leb-true, lt-ltb, le-ltb}
 use native.Mathlib.Omega.{arith}
-use native.Mathlib.Numerals.{add-one}
-use native.Mathlib.Nat.{eq-or-lt-of-le, le-of-eq, le-refl}
-use Rattle.search.specs.Choice.{_when_else_}
-use Rattle.search.specs.Find.{first}
-use Rattle.search.specs.Lists.{sumOf, mostOf}
-use Rattle.search.proofs.Choice.{when-yes, when-no, when-cases}
+use native.Mathlib.Nat.{eq-or-lt-of-le, le-of-eq}
+use Rattle.search.proofs.Choice.{when-yes, when-no}
 use Rattle.search.proofs.Find.{first-is, first-none}
 use Rattle.table.specs.Limits.{horizon, maxActivations}
 use Rattle.arrivals.specs.Arrivals.{GoodDistances, δ}
 use Rattle.arrivals.proofs.Distances.{δ-one}
 use Rattle.windows.specs.Window.{Solution, windowOf, Under}
-use Rattle.windows.specs.Latency.{long, ends, closeOf, latencyAt, upTo, latencyTo, lateTo, marginOf, refusal, endsWith, windowsOf}
+use Rattle.windows.specs.Latency.{ends, closeOf, latencyAt, latencyTo, overOf, lateTo, marginOf, refusal, endsWith, windowsOf}
 use Rattle.windows.specs.declared.Window.{Window}
 use Rattle.windows.specs.declared.Window.the-variants.{At, Nothing}
 use Rattle.windows.specs.declared.Windows.{Windows}
 use Rattle.windows.specs.declared.Answer.the-variants.{Figures, Refused}
 use Rattle.windows.proofs.Least.{window-at, window-under, under-one, under-lift}
 use Rattle.windows.proofs.Growth.{Growing}
-
--- 1 where a is over b
-abbrev pub overOf : ℕ → ℕ → ℕ
-overOf a b = 1 when ltb b a else 0
-
-pub over-le : (a b : ℕ) → overOf a b ≤ 1
-over-le a b = when-cases (λ n. n ≤ 1) (ltb b a) (λ e. le-refl 1) (λ e. zero-le)
+use Rattle.windows.proofs.Latencies.{latency-none, latency-more, latency-is, latency-near, late-none, late-more, late-few}
 
 module _ (demand : ℕ → ℕ → ℕ) (ds : List ℕ) where
   -- none of the activations before q ends the walk
@@ -48,28 +37,7 @@ module _ (demand : ℕ → ℕ → ℕ) (ds : List ℕ) where
   open-more q o h p l m =
       ⊎-elim (λ e. subst (λ (x : ℕ). ends (windowOf (demand x)) (δ ds (x + 1)) ≡ true → ⊥) (sym e) h) (λ k. o p l k) (eq-or-lt-of-le (omega arith))
 
-  -- the definitions one activation on, in the code's shape
-  latency-none : 0 ≡ latencyTo demand ds 0
-  unfolding latencyTo upTo mostOf
-  latency-none = refl
-
-  latency-more : (k : ℕ) → latencyTo demand ds (k + 1) ≡ max (latencyTo demand ds k) (latencyAt demand ds (k + 1))
-  unfolding latencyTo upTo mostOf
-  latency-more k = rw add-one (omega arith)
-
-  latency-is : (q t : ℕ) → windowOf (demand q) ≡ At t → latencyAt demand ds q ≡ t - δ ds q
-  unfolding latencyAt
-  latency-is q t e = ap (λ w. long w - δ ds q) e
-
   module _ (deadline : ℕ) where
-    late-none : 0 ≡ lateTo demand ds deadline 0
-    unfolding lateTo upTo sumOf
-    late-none = refl
-
-    late-more : (k : ℕ) → lateTo demand ds deadline (k + 1) ≡ lateTo demand ds deadline k + overOf (latencyAt demand ds (k + 1)) deadline
-    unfolding lateTo upTo sumOf
-    late-more k = rw add-one (omega arith)
-
     -- where the walk ends
     pub windows-end : (q : ℕ) → 1 ≤ q → q ≤ maxActivations → ends (windowOf (demand q)) (δ ds (q + 1)) ≡ true → Open q
         → windowsOf demand ds deadline ≡ endsWith demand ds deadline q (windowOf (demand q))
@@ -92,9 +60,7 @@ module _ (demand : ℕ → ℕ → ℕ) (ds : List ℕ) where
       pub next : behind ≡ δ ds (done + 1)
       pub ahead : behind ≤ start
       pub longest : latency ≡ latencyTo demand ds done
-      pub near : latency ≤ horizon
       pub count : late ≡ lateTo demand ds deadline done
-      pub few : late ≤ done
       pub still : Open (done + 1)
 
     pub walk-start : GoodDistances ds → Walk 0 1 0 0 0
@@ -103,10 +69,8 @@ module _ (demand : ℕ → ℕ → ℕ) (ds : List ℕ) where
       under = under-one (demand 1);
       next = sym (δ-one good);
       ahead = zero-le;
-      longest = latency-none;
-      near = zero-le;
-      count = late-none;
-      few = zero-le;
+      longest = latency-none demand ds;
+      count = late-none demand ds deadline;
       still = open-one;
     }
 
@@ -132,20 +96,20 @@ module _ (demand : ℕ → ℕ → ℕ) (ds : List ℕ) where
 
           -- the figures with it, as the code works them out
           module _ {best more : ℕ} (b : best ≡ max latency (t - behind)) (m : more ≡ overOf (t - behind) deadline) where
-            pub walk-near : best ≤ horizon
-            walk-near = omega (arith, w .near, solution .high)
-
-            pub walk-few : late + more ≤ done + 1
-            walk-few = omega (arith, w .few, over-le (t - behind) deadline)
-
             here : t - behind ≡ latencyAt demand ds (done + 1)
-            here = ap (λ x. t - x) (w .next) ∙ sym (latency-is (done + 1) t at)
+            here = ap (λ x. t - x) (w .next) ∙ sym (latency-is demand ds (done + 1) t at)
 
             longer : best ≡ latencyTo demand ds (done + 1)
-            longer = b ∙ ap₂ max (w .longest) here ∙ sym (latency-more done)
+            longer = b ∙ ap₂ max (w .longest) here ∙ sym (latency-more demand ds done)
 
             later : late + more ≡ lateTo demand ds deadline (done + 1)
-            later = ap₂ _+_ (w .count) (m ∙ ap (λ n. overOf n deadline) here) ∙ sym (late-more done)
+            later = ap₂ _+_ (w .count) (m ∙ ap (λ n. overOf n deadline) here) ∙ sym (late-more demand ds deadline done)
+
+            pub walk-near : best ≤ horizon
+            walk-near = omega (arith, longer, latency-near demand ds (done + 1))
+
+            pub walk-few : late + more ≤ done + 1
+            walk-few = omega (arith, later, late-few demand ds deadline (done + 1))
 
             module _ {next : ℕ} (n : next ≡ δ ds (done + 1 + 1)) where
               -- it closes
@@ -168,9 +132,7 @@ module _ (demand : ℕ → ℕ → ℕ) (ds : List ℕ) where
                 next = n;
                 ahead = omega arith;
                 longest = longer;
-                near = walk-near;
                 count = later;
-                few = walk-few;
                 still = open-more (done + 1) (w .still)
                     (λ e. omega (arith, leb-true t (δ ds (done + 1 + 1)) (sym (ap (λ x. ends x (δ ds (done + 1 + 1))) at) ∙ e)));
               }

@@ -52,8 +52,11 @@ unfoldable pub latencyTo : (ℕ → ℕ → ℕ) → List ℕ → ℕ → ℕ
 latencyTo demand ds k = mostOf (latencyAt demand ds) (upTo k)
 
 -- late: how many of them exceed the deadline
+abbrev pub overOf : ℕ → ℕ → ℕ
+overOf x deadline = 1 when ltb deadline x else 0
+
 unfoldable pub lateTo : (ℕ → ℕ → ℕ) → List ℕ → ℕ → ℕ → ℕ
-lateTo demand ds deadline k = sumOf (λ q. 1 when ltb deadline (latencyAt demand ds q) else 0) (upTo k)
+lateTo demand ds deadline k = sumOf (λ q. overOf (latencyAt demand ds q) deadline) (upTo k)
 
 -- margin: deadline minus latency, signed
 abbrev pub marginOf : ℕ → ℕ → ℤ

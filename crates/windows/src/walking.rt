@@ -8,12 +8,9 @@ use arrivals::delta;
 use table::Table;
 ghost use mathlib.Core.Path.{_≡_};
 ghost use Prim.Native.Nat.{max, _≤_};
-ghost use lib.Dec.{ltb};
-ghost use Rattle.search.specs.Choice.{_when_else_};
-ghost use Rattle.table.specs.Limits.{horizon, maxActivations, maxDeadline};
-ghost use Rattle.windows.specs.Latency.{marginOf, refusal, windowsOf};
+ghost use Rattle.table.specs.Limits.{horizon, maxDeadline};
+ghost use Rattle.windows.specs.Latency.{overOf, marginOf, refusal, windowsOf};
 ghost use Rattle.windows.specs.Load.{ownOf, demandIn, Sound};
-ghost use Rattle.windows.specs.declared.Answer.the-variants.{Figures};
 
 fn larger(a: u64, b: u64) -> u64
     ensures { λ r. ⌜ r ≡ max a b ⌝ }
@@ -21,11 +18,11 @@ fn larger(a: u64, b: u64) -> u64
     if a < b { b } else { a }
 }
 
-// 1 where a is over b.
-fn over(a: u64, b: u64) -> u32
-    ensures { λ r. ⌜ r ≡ (1 when ltb b a else 0) ⌝ }
+// 1 where x exceeds the deadline.
+fn over(x: u64, deadline: u64) -> u32
+    ensures { λ r. ⌜ r ≡ overOf x deadline ⌝ }
 {
-    if b < a { 1 } else { 0 }
+    if deadline < x { 1 } else { 0 }
 }
 
 // Deadline minus latency, signed.

@@ -1,0 +1,84 @@
+-- Latency and late up to an activation: none, one more, and how large they can be. Assumes nothing.
+use Prim.Native.Nat.{ℕ, zero, suc, zero-le, _+_, _-_, max, _≤_, _<_}
+use mathlib.Core.Path.{_≡_, refl, ap}
+use mathlib.Core.List.{List}
+use mathlib.Core.Logic.{⊎-elim}
+use lib.Dec.{ltb}
+use native.Mathlib.Omega.{arith}
+use native.Mathlib.Numerals.{add-one}
+use native.Mathlib.Nat.{le-refl, eq-or-lt-of-le}
+use Rattle.search.specs.Find.{Greatest}
+use Rattle.search.specs.Lists.{sumOf, mostOf}
+use Rattle.search.proofs.Choice.{when-cases, lt-or-le}
+use Rattle.table.specs.Limits.{horizon}
+use Rattle.arrivals.specs.Arrivals.{δ}
+use Rattle.windows.specs.Window.{windowOf}
+use Rattle.windows.specs.Latency.{long, latencyAt, upTo, latencyTo, overOf, lateTo}
+use Rattle.windows.specs.declared.Window.{Window}
+use Rattle.windows.specs.declared.Window.the-variants.{At, Nothing}
+use Rattle.windows.proofs.Least.{window-at}
+
+-- no window is longer than the horizon
+pub long-le : (d : ℕ → ℕ) → long (windowOf d) ≤ horizon
+long-le d = go (windowOf d) refl
+  where
+    go : (w : Window) → windowOf d ≡ w → long w ≤ horizon
+    go (At t) e = window-at d t e .high
+    go Nothing e = zero-le
+
+over-le : (x deadline : ℕ) → overOf x deadline ≤ 1
+over-le x deadline = when-cases (λ n. n ≤ 1) (ltb deadline x) (λ e. le-refl 1) (λ e. zero-le)
+
+module _ (demand : ℕ → ℕ → ℕ) (ds : List ℕ) where
+  pub latency-is : (q t : ℕ) → windowOf (demand q) ≡ At t → latencyAt demand ds q ≡ t - δ ds q
+  unfolding latencyAt
+  latency-is q t e = ap (λ w. long w - δ ds q) e
+
+  pub latency-none : 0 ≡ latencyTo demand ds 0
+  unfolding latencyTo upTo mostOf
+  latency-none = refl
+
+  pub latency-more : (k : ℕ) → latencyTo demand ds (k + 1) ≡ max (latencyTo demand ds k) (latencyAt demand ds (k + 1))
+  unfolding latencyTo upTo mostOf
+  latency-more k = rw add-one (omega arith)
+
+  pub latency-near : (k : ℕ) → latencyTo demand ds k ≤ horizon
+  unfolding latencyTo latencyAt upTo mostOf
+  latency-near zero = zero-le
+  latency-near (suc k) = omega (arith, long-le (demand (suc k)), latency-near k)
+
+  -- it is the greatest of them, and one of them
+  latency-each : (k q : ℕ) → 1 ≤ q → q ≤ k → latencyAt demand ds q ≤ latencyTo demand ds k
+  unfolding latencyTo upTo mostOf
+  latency-each zero q l h = absurd (omega arith)
+  latency-each (suc k) q l h =
+      ⊎-elim (λ e. omega (arith, ap (latencyAt demand ds) e)) (λ m. omega (arith, latency-each k q l (omega arith))) (eq-or-lt-of-le h)
+
+  latency-some : (k : ℕ) → (q : ℕ) × (1 ≤ q) × (q ≤ suc k) × (latencyAt demand ds q ≡ latencyTo demand ds (suc k))
+  unfolding latencyTo upTo mostOf
+  latency-some zero = (1, le-refl 1, le-refl 1, omega arith)
+  latency-some (suc k) =
+      let r = latency-some k in
+      ⊎-elim (λ h. (r .0, r .1, omega (arith, r .2), omega (arith, r .3))) (λ h. (suc (suc k), omega arith, le-refl (suc (suc k)), omega arith))
+      (lt-or-le (latencyAt demand ds (suc (suc k))) (latencyTo demand ds (suc k)))
+
+  pub latency-greatest : (k : ℕ) → 1 ≤ k → Greatest (λ n. (q : ℕ) × (1 ≤ q) × (q ≤ k) × (latencyAt demand ds q ≡ n)) (latencyTo demand ds k)
+  latency-greatest zero h = absurd (omega arith)
+  latency-greatest (suc k) h = record {
+    holds = latency-some k;
+    above = λ n r. omega (arith, latency-each (suc k) (r .0) (r .1) (r .2), r .3);
+  }
+
+  module _ (deadline : ℕ) where
+    pub late-none : 0 ≡ lateTo demand ds deadline 0
+    unfolding lateTo upTo sumOf
+    late-none = refl
+
+    pub late-more : (k : ℕ) → lateTo demand ds deadline (k + 1) ≡ lateTo demand ds deadline k + overOf (latencyAt demand ds (k + 1)) deadline
+    unfolding lateTo upTo sumOf
+    late-more k = rw add-one (omega arith)
+
+    pub late-few : (k : ℕ) → lateTo demand ds deadline k ≤ k
+    unfolding lateTo upTo sumOf
+    late-few zero = zero-le
+    late-few (suc k) = omega (arith, over-le (latencyAt demand ds (suc k)) deadline, late-few k)
