@@ -64,6 +64,11 @@ passed room s old new e =
     let e24 = when-zero 23 _ _ (e23 .1) in
     record { table = e1 .0; seen = eqb-false _ _ (e22 .0); fit = e23 .0; fits = ltb-false _ _ (e24 .0); result = e24 .1 }
 
+pub change-none : (room : ℕ) (s old new : List ℕ) → Passed room s old new → changeFault room s old new ≡ 0
+unfolding changeFault
+change-none room s old new p =
+    then-go _ _ (p .table) ∙ when-no 22 _ (ne-eqb _ _ (p .seen)) ∙ when-no 23 _ (p .fit) ∙ result-read room _ (p .fits) ∙ p .result
+
 -- the save
 module _ (buffer : List ℕ) (used : ℕ) (old new : List ℕ) where
   pub save-beyond : length buffer < used → saveFault buffer used old new ≡ 1
