@@ -1,4 +1,5 @@
--- An accepted change: one record is another, and every other record is as it was. Assumes nothing.
+-- What a change does to the records: a record over itself nothing; an accepted one makes one record another, and can be
+-- changed back. Assumes nothing.
 use Prim.Native.Nat.{ℕ, _+_, _<_, _≤_}
 use native.Mathlib.Omega.{arith}
 use mathlib.Core.Path.{_≡_, refl, ap, sym, subst, _∙_}
@@ -19,10 +20,12 @@ use Rattle.table.specs.declared.Mark.the-variants.{Chain, Task, End, Other}
 use Rattle.table.specs.declared.Table.{Table}
 use Rattle.search.proofs.Choice.{true-not-false}
 use Rattle.table.proofs.Firsts.{none-or}
-use Rattle.saving.specs.Save.{tableOf, recordOf, seenOf, isChain, unfit, splice, resultOf}
+use Rattle.saving.specs.Save.{tableOf, readFault, recordOf, seenOf, isChain, unfit, splice, resultOf}
 use Rattle.saving.proofs.Same.{same-yes, same-true}
+use Rattle.saving.proofs.Splices.{splice-same}
 use Rattle.saving.proofs.Verdicts.{read-accepted}
-use Rattle.saving.proofs.Seen.{seen-le, seen-is, seen-record}
+use Rattle.saving.proofs.Stored.{record-is}
+use Rattle.saving.proofs.Seen.{seen-le, seen-is, seen-by, seen-record}
 use Rattle.saving.proofs.Faults.{Passed}
 use Rattle.saving.proofs.Splits.{Whole, Split, rowIn, map-set}
 use Rattle.saving.proofs.Parsed.{split-rows}
@@ -52,10 +55,40 @@ unfolding unfit
 whole-fit r id w e = rw (le-ltb (length r) 16 (omega (arith, w .long)), w .mark, eq-eqb _ _ (w .long), eq-eqb _ _ e)
 
 -- the result by its parts
-pub result-splice : (s old new : List ℕ) → resultOf s old new ≡ splice s (placeOf (tableOf s) (seenOf s old)) (size (rowOf (tableOf s) (seenOf s old))) new
+result-splice : (s old new : List ℕ) → resultOf s old new ≡ splice s (placeOf (tableOf s) (seenOf s old)) (size (rowOf (tableOf s) (seenOf s old))) new
 unfolding resultOf
 result-splice s old new = refl
 
+-- a stored record over itself
+module _ (s : List ℕ) (none : readFault s ≡ 0) where
+  module _ (k : ℕ) (l : k < tableOf s .count) where
+    own-seen : seenOf s (recordOf s k) < tableOf s .count
+    own-seen = omega (arith, l, seen-by s (tableOf s) (read-accepted s none) (recordOf s k) k l refl)
+
+    own-there : recordOf s (seenOf s (recordOf s k)) ≡ recordOf s k
+    own-there = seen-record s (tableOf s) (read-accepted s none) (recordOf s k) own-seen
+
+    pub own-result : resultOf s (recordOf s k) (recordOf s k) ≡ s
+    own-result =
+        let j = seenOf s (recordOf s k) in
+        result-splice s (recordOf s k) (recordOf s k)
+        ∙ ap (splice s (placeOf (tableOf s) j) (size (rowOf (tableOf s) j))) (sym own-there ∙ record-is s (tableOf s) (read-accepted s none) j)
+        ∙ splice-same s (placeOf (tableOf s) j) (size (rowOf (tableOf s) j))
+
+  pub own-passes : Bytes s → (k : ℕ) (l : k < tableOf s .count) (room : ℕ) → length s ≤ room → Passed room s (recordOf s k) (recordOf s k)
+  own-passes bytes k l room h =
+      let read = read-accepted s none in
+      let j = seenOf s (recordOf s k) in
+      record {
+        table = none;
+        seen = λ z. omega (arith, z, own-seen k l);
+        fit = subst (λ (q : List ℕ). unfit q (rowOf (tableOf s) j .id) ≡ false) (own-there k l)
+            (whole-fit (recordOf s j) _ (record-whole s (tableOf s) read bytes j (own-seen k l)) (record-id s (tableOf s) read bytes j (own-seen k l)));
+        fits = rw (own-result k l) h;
+        result = rw (own-result k l) none;
+      }
+
+-- an accepted change
 module _ (room : ℕ) (s old new : List ℕ) (p : Passed room s old new) (bytes : Bytes s) (new-bytes : Bytes new) where
   abbrev t : Table
   t = tableOf s
@@ -69,7 +102,7 @@ module _ (room : ℕ) (s old new : List ℕ) (p : Passed room s old new) (bytes 
   pub was-read : readTable s ≡ accepted t
   was-read = read-accepted s (p .table)
 
-  pub is-read : readTable result ≡ accepted (tableOf result)
+  is-read : readTable result ≡ accepted (tableOf result)
   is-read = read-accepted result (p .result)
 
   pub is-seen : k < t .count
@@ -78,10 +111,10 @@ module _ (room : ℕ) (s old new : List ℕ) (p : Passed room s old new) (bytes 
   pub seen-old : recordOf s k ≡ old
   seen-old = seen-record s t was-read old is-seen
 
-  pub new-whole : Whole new
+  new-whole : Whole new
   new-whole = fit-whole new _ (p .fit) .0
 
-  pub new-id : idAt new 0 ≡ rowOf t k .id
+  new-id : idAt new 0 ≡ rowOf t k .id
   new-id = fit-whole new _ (p .fit) .1
 
   -- the result is the old records but for one
@@ -123,15 +156,15 @@ module _ (room : ℕ) (s old new : List ℕ) (p : Passed room s old new) (bytes 
   old-whole : Whole old
   old-whole = subst Whole seen-old (record-whole s t was-read bytes k is-seen)
 
-  pub old-id : idAt old 0 ≡ rowOf t k .id
+  old-id : idAt old 0 ≡ rowOf t k .id
   old-id = ap (λ (r : List ℕ). idAt r 0) (sym seen-old) ∙ record-id s t was-read bytes k is-seen
 
-  pub id-kept : rowOf (tableOf result) k .id ≡ rowOf t k .id
+  id-kept : rowOf (tableOf result) k .id ≡ rowOf t k .id
   id-kept =
       sym (record-id result (tableOf result) is-read result-bytes k (omega (arith, is-seen, count-kept)))
       ∙ ap (λ (r : List ℕ). idAt r 0) record-changed ∙ new-id
 
-  pub new-seen : seenOf result new ≡ k
+  new-seen : seenOf result new ≡ k
   new-seen =
       let there : k < tableOf result .count = omega (arith, is-seen, count-kept) in
       seen-is result (tableOf result) is-read new k there (same-yes _ new record-changed)

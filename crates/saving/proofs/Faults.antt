@@ -12,6 +12,8 @@ use Rattle.table.specs.declared.Table.{Table}
 use Rattle.search.proofs.Choice.{when-yes, when-no}
 use Rattle.table.proofs.Firsts.{then-stop, then-go, then-zero, when-zero}
 use Rattle.saving.specs.Save.{tableOf, readFault, seenOf, unfit, resultOf, resultFault, changeFault, saveFault, answerOf, written, savedOf, bufferAfter, Saves}
+use Rattle.saving.specs.Judged.{Judged}
+use Rattle.saving.specs.declared.Change.{Change}
 use Rattle.saving.specs.declared.Saved.the-variants.{Used, Refused}
 use Rattle.saving.proofs.Stored.{table-is}
 
@@ -89,3 +91,7 @@ module _ (buffer : List ℕ) (used : ℕ) (old new : List ℕ) where
       → Saves buffer used old new (Used (length (resultOf (take used buffer) old new))) (written buffer used (resultOf (take used buffer) old new))
   unfolding savedOf bufferAfter answerOf _when_else_
   accepts e = record { answers = rw e; leaves = rw e }
+
+-- a refusal hands on its number alone
+pub judged-refused : (f : ℕ) (result : List ℕ) (c : Change) → c .fault ≡ f → (f ≡ 0 → ⊥) → Judged f result c
+judged-refused f result c e h = record { fault = e; size = λ z. absurd (h z); bytes = λ z. absurd (h z) }

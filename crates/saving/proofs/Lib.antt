@@ -4,7 +4,6 @@ pub mod Verdicts
 pub mod Stored
 pub mod Seen
 pub mod Faults
-pub mod Judging
 pub mod Alike
 pub mod Splits
 pub mod Parsed

@@ -5,9 +5,8 @@ use native.Mathlib.Omega.{arith}
 use native.Mathlib.Decide.{ℕ-discrete}
 use mathlib.Core.Path.{_≡_, refl, ap, ap₂, sym, subst, _∙_}
 use mathlib.Core.List.{List, [], _∷_}
-use mathlib.Core.Bool.{false}
 use mathlib.Core.Logic.{_⊎_, inl, inr, ⊎-elim}
-use lib.ListN.{length, getD, set, length-take}
+use lib.ListN.{length, getD, set}
 use lib.Seq.{length-take-le}
 use Rattle.search.specs.Lists.{All}
 use Rattle.search.proofs.Choice.{lt-or-le}
@@ -16,21 +15,19 @@ use Rattle.table.specs.Bytes.{Bytes}
 use Rattle.table.specs.Record.{idAt}
 use Rattle.table.specs.Find.{rowOf, rows}
 use Rattle.table.specs.Read.{accepted, readTable}
-use Rattle.table.specs.Place.{size, placeOf}
-use Rattle.saving.specs.Save.{numberOf, tableOf, saveFault, recordOf, seenOf, unfit, splice, resultOf, changeFault, answerOf, written, savedOf, Saves}
+use Rattle.saving.specs.Save.{numberOf, tableOf, saveFault, recordOf, seenOf, resultOf, changeFault, answerOf, written, savedOf, Saves}
 use Rattle.saving.specs.Later.{State, stored, Holding, Edit, answer, after, afterAll, Never}
 use Rattle.saving.specs.declared.Saved.{Saved}
 use Rattle.saving.specs.declared.Saved.the-variants.{Used, Refused}
 use Rattle.saving.proofs.Same.{same-true}
-use Rattle.saving.proofs.Splices.{splice-same, written-same}
+use Rattle.saving.proofs.Splices.{written-same}
 use Rattle.saving.proofs.Verdicts.{read-accepted, read-out}
-use Rattle.saving.proofs.Stored.{record-is}
-use Rattle.saving.proofs.Seen.{seen-none, seen-by, seen-record}
+use Rattle.saving.proofs.Seen.{seen-none}
 use Rattle.saving.proofs.Faults.{Passed, change-unread, change-unseen, save-beyond, save-within, refuses}
 use Rattle.saving.proofs.Splits.{rowIn}
-use Rattle.saving.proofs.Records.{record-whole, record-id, record-alone}
+use Rattle.saving.proofs.Records.{record-id, record-alone}
 use Rattle.saving.proofs.After.{saved-number, bytes-take, passed-accepted, used-within, all-passed, after-answer, after-buffer, after-used, after-stored, after-length, after-holding}
-use Rattle.saving.proofs.Changes.{whole-fit, result-splice, was-read, is-seen, seen-old, count-kept, record-changed, record-kept, rows-kept, result-back, back-passes}
+use Rattle.saving.proofs.Changes.{own-result, own-passes, was-read, is-seen, seen-old, count-kept, record-changed, record-kept, rows-kept, result-back, back-passes}
 
 -- two results that the contract allows are equal
 pub one-result : {buffer old new : List ℕ} {used : ℕ} {r q : Saved} {a b : List ℕ} → Saves buffer used old new r a → Saves buffer used old new q b → (r ≡ q) × (a ≡ b)
@@ -72,6 +69,20 @@ reads-back x e bytes new-bytes ok =
       replaced = rw (after-stored x e ok) (rows-kept _ (stored x) (e .old) (e .new) p s new-bytes);
     }
 
+-- saving the record that is there changes nothing
+abbrev pub own : State → ℕ → Edit
+own x k = record { old = recordOf (stored x) k; new = recordOf (stored x) k }
+
+pub own-saved : (x : State) → Holding x → (k : ℕ) → k < tableOf (stored x) .count → (answer x (own x k) ≡ Used (x .used)) × (after x (own x k) ≡ x)
+own-saved x h k l =
+    let n = length-take-le (x .used) (x .buffer) (h .within) in
+    let passes = own-passes (stored x) (h .right) (bytes-take (x .used) (x .buffer) (h .bytes)) k l (length (x .buffer)) (omega (arith, n, h .within)) in
+    let same-result = own-result (stored x) (h .right) k l in
+    let taken = passed-accepted x (own x k) (h .within) passes in
+    let same-used = after-answer x (own x k) taken ∙ ap Used (ap length same-result ∙ n) in
+    let same-buffer = after-buffer x (own x k) taken ∙ ap (written (x .buffer) (x .used)) same-result ∙ written-same (x .buffer) (x .used) (h .within) in
+    (same-used, rw (same-buffer, same-used))
+
 module _ (x : State) (h : Holding x) where
   abbrev s : List ℕ
   s = stored x
@@ -81,50 +92,6 @@ module _ (x : State) (h : Holding x) where
 
   bytes : Bytes s
   bytes = bytes-take (x .used) (x .buffer) (h .bytes)
-
-  -- saving the record that is there changes nothing
-  module _ (k : ℕ) (l : k < tableOf s .count) where
-    abbrev r : List ℕ
-    r = recordOf s k
-
-    abbrev j : ℕ
-    j = seenOf s r
-
-    there : j < tableOf s .count
-    there = omega (arith, l, seen-by s (tableOf s) read r k l refl)
-
-    is-r : recordOf s j ≡ r
-    is-r = seen-record s (tableOf s) read r there
-
-    result-same : resultOf s r r ≡ s
-    result-same =
-        result-splice s r r
-        ∙ ap (splice s (placeOf (tableOf s) j) (size (rowOf (tableOf s) j))) (sym is-r ∙ record-is s (tableOf s) read j)
-        ∙ splice-same s (placeOf (tableOf s) j) (size (rowOf (tableOf s) j))
-
-    same-passes : Passed (length (x .buffer)) s r r
-    same-passes = record {
-      table = h .right;
-      seen = λ z. omega (arith, z, there);
-      fit = subst (λ (q : List ℕ). unfit q (rowOf (tableOf s) j .id) ≡ false) is-r
-          (whole-fit (recordOf s j) _ (record-whole s (tableOf s) read bytes j there) (record-id s (tableOf s) read bytes j there));
-      fits = rw (result-same, length-take) (omega arith);
-      result = rw result-same (h .right);
-    }
-
-    abbrev same-again : Edit
-    same-again = record { old = r; new = r }
-
-    taken : numberOf (answer x same-again) ≡ 0
-    taken = passed-accepted x same-again (h .within) same-passes
-
-    pub same-answer : answer x same-again ≡ Used (x .used)
-    same-answer = after-answer x same-again taken ∙ ap Used (ap length result-same ∙ length-take-le (x .used) (x .buffer) (h .within))
-
-    pub same-leaves : after x same-again ≡ x
-    same-leaves =
-        let b = after-buffer x same-again taken ∙ ap (written (x .buffer) (x .used)) result-same ∙ written-same (x .buffer) (x .used) (h .within) in
-        rw (b, same-answer)
 
   -- a save whose old record is none of the stored ones is refused with 22
   pub unseen-refused : (e : Edit) → ((k : ℕ) → k < tableOf s .count → recordOf s k ≡ e .old → ⊥) → answer x e ≡ Refused 22

@@ -13,8 +13,7 @@ use Rattle.table.specs.declared.Reading.{Reading}
 use Rattle.saving.specs.Save.{splice}
 use Rattle.saving.proofs.Splices.{splice-length}
 use Rattle.saving.proofs.Verdicts.{read-out}
-use Rattle.saving.proofs.Faults.{result-long, result-read}
-use Rattle.saving.proofs.Judging.{judged-refused}
+use Rattle.saving.proofs.Faults.{result-long, result-read, judged-refused}
 use Rattle.saving.proofs.judge.result.Statement.{statement}
 use Rattle.saving.proofs.judge.result.Tie as tie
 
