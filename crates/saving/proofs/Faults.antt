@@ -12,6 +12,8 @@ use Rattle.table.specs.declared.Table.{Table}
 use Rattle.search.proofs.Choice.{when-yes, when-no}
 use Rattle.table.proofs.Firsts.{then-stop, then-go, then-zero, when-zero}
 use Rattle.saving.specs.Save.{tableOf, readFault, seenOf, unfit, resultOf, resultFault, changeFault, saveFault, answerOf, written, savedOf, bufferAfter, Saves}
+use Rattle.saving.specs.Judged.{Judged}
+use Rattle.saving.specs.declared.Change.{Change}
 use Rattle.saving.specs.declared.Saved.the-variants.{Used, Refused}
 use Rattle.saving.proofs.Stored.{table-is}
 
@@ -64,6 +66,11 @@ passed room s old new e =
     let e24 = when-zero 23 _ _ (e23 .1) in
     record { table = e1 .0; seen = eqb-false _ _ (e22 .0); fit = e23 .0; fits = ltb-false _ _ (e24 .0); result = e24 .1 }
 
+pub change-none : (room : ℕ) (s old new : List ℕ) → Passed room s old new → changeFault room s old new ≡ 0
+unfolding changeFault
+change-none room s old new p =
+    then-go _ _ (p .table) ∙ when-no 22 _ (ne-eqb _ _ (p .seen)) ∙ when-no 23 _ (p .fit) ∙ result-read room _ (p .fits) ∙ p .result
+
 -- the save
 module _ (buffer : List ℕ) (used : ℕ) (old new : List ℕ) where
   pub save-beyond : length buffer < used → saveFault buffer used old new ≡ 1
@@ -84,3 +91,7 @@ module _ (buffer : List ℕ) (used : ℕ) (old new : List ℕ) where
       → Saves buffer used old new (Used (length (resultOf (take used buffer) old new))) (written buffer used (resultOf (take used buffer) old new))
   unfolding savedOf bufferAfter answerOf _when_else_
   accepts e = record { answers = rw e; leaves = rw e }
+
+-- a refusal hands on its number alone
+pub judged-refused : (f : ℕ) (result : List ℕ) (c : Change) → c .fault ≡ f → (f ≡ 0 → ⊥) → Judged f result c
+judged-refused f result c e h = record { fault = e; size = λ z. absurd (h z); bytes = λ z. absurd (h z) }

@@ -4,4 +4,10 @@ pub mod Verdicts
 pub mod Stored
 pub mod Seen
 pub mod Faults
-pub mod Judging
+pub mod Alike
+pub mod Splits
+pub mod Parsed
+pub mod Records
+pub mod After
+pub mod Changes
+pub mod Promises

@@ -5,14 +5,15 @@ use mathlib.Core.Path.{_≡_, ap, sym, _∙_}
 use mathlib.Core.List.{List}
 use mathlib.Core.Bool.{true}
 use lib.ListN.{length}
-use Rattle.search.proofs.Find.{first-le, first-hit, first-is, first-none}
+use Rattle.search.proofs.Choice.{true-not-false}
+use Rattle.search.proofs.Find.{first-le, first-hit, first-miss, first-is, first-none}
 use Rattle.table.specs.Bytes.{Bytes}
 use Rattle.table.specs.Find.{rowOf}
 use Rattle.table.specs.Read.{accepted, readTable}
 use Rattle.table.specs.Place.{size, placeOf}
 use Rattle.table.specs.declared.Table.{Table}
 use Rattle.saving.specs.Save.{tableOf, same, recordOf, seenOf, splice, resultOf}
-use Rattle.saving.proofs.Same.{same-true}
+use Rattle.saving.proofs.Same.{same-true, same-yes}
 use Rattle.saving.proofs.Stored.{table-is, record-size}
 
 module _ (s : List ℕ) (t : Table) (read : readTable s ≡ accepted t) (old : List ℕ) where
@@ -37,6 +38,13 @@ module _ (s : List ℕ) (t : Table) (read : readTable s ≡ accepted t) (old : L
   pub seen-record : seenOf s old < t .count → recordOf s (seenOf s old) ≡ old
   unfolding seenOf
   seen-record h = same-true _ old (first-hit (λ j. same (recordOf s j) old) 0 (tableOf s .count) (omega (arith, h, ap (λ (t : Table). t .count) (table-is s t read))))
+
+  -- a stored record is seen, no later than where it stands
+  pub seen-by : (k : ℕ) → k < t .count → recordOf s k ≡ old → seenOf s old ≤ k
+  unfolding seenOf
+  seen-by k h e =
+      let n : ¬ (k < seenOf s old) = λ l. true-not-false (same-yes _ old e) (first-miss (λ j. same (recordOf s j) old) 0 (tableOf s .count) k (omega arith) l) in
+      omega arith
 
   -- so the result is the new one in its place
   pub result-is : Bytes s → seenOf s old < t .count → (new : List ℕ) → splice s (placeOf t (seenOf s old)) (length old) new ≡ resultOf s old new

@@ -3,13 +3,25 @@ use Prim.Native.Nat.{ℕ, max, _+_, _-_, _<_, _≤_}
 use native.Mathlib.Omega.{arith}
 use mathlib.Core.Path.{_≡_, refl}
 use mathlib.Core.List.{List, _++_, append-assoc, append-nil}
-use lib.ListN.{length, take, drop, replicate, length-append, length-take, length-drop, length-replicate, replicate-append-replicate}
-use lib.Seq.{take-at, drop-at, drop-drop}
+use lib.ListN.{length, take, drop, replicate, length-append, length-take, length-drop, length-replicate, replicate-append-replicate, take-append-drop}
+use lib.Seq.{length-take-le, take-at, drop-at, take-add, drop-drop}
 use Rattle.table.specs.Record.{pad}
 use Rattle.saving.specs.Save.{splice, written}
 
 pub splice-length : (s : List ℕ) (at n : ℕ) (new : List ℕ) → at + n ≤ length s → length (splice s at n new) ≡ length s - n + length new
 splice-length s at n new h = simp (length-append, length-take, length-drop) (omega arith)
+
+-- bytes in their own place change nothing
+pub splice-same : (s : List ℕ) (at n : ℕ) → splice s at n (take n (drop at s)) ≡ s
+splice-same s at n = rw (← take-add at n s) (take-append-drop (at + n) s)
+
+pub written-same : (buffer : List ℕ) (used : ℕ) → used ≤ length buffer → written buffer used (take used buffer) ≡ buffer
+unfolding written
+written-same buffer used h =
+    let l = length-take-le used buffer h in
+    let z : used - used ≡ 0 = omega arith in
+    let m : max used used ≡ used = omega arith in
+    rw (l, z, m, append-nil) (take-append-drop used buffer)
 
 -- a list filled up with 0, and more put after what is there
 pub pad-length : (m : ℕ) (l : List ℕ) → length l ≤ m → length (pad m l) ≡ m

@@ -4,10 +4,10 @@ use native.Mathlib.Omega.{arith}
 use mathlib.Core.Path.{_≡_, refl}
 use mathlib.Core.List.{List}
 use mathlib.Core.Bool.{_||_}
-use mathlib.Core.Logic.{⊎-elim}
+use mathlib.Core.Logic.{_⊎_, inr, ⊎-elim}
 use lib.ListN.{length}
 use lib.Dec.{eqb, ltb}
-use borrow.Author.Tests.{lt-ltb}
+use borrow.Author.Tests.{lt-ltb, eq-eqb}
 use Rattle.search.proofs.Choice.{when-cases, lt-or-le}
 use Rattle.table.specs.Limits.{maxChains, maxBytes}
 use Rattle.table.specs.Bytes.{word}
@@ -18,7 +18,7 @@ use Rattle.table.specs.declared.Table.{Table}
 use Rattle.table.specs.declared.Reading.{Reading}
 use Rattle.table.specs.declared.Mark.{Mark}
 use Rattle.table.specs.declared.Mark.the-variants.{Chain, Task, End, Other}
-use Rattle.table.proofs.Firsts.{or-right}
+use Rattle.table.proofs.Firsts.{or-left, or-right}
 use Rattle.table.proofs.Steps.{read-long}
 use Rattle.saving.specs.Save.{tableOf, readFault}
 
@@ -62,9 +62,9 @@ module _ (s : List ℕ) (none : readFault s ≡ 0) where
   unfolding Right
   read-accepted = right s none
 
--- a table beyond the limit is refused with 1
-pub read-beyond : (s : List ℕ) → maxBytes < length s → readFault s ≡ 1
-read-beyond s h = rw (read-long s (or-right (eqb (length s) 0) (ltb maxBytes (length s)) (lt-ltb _ _ h)))
+-- a table without a byte, or beyond the limit, is refused with 1
+pub read-out : (s : List ℕ) → (length s ≡ 0) ⊎ (maxBytes < length s) → readFault s ≡ 1
+read-out s h = rw (read-long s (⊎-elim (λ z. or-left _ (ltb maxBytes (length s)) (eq-eqb _ _ z)) (λ z. or-right (eqb (length s) 0) _ (lt-ltb _ _ z)) h))
 
 pub read-within : (s : List ℕ) → readFault s ≡ 0 → length s ≤ maxBytes
-read-within s e = ⊎-elim (λ h. absurd (omega (arith, e, read-beyond s h))) (λ h. h) (lt-or-le maxBytes (length s))
+read-within s e = ⊎-elim (λ h. absurd (omega (arith, e, read-out s (inr h)))) (λ h. h) (lt-or-le maxBytes (length s))

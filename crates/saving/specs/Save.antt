@@ -36,7 +36,7 @@ tableOf s = readTable s .table
 abbrev pub readFault : List ℕ → ℕ
 readFault s = verdictNumber (readTable s .verdict)
 
--- the two are the same in every byte
+-- the two have the same bytes
 unfoldable pub same : List ℕ → List ℕ → Bool
 same [] [] = true
 same [] (b ∷ t) = false
@@ -47,7 +47,7 @@ same (a ∷ s) (b ∷ t) = eqb a b && same s t
 unfoldable pub recordOf : List ℕ → ℕ → List ℕ
 recordOf s k = take (size (rowOf (tableOf s) k)) (drop (placeOf (tableOf s) k) s)
 
--- the chain whose stored record equals the old one, the count of chains if none does
+-- the number of the first chain whose stored record equals the old one, the count of chains if none does
 unfoldable pub seenOf : List ℕ → List ℕ → ℕ
 seenOf s old = first (λ k. same (recordOf s k) old) 0 (tableOf s .count)
 
@@ -71,7 +71,7 @@ splice s at n new = take at s ++ new ++ drop (at + n) s
 unfoldable pub resultOf : List ℕ → List ℕ → List ℕ → List ℕ
 resultOf s old new = splice s (placeOf (tableOf s) (seenOf s old)) (size (rowOf (tableOf s) (seenOf s old))) new
 
--- longer than the buffer's room, then 1 to 11 on the result
+-- the result is longer than the buffer, which has that much room; then 1 to 11 on the result
 unfoldable pub resultFault : ℕ → List ℕ → ℕ
 resultFault room result = 24 when ltb room (length result) else readFault result
 
@@ -106,6 +106,7 @@ unfoldable pub bufferAfter : List ℕ → ℕ → List ℕ → List ℕ → List
 bufferAfter buffer used old new =
     written buffer used (resultOf (take used buffer) old new) when eqb (saveFault buffer used old new) 0 else buffer
 
+-- what a save does
 pub record Saves (buffer : List ℕ) (used : ℕ) (old new : List ℕ) (answer : Saved) (after : List ℕ) : Type 0 where
   pub answers : answer ≡ savedOf buffer used old new
   pub leaves : after ≡ bufferAfter buffer used old new

@@ -68,6 +68,7 @@ fn unfit(new: &[u8], id: u16) -> bool
     table::u16_at(new, 2) != id
 }
 
+// A refusal carries no byte of a result.
 fn refused(fault: u32) -> Change
     ensures { λ r. ⌜ r .fault ≡ fault ⌝ }
 {

@@ -1,9 +1,6 @@
 // Saving one record (document 01, 'Saving one record'): an edit made from an old copy never overwrites a newer one, and a
 // refused save changes nothing. The result is judged before the first byte is written.
 use table::Table;
-ghost use mathlib.Core.Path.{_≡_};
-ghost use Prim.Native.Nat.{_≤_};
-ghost use lib.ListN.{length};
 ghost use Rattle.saving.specs.Save.{Saves};
 
 mod judge;
@@ -12,20 +9,20 @@ mod slices;
 use judge::judged;
 use slices::store;
 
+// What a save answers: the new used length, or the refusal.
 pub enum Saved {
     Used(u32),
     Refused(u32),
 }
 
 // What a save comes to: its fault, 0 for none, and where there is none the table's bytes afterwards, `length` of them.
-pub struct Change {
-    pub fault: u32,
-    pub length: usize,
-    pub bytes: [u8; Table::BYTES],
+struct Change {
+    fault: u32,
+    length: usize,
+    bytes: [u8; Table::BYTES],
 }
 
 // Replaces the record `old`, as the editor saw it, by `new`, in the table that is the first `used` bytes of the buffer.
-// Answers the new used length, or the refusal.
 pub fn save(buffer: &mut [u8], used: u64, old: &[u8], new: &[u8]) -> Saved
     ensures { λ r. ⌜ Saves (now (buffer .entry)) used (now (old .entry)) (now (new .entry)) r (now (buffer .exit)) ⌝ }
 {

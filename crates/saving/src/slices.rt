@@ -1,9 +1,8 @@
 // Byte slices: compared, copied and cleared.
 use table::Table;
 ghost use mathlib.Core.Path.{_≡_};
-ghost use mathlib.Core.List.{_++_};
-ghost use Prim.Native.Nat.{_+_, _-_, _≤_};
-ghost use lib.ListN.{length, take, drop, replicate};
+ghost use Prim.Native.Nat.{_+_, _≤_};
+ghost use lib.ListN.{length, replicate};
 ghost use Rattle.table.specs.Limits.{maxBytes};
 ghost use Rattle.table.specs.Record.{pad};
 ghost use Rattle.saving.specs.Save.{same as sameOf, splice, written};

@@ -16,9 +16,12 @@ use Rattle.saving.proofs.save.Statement.{statement}
 use Rattle.saving.proofs.save.Tie as tie
 
 -- the judgement's fault is the save's
-faulty : (c : tie.After-judged) → saveFault (now (c .before .before .before .before .before .before .args .buffer)) (c .before .before .before .before .before .before .args .used) (now (c .before .before .before .before .before .before .args .old)) (now (c .before .before .before .before .before .before .args .new)) ≡ c .judged .result .fault
+abbrev fault : tie.Start → ℕ
+fault c = saveFault (now (c .args .buffer)) (c .args .used) (now (c .args .old)) (now (c .args .new))
+
+faulty : (c : tie.After-judged) → c .judged .result .fault ≡ fault (c .before .before .before .before .before .before)
 faulty c = let a = c .before .before .before .before .before .before .args in
-    save-within (now (a .buffer)) (a .used) (now (a .old)) (now (a .new)) (c .before .before .if1 .left) ∙ sym (c .judged .ensures .fault)
+    rw (save-within (now (a .buffer)) (a .used) (now (a .old)) (now (a .new)) (c .before .before .if1 .left)) (c .judged .ensures .fault)
 
 -- Where there is none
 
@@ -58,7 +61,7 @@ same-length c = search needs
 
 returns-2 : tie.Need-returns-2
 returns-2 c = let a = c .before .before .before .before .before .before .before .args in
-    refuses (now (a .buffer)) (a .used) (now (a .old)) (now (a .new)) (c .before .judged .result .fault) (faulty (c .before)) (c .if2 .taken)
+    refuses (now (a .buffer)) (a .used) (now (a .old)) (now (a .new)) (c .before .judged .result .fault) (sym (faulty (c .before))) (c .if2 .taken)
 
 array-share-prefix-bytes : tie.Need-array-share-prefix-bytes
 array-share-prefix-bytes c = let e = c .before .before in
@@ -84,7 +87,7 @@ returns-3 : tie.Need-returns-3
 returns-3 c = let e = c .before .before .before .before .before .before in
     let a = start e .args in
     rw (e .before .judged .ensures .size (none e), c .before .before .store .ensures, begins e)
-    (accepts (now (a .buffer)) (a .used) (now (a .old)) (now (a .new)) (faulty (e .before) ∙ e .if2 .left))
+    (accepts (now (a .buffer)) (a .used) (now (a .old)) (now (a .new)) (sym (faulty (e .before)) ∙ e .if2 .left))
 
 pub save-spec : {M : Type 1} → statement M
 save-spec =

@@ -16,8 +16,7 @@ use Rattle.saving.specs.Save.{readFault, seenOf, unfit}
 use Rattle.saving.proofs.Verdicts.{read-accepted, read-within}
 use Rattle.saving.proofs.Stored.{stored-good, stored-holds, record-size}
 use Rattle.saving.proofs.Seen.{seen-le, seen-record, result-is}
-use Rattle.saving.proofs.Faults.{change-unread, change-unseen, change-unfit, change-result}
-use Rattle.saving.proofs.Judging.{judged-refused}
+use Rattle.saving.proofs.Faults.{change-unread, change-unseen, change-unfit, change-result, judged-refused}
 use Rattle.saving.proofs.judge.judged.Statement.{statement}
 use Rattle.saving.proofs.judge.judged.Tie as tie
 

@@ -2,6 +2,7 @@
 use Prim.Native.Nat.{ℕ, _+_, _-_}
 use mathlib.Core.Path.{_≡_, ap, sym, _∙_}
 use mathlib.Core.List.{List}
+use mathlib.Core.Logic.{inr}
 use denote.Ref.{now}
 use lib.ListN.{length, take}
 use lib.Seq.{take-at}
@@ -11,9 +12,8 @@ use Rattle.table.specs.Read.{numberOf, readTable}
 use Rattle.table.specs.declared.Reading.{Reading}
 use Rattle.saving.specs.Save.{splice}
 use Rattle.saving.proofs.Splices.{splice-length}
-use Rattle.saving.proofs.Verdicts.{read-beyond}
-use Rattle.saving.proofs.Faults.{result-long, result-read}
-use Rattle.saving.proofs.Judging.{judged-refused}
+use Rattle.saving.proofs.Verdicts.{read-out}
+use Rattle.saving.proofs.Faults.{result-long, result-read, judged-refused}
 use Rattle.saving.proofs.judge.result.Statement.{statement}
 use Rattle.saving.proofs.judge.result.Tie as tie
 
@@ -51,7 +51,7 @@ refused-requires-2 c κs = search needs
 returns-2 : tie.Need-returns-2
 returns-2 c = let s = c .before .before .before .before .before in
     let e = made-length s in
-    rw (result-read (s .args .room) (made s) (omega (arith, e, c .before .before .if1 .left)), read-beyond (made s) (omega (arith, e, c .before .if2 .taken)))
+    rw (result-read (s .args .room) (made s) (omega (arith, e, c .before .before .if1 .left)), read-out (made s) (inr (omega (arith, e, c .before .if2 .taken))))
     (judged-refused 1 (made s) (c .refused2 .result) (c .refused2 .ensures) (λ z. omega (arith, z)))
 
 spliced-requires : tie.Need-spliced-requires

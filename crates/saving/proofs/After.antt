@@ -1,0 +1,119 @@
+-- One save: what its answer says, and what the next save finds. Assumes nothing.
+use Prim.Native.Nat.{ℕ, zero, suc, max, _+_, _-_, _≤_}
+use native.Mathlib.Omega.{arith}
+use mathlib.Core.Path.{_≡_, refl, ap, sym, _∙_}
+use mathlib.Core.List.{List, [], _∷_, _++_, append-assoc}
+use lib.ListN.{length, take, drop, replicate, length-append, length-drop, length-replicate}
+use lib.Seq.{take-at, getD-drop}
+use lib.Dec.{eqb}
+use borrow.Author.Tests.{ltb-false, ne-eqb}
+use Rattle.search.specs.Choice.{_when_else_}
+use Rattle.table.specs.Bytes.{Bytes}
+use Rattle.table.specs.Find.{rowOf}
+use Rattle.table.specs.Place.{size, placeOf}
+use Rattle.search.proofs.Choice.{when-yes, when-no}
+use Rattle.table.proofs.Firsts.{when-zero}
+use Rattle.saving.specs.Save.{numberOf, figuresOf, tableOf, seenOf, resultOf, saveFault, answerOf, written, savedOf}
+use Rattle.saving.specs.Later.{State, stored, Holding, Edit, usedAfter, answer, after}
+use Rattle.saving.specs.declared.Saved.the-variants.{Used}
+use Rattle.saving.proofs.Faults.{Passed, passed, change-none, save-within, accepts}
+
+-- the answer in the paper's terms: the fault's number, and the new used length where there is none
+module _ (buffer : List ℕ) (used : ℕ) (old new : List ℕ) where
+  pub saved-number : numberOf (savedOf buffer used old new) ≡ saveFault buffer used old new
+  unfolding savedOf answerOf
+  saved-number = by (saveFault buffer used old new)
+    where
+      by : (f : ℕ) → numberOf (answerOf f (length (resultOf (take used buffer) old new))) ≡ f
+      by zero = refl
+      by (suc f) = refl
+
+  pub saved-figures : figuresOf (savedOf buffer used old new) ≡ (length (resultOf (take used buffer) old new) ∷ [] when eqb (saveFault buffer used old new) 0 else [])
+  unfolding savedOf answerOf
+  saved-figures = by (saveFault buffer used old new)
+    where
+      by : (f : ℕ) → figuresOf (answerOf f (length (resultOf (take used buffer) old new))) ≡ (length (resultOf (take used buffer) old new) ∷ [] when eqb f 0 else [])
+      by zero = sym (when-yes _ [] refl)
+      by (suc f) = sym (when-no _ [] (ne-eqb (suc f) 0 (λ z. omega (arith, z))))
+
+-- bytes
+pub bytes-append : (a b : List ℕ) → Bytes a → Bytes b → Bytes (a ++ b)
+bytes-append [] b ha hb k = hb k
+bytes-append (x ∷ a) b ha hb zero = ha 0
+bytes-append (x ∷ a) b ha hb (suc k) = bytes-append a b (λ j. ha (suc j)) hb k
+
+pub bytes-take : (n : ℕ) (l : List ℕ) → Bytes l → Bytes (take n l)
+bytes-take zero l h k = omega arith
+bytes-take (suc n) [] h k = omega arith
+bytes-take (suc n) (x ∷ l) h zero = h 0
+bytes-take (suc n) (x ∷ l) h (suc k) = bytes-take n l (λ j. h (suc j)) k
+
+pub bytes-drop : (n : ℕ) (l : List ℕ) → Bytes l → Bytes (drop n l)
+bytes-drop n l h k = rw getD-drop (h (n + k))
+
+bytes-zeros : (n : ℕ) → Bytes (replicate n 0)
+bytes-zeros zero k = omega arith
+bytes-zeros (suc n) zero = omega arith
+bytes-zeros (suc n) (suc k) = bytes-zeros n k
+
+pub bytes-result : (s old new : List ℕ) → Bytes s → Bytes new → Bytes (resultOf s old new)
+unfolding resultOf
+bytes-result s old new h w =
+    let at = placeOf (tableOf s) (seenOf s old) in
+    let n = size (rowOf (tableOf s) (seenOf s old)) in
+    bytes-append (take at s ++ new) (drop (at + n) s) (bytes-append (take at s) new (bytes-take at s h) w) (bytes-drop (at + n) s h)
+
+module _ (x : State) (e : Edit) where
+  abbrev result : List ℕ
+  result = resultOf (stored x) (e .old) (e .new)
+
+  -- a save that passes every test is accepted
+  pub passed-accepted : x .used ≤ length (x .buffer) → Passed (length (x .buffer)) (stored x) (e .old) (e .new) → numberOf (answer x e) ≡ 0
+  passed-accepted h p =
+      saved-number (x .buffer) (x .used) (e .old) (e .new) ∙ save-within (x .buffer) (x .used) (e .old) (e .new) h
+      ∙ change-none (length (x .buffer)) (stored x) (e .old) (e .new) p
+
+  module _ (taken : numberOf (answer x e) ≡ 0) where
+    no-fault : saveFault (x .buffer) (x .used) (e .old) (e .new) ≡ 0
+    no-fault = sym (saved-number (x .buffer) (x .used) (e .old) (e .new)) ∙ taken
+
+    -- an accepted one passed every test
+    pub used-within : x .used ≤ length (x .buffer)
+    unfolding saveFault
+    used-within = ltb-false _ _ (when-zero 0 _ _ no-fault .0)
+
+    pub all-passed : Passed (length (x .buffer)) (stored x) (e .old) (e .new)
+    all-passed = passed _ _ _ _ (sym (save-within (x .buffer) (x .used) (e .old) (e .new) used-within) ∙ no-fault)
+
+    -- it answers the result's length, and the result is written
+    pub after-answer : answer x e ≡ Used (length result)
+    after-answer = sym (accepts (x .buffer) (x .used) (e .old) (e .new) no-fault .answers)
+
+    pub after-buffer : after x e .buffer ≡ written (x .buffer) (x .used) result
+    after-buffer = sym (accepts (x .buffer) (x .used) (e .old) (e .new) no-fault .leaves)
+
+    pub after-used : after x e .used ≡ length result
+    after-used = ap (usedAfter (x .used)) after-answer
+
+    -- the next save finds the result, in a buffer as long, of bytes
+    pub after-stored : stored (after x e) ≡ result
+    unfolding written
+    after-stored = rw (after-used, after-buffer, append-assoc) (take-at result _ (length result) refl)
+
+    pub after-length : length (after x e .buffer) ≡ length (x .buffer)
+    unfolding written
+    after-length = rw after-buffer (simp (length-append, length-replicate, length-drop) (omega (arith, all-passed .fits, used-within)))
+
+    pub after-bytes : Bytes (x .buffer) → Bytes (e .new) → Bytes (after x e .buffer)
+    unfolding written
+    after-bytes h w =
+        rw after-buffer
+        (bytes-append (result ++ replicate (x .used - length result) 0) (drop (max (x .used) (length result)) (x .buffer))
+        (bytes-append result (replicate (x .used - length result) 0) (bytes-result (stored x) (e .old) (e .new) (bytes-take (x .used) (x .buffer) h) w) (bytes-zeros (x .used - length result))) (bytes-drop (max (x .used) (length result)) (x .buffer) h))
+
+    pub after-holding : Bytes (x .buffer) → Bytes (e .new) → Holding (after x e)
+    after-holding h w = record {
+      bytes = after-bytes h w;
+      within = omega (arith, after-length, after-used, all-passed .fits);
+      right = rw after-stored (all-passed .result);
+    }
