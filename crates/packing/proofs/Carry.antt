@@ -15,7 +15,7 @@ use Rattle.search.proofs.Choice.{lt-or-le, when-cases, true-not-false}
 use Rattle.packing.specs.Packing.{bit, sum, usable, Packing, Reached}
 use Rattle.packing.specs.Most.{mostUses}
 use Rattle.packing.proofs.Sums.{is, sum-ext, sum-mono, sum-scale, sum-swap, sum-is, sum-zero, sum-some}
-use Rattle.packing.proofs.Weights.{usable-some}
+use Rattle.packing.proofs.Linear.{usable-some}
 use Rattle.packing.proofs.Most.{most-greatest}
 
 -- how often x is used where each use of m becomes one of `turn m`

@@ -14,7 +14,7 @@ use Rattle.search.proofs.Choice.{true-not-false, lt-or-le}
 use Rattle.packing.specs.Packing.{bit, sum, usable, Packing, Reached}
 use Rattle.packing.specs.Most.{mostUses}
 use Rattle.packing.proofs.Sums.{sum-mono, sum-zero, sum-bound, sum-some}
-use Rattle.packing.proofs.Weights.{usable-some}
+use Rattle.packing.proofs.Linear.{usable-some}
 use Rattle.packing.proofs.Most.{most-greatest, most-room}
 use Rattle.packing.proofs.Carry.{Carries, carries-most}
 

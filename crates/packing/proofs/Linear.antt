@@ -9,7 +9,7 @@ use Rattle.search.proofs.Choice.{true-not-false}
 use Rattle.packing.specs.Packing.{bit, sum, usable}
 use Rattle.packing.proofs.Sums.{sum-mono, sum-ext, sum-scale, sum-swap, sum-at}
 use Rattle.packing.proofs.Bits.{some-bit}
-use Rattle.packing.proofs.Reach.{Below}
+use Rattle.packing.proofs.Plain.{Below}
 
 uses-weigh : (d v x : ℕ) → (0 < v → d ≤ x) → d * v ≤ v * x
 uses-weigh d zero x h = omega arith
