@@ -1,0 +1,62 @@
+-- One combination more: d stays where m is not kept or weighs no less.
+use mathlib.Core.Path.{sym, _∙_}
+use native.Mathlib.Omega.{arith}
+use borrow.Author.Needs.{needs}
+use borrow.Author.Tests.{ne-eqb}
+use Rattle.search.proofs.Choice.{true-not-false}
+use Rattle.packing.specs.Packing.{bit}
+use Rattle.packing.specs.Most.{flagged, capacity}
+use Rattle.packing.proofs.Laws.{usable-bad}
+use Rattle.packing.proofs.Cut.{floor-on, weight-ext}
+use Rattle.packing.proofs.weights.lower.Statement.{statement}
+use Rattle.packing.proofs.weights.lower.Tie as tie
+use Rattle.packing.proofs.weights.lower.Reads as reads
+use Rattle.packing.proofs.weights.lower.Lts as lts
+use Rattle.packing.proofs.masks.bits.Reads as bits-reads
+use Rattle.packing.proofs.weights.weigh.Reads as weigh-reads
+use Rattle.packing.proofs.weights.wide.Reads as wide-reads
+
+element-copy-out-if1 : tie.Need-element-copy-out-if1
+element-copy-out-if1 c = search needs
+
+returns : tie.Need-returns
+returns c =
+    let s = c .before .before in
+    λ f. floor-on f (omega arith) (λ u. absurd (true-not-false (usable-bad (flagged (s .args .kept .now)) (s .args .m) u) (ne-eqb _ 1 (c .if1 .taken))))
+
+bits-requires : tie.Need-bits-requires
+bits-requires c κs = search needs
+
+weigh-requires : tie.Need-weigh-requires
+weigh-requires c κs = search needs
+
+wide-requires : tie.Need-wide-requires
+wide-requires c κs = search needs
+
+cast-result : tie.Need-cast-result
+cast-result c = search needs
+
+returns-2 : tie.Need-returns-2
+returns-2 c =
+    let s = c .before .before .before .before .before .before .before in
+    let b = c .before .before .before .before .bits in
+    λ f. floor-on f (omega arith) (λ u. omega (arith, c .before .before .weigh .ensures .0, weight-ext (s .args .shares .now) (s .args .v) (capacity (b .result)) (λ i. bit i (s .args .m)) (b .ensures)))
+
+returns-3 : tie.Need-returns-3
+returns-3 c =
+    let s = c .before .before .before .before .before .before .before in
+    let b = c .before .before .before .before .bits in
+    λ f. floor-on f (omega arith) (λ u. omega (arith, c .before .before .weigh .ensures .0, weight-ext (s .args .shares .now) (s .args .v) (capacity (b .result)) (λ i. bit i (s .args .m)) (b .ensures)))
+
+pub lower-spec : {M : Type 1} → statement M
+lower-spec =
+    tie.close
+    (tie.spec
+    element-copy-out-if1
+    returns
+    bits-requires
+    weigh-requires
+    wide-requires
+    cast-result
+    returns-2
+    returns-3)
