@@ -9,15 +9,77 @@ table's length (2 bytes), the table. The kinds and their six numbers, 0 where on
 
   0 reading   none; the number is 0 for an accepted table, else its refusal
   1 segment   chain, against, number, offset, length
+  2 latency   id, K, latency, late, margin + 10,000,000
 
 Each different table of any file gives a case of kind 0. Its verdict is worked out here, by a reader written from document 01,
-and held against what the case says. Cases of refusal 27 speak of the answer buffer, which these queries do not have.
+and held against what the case says. Cases of refusal 27 speak of the answer buffer, which these queries do not have. After
+the cases of the files come those that document 01 and the published case study tell, and some at the edges, held here.
 """
 import json
 import struct
 import sys
 
 TIME = 10_000_000
+
+
+def chain(id, kind, overload, deadline, gap, distances, tasks):
+    head = struct.pack("<2sHBBIIBB", b"CH", id, kind, overload, deadline, gap, len(distances), len(tasks))
+    return (head + b"".join(struct.pack("<I", d) for d in distances)
+            + b"".join(struct.pack("<2sHI", b"TK", priority, cost) for priority, cost in tasks))
+
+
+def stored(*chains):
+    return b"".join(chains) + struct.pack("<2sH", b"EN", len(chains))
+
+
+# The sample table of document 01.
+SAMPLE = stored(
+    chain(1, 0, 0, 40, 100, [100], [(5, 10), (3, 10)]),
+    chain(2, 0, 0, 100, 50, [50], [(9, 5)]),
+    chain(3, 1, 1, 500, 0, [1000], [(8, 6), (1, 4), (7, 10)]),
+    chain(4, 0, 1, 300, 0, [1000], [(6, 12)]))
+
+# 'At the edge': ten tasks of 1,000,000; and one tick more from a free interferer.
+LONG = chain(1, 0, 0, 10_000_000, 0, [10_000_000], [(5, 1_000_000)] * 10)
+EDGE = stored(LONG)
+PAST = stored(LONG, chain(2, 0, 0, 1, 0, [10_000_000], [(9, 1)]))
+
+# The published case study.
+STUDY = stored(
+    chain(4, 0, 0, 200, 200, [200], [(11, 38), (10, 6), (9, 27), (5, 6), (2, 38)]),
+    chain(3, 0, 0, 200, 200, [200], [(8, 4), (7, 6), (1, 41)]),
+    chain(2, 0, 1, 1000, 0, [600], [(13, 10), (12, 10), (6, 10)]),
+    chain(1, 0, 1, 1000, 0, [700], [(4, 10), (3, 10)]))
+
+
+def backlog(cost):
+    """B(q) = 10 q + cost and δ(q + 1) = 11 q, so the windows close at q = cost; B(q) − δ(q) = cost + 11 − q."""
+    return stored(chain(1, 0, 0, 100, 0, [11], [(5, 10)]), chain(2, 0, 1, 100, 0, [9_000_000], [(6, cost)]))
+
+
+# Leading zeros: bursts of three every 100. B(1) = 10, B(2) = 20 and B(3) = 30, where δ(2) = δ(3) = 0 and δ(4) = 100; the
+# chain below it waits for all three.
+BURSTS = stored(
+    chain(1, 0, 0, 15, 0, [0, 0, 100], [(5, 10)]),
+    chain(2, 0, 0, 40, 0, [100], [(1, 5)]))
+
+# (table, id, number, K, latency, late, margin)
+LATENCIES = [
+    (SAMPLE, 1, 0, 1, 64, 1, -24),
+    (SAMPLE, 2, 0, 1, 5, 0, 95),
+    (SAMPLE, 3, 0, 1, 62, 0, 438),
+    (SAMPLE, 4, 0, 1, 39, 0, 261),
+    (SAMPLE, 5, 12, 0, 0, 0, 0),
+    (SAMPLE, 65537, 12, 0, 0, 0, 0),
+    (EDGE, 1, 0, 1, 10_000_000, 0, 0),
+    (PAST, 1, 16, 0, 0, 0, 0),
+    (STUDY, 3, 0, 2, 331, 1, -131),
+    (STUDY, 4, 0, 1, 175, 0, 25),
+    (backlog(1024), 1, 0, 1024, 1034, 934, -934),
+    (backlog(1025), 1, 17, 0, 0, 0, 0),
+    (BURSTS, 1, 0, 3, 30, 2, -15),
+    (BURSTS, 2, 0, 1, 35, 0, 5),
+]
 
 
 def number(s, at, width):
@@ -132,11 +194,19 @@ def segments(folder):
             for case in cases(folder, "segment") if case["rc"] != 27]
 
 
+def latencies(folder):
+    figures = [(bytes.fromhex(case["table"]), case["id"], case["rc"], *struct.unpack("<IIIi", bytes.fromhex(case["after"])[:16]))
+               if case["rc"] == 0 else (bytes.fromhex(case["table"]), case["id"], case["rc"], 0, 0, 0, 0)
+               for case in cases(folder, "latency") if case["rc"] != 27]
+    return [packed(2, number, [ident, k, latency, late, margin + TIME] if number == 0 else [ident], table)
+            for table, ident, number, k, latency, late, margin in figures + LATENCIES]
+
+
 def main():
     if len(sys.argv) != 3:
         sys.exit(__doc__)
     folder = sys.argv[2]
-    everything = readings(folder) + segments(folder)
+    everything = readings(folder) + segments(folder) + latencies(folder)
     with open(sys.argv[1], "wb") as out:
         out.write(b"".join(everything))
     print(f"{len(everything)} cases")

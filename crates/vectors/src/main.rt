@@ -77,11 +77,41 @@ fn segment_right(s: &[u8], c: Case) -> bool {
     }
 }
 
+fn wide(x: u32) -> i64 {
+    x as i64
+}
+
+// A margin as it is packed: 10,000,000 are added, so that it is not negative.
+fn lifted(margin: i32) -> i64 {
+    margin as i64 + 10_000_000
+}
+
+// The figures of the chain `values[0]`: K, latency, late and margin.
+fn latency_right(s: &[u8], c: Case) -> bool {
+    let answer = windows::latency(s, c.values[0]);
+    match answer {
+        windows::Answer::Figures {
+            k,
+            latency,
+            late,
+            margin,
+        } => {
+            c.number == 0
+                && k == c.values[1]
+                && latency == c.values[2]
+                && late == c.values[3]
+                && lifted(margin) == wide(c.values[4])
+        }
+        windows::Answer::Refused(n) => n == c.number,
+    }
+}
+
 fn right(s: &[u8], c: Case) -> bool {
     let kind = c.kind;
     match kind {
         0 => reading_right(s, c),
         1 => segment_right(s, c),
+        2 => latency_right(s, c),
         _ => false,
     }
 }

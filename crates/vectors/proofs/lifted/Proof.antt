@@ -9,8 +9,8 @@ use mir.Val.{SFits, toZ, ofZ}
 use mir.Facts.{sfits-widen, toZ-ofZ}
 use native.Mathlib.Omega.{arith}
 use borrow.Author.Needs.{needs}
-use Rattle.latency_vectors.proofs.lifted.Statement.{statement}
-use Rattle.latency_vectors.proofs.lifted.Tie as tie
+use Rattle.vectors.proofs.lifted.Statement.{statement}
+use Rattle.vectors.proofs.lifted.Tie as tie
 
 sum-fits : (z : ℤ) → SFits w32 z → SFits w64 (z +ℤ pos 10000000)
 sum-fits (pos n) h = record { sfits = omega (arith, h .sfits) }
