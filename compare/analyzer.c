@@ -678,11 +678,14 @@ static void pack(struct packing *packing, unsigned from, unsigned uses)
 
 static unsigned most_uses(const struct overload *overload, const uint8_t *bad, unsigned count)
 {
-    struct packing packing = {0};
+    struct packing packing;
+    packing.count = packing.best = 0;
+    memset(packing.room, 0, sizeof packing.room);
+    memset(packing.cuts, 0, sizeof packing.cuts);
     keep_smallest(bad, count, &packing);
     for (unsigned i = 0; i < overload->count; i++)
         packing.room[i] = (unsigned)overload->bit[i].capacity;
-    for (unsigned weights = 1; weights < WEIGHINGS; weights++)
+    for (unsigned weights = 1; weights < 1u << 2 * overload->count; weights++)
         note_cuts(&packing, weights);
     pack(&packing, 0, 0);
     return packing.best;
