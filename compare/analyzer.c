@@ -1,0 +1,936 @@
+/* The analyzer in plain C11. Section names are those of document 01. */
+#include "analyzer.h"
+
+#include <assert.h>
+#include <inttypes.h>
+#include <stdbool.h>
+#include <stdio.h>
+#include <string.h>
+
+enum {
+    MOST_CHAINS = 16,
+    MOST_TASKS = 16,
+    MOST_TASKS_IN_ALL = 64,
+    MOST_LISTED = 8,
+    MOST_COST = 1000000,
+    MOST_TIME = 10000000, /* of a deadline, a gap, a distance */
+    HORIZON = 10000000,
+    MOST_ACTIVATIONS = 1024,
+    MOST_RUN = 1000,
+    MOST_OVERLOAD_SEGMENTS = 6,
+    MOST_CAPACITY = 40,
+    MOST_BYTES = 1284,
+    FIXED_BYTES = 16,
+    TASK_BYTES = 8,
+    END_BYTES = 4,
+    LONGEST_RECORD = FIXED_BYTES + 255 * 4 + 255 * TASK_BYTES
+};
+
+struct task {
+    uint32_t priority, cost;
+};
+
+struct chain {
+    uint32_t id, deadline, gap;
+    bool asynchronous, overload;
+    unsigned listed, tasks;
+    uint32_t distance[MOST_LISTED];
+    struct task task[MOST_TASKS];
+    size_t at, tasks_at, end; /* where the record, its tasks and what follows stand in the table */
+};
+
+struct table {
+    unsigned chains;
+    struct chain chain[MOST_CHAINS];
+};
+
+/* ---- Stored table ---- */
+
+static uint32_t number16(const uint8_t *at) { return at[0] | (uint32_t)at[1] << 8; }
+
+static uint32_t number32(const uint8_t *at) { return number16(at) | number16(at + 2) << 16; }
+
+static bool is_mark(const uint8_t *at, const char *mark) { return at[0] == mark[0] && at[1] == mark[1]; }
+
+/* Whether the bytes from `at` hold `wanted` more. */
+static bool there(size_t length, size_t at, size_t wanted) { return length - at >= wanted; }
+
+static bool id_used(const struct table *table, uint32_t id)
+{
+    for (unsigned i = 0; i < table->chains; i++)
+        if (table->chain[i].id == id)
+            return true;
+    return false;
+}
+
+static unsigned tasks_so_far(const struct table *table)
+{
+    unsigned sum = 0;
+    for (unsigned i = 0; i < table->chains; i++)
+        sum += table->chain[i].tasks;
+    return sum;
+}
+
+/* The fields of a chain's fixed part, in their order. `table` holds the chains before it. */
+static uint32_t read_fixed_part(const uint8_t *at, const struct table *table, struct chain *chain)
+{
+    chain->id = number16(at + 2);
+    if (chain->id == 0 || id_used(table, chain->id))
+        return 4;
+    if (at[4] > 1 || at[5] > 1)
+        return 5;
+    chain->asynchronous = at[4] == 1;
+    chain->overload = at[5] == 1;
+    chain->deadline = number32(at + 6);
+    if (chain->deadline < 1 || chain->deadline > MOST_TIME)
+        return 6;
+    chain->gap = number32(at + 10);
+    if (chain->gap > MOST_TIME)
+        return 7;
+    chain->listed = at[14];
+    if (chain->listed < 1 || chain->listed > MOST_LISTED)
+        return 8;
+    chain->tasks = at[15];
+    if (chain->tasks < 1 || chain->tasks > MOST_TASKS || tasks_so_far(table) + chain->tasks > MOST_TASKS_IN_ALL)
+        return 9;
+    return 0;
+}
+
+/* The listed distances: distance[i] is that of i + 2 activations. */
+static uint32_t read_list(const uint8_t *at, struct chain *chain)
+{
+    for (unsigned i = 0; i < chain->listed; i++) {
+        chain->distance[i] = number32(at + 4 * i);
+        if (chain->distance[i] > MOST_TIME)
+            return 8;
+        if (i > 0 && chain->distance[i] < chain->distance[i - 1])
+            return 8;
+        if (chain->gap != 0 && (uint64_t)chain->gap * (i + 1) < chain->distance[i])
+            return 8;
+    }
+    return chain->distance[chain->listed - 1] == 0 ? 8 : 0;
+}
+
+static uint32_t read_task(const uint8_t *bytes, size_t length, size_t at, struct task *task)
+{
+    if (!there(length, at, 2))
+        return 2;
+    if (!is_mark(bytes + at, "TK"))
+        return 3;
+    if (!there(length, at, TASK_BYTES))
+        return 2;
+    task->priority = number16(bytes + at + 2);
+    task->cost = number32(bytes + at + 4);
+    return task->priority == 0 || task->cost < 1 || task->cost > MOST_COST ? 10 : 0;
+}
+
+/* The chain record at `at`, whose mark has been seen. */
+static uint32_t read_chain(const uint8_t *bytes, size_t length, size_t at, struct table *table)
+{
+    if (table->chains == MOST_CHAINS)
+        return 11;
+    if (!there(length, at, FIXED_BYTES))
+        return 2;
+    struct chain *chain = &table->chain[table->chains];
+    chain->at = at;
+    uint32_t fault = read_fixed_part(bytes + at, table, chain);
+    if (fault)
+        return fault;
+    at += FIXED_BYTES;
+    if (!there(length, at, 4 * chain->listed))
+        return 2;
+    fault = read_list(bytes + at, chain);
+    if (fault)
+        return fault;
+    at += 4 * chain->listed;
+    chain->tasks_at = at;
+    for (unsigned i = 0; i < chain->tasks; i++) {
+        fault = read_task(bytes, length, at, &chain->task[i]);
+        if (fault)
+            return fault;
+        at += TASK_BYTES;
+    }
+    chain->end = at;
+    table->chains++;
+    return 0;
+}
+
+static uint32_t read_end(const uint8_t *bytes, size_t length, size_t at, const struct table *table)
+{
+    if (!there(length, at, END_BYTES))
+        return 2;
+    if (table->chains == 0 || number16(bytes + at + 2) != table->chains || at + END_BYTES != length)
+        return 11;
+    return 0;
+}
+
+/* Refusals 1 to 11 of `length` bytes; 0 and the table where there is none. */
+static uint32_t read_table(const uint8_t *bytes, size_t length, struct table *table)
+{
+    table->chains = 0;
+    if (length == 0 || length > MOST_BYTES)
+        return 1;
+    size_t at = 0;
+    for (;;) {
+        if (!there(length, at, 2))
+            return 2;
+        if (is_mark(bytes + at, "EN"))
+            return read_end(bytes, length, at, table);
+        if (!is_mark(bytes + at, "CH"))
+            return 3;
+        uint32_t fault = read_chain(bytes, length, at, table);
+        if (fault)
+            return fault;
+        at = table->chain[table->chains - 1].end;
+    }
+}
+
+/* The chain of an id, or NULL. */
+static const struct chain *find_chain(const struct table *table, uint32_t id)
+{
+    for (unsigned i = 0; i < table->chains; i++)
+        if (table->chain[i].id == id)
+            return &table->chain[i];
+    return NULL;
+}
+
+/* ---- Arrivals ---- */
+
+/* δ(n), for n from 1. */
+static uint64_t smallest_distance(const struct chain *chain, uint64_t n)
+{
+    uint64_t whole_lists = (n - 1) / chain->listed;
+    uint64_t rest = (n - 1) % chain->listed;
+    uint64_t last = chain->distance[chain->listed - 1];
+    return whole_lists * last + (rest == 0 ? 0 : chain->distance[rest - 1]);
+}
+
+/* η(t), or `most` where it is larger: the greatest n with δ(n) < t, found by walking. */
+static uint64_t arrivals_up_to(const struct chain *chain, uint64_t t, uint64_t most)
+{
+    if (t == 0)
+        return 0;
+    uint64_t n = 1;
+    while (n < most && smallest_distance(chain, n + 1) < t)
+        n++;
+    return n;
+}
+
+/* η(t). */
+static uint64_t arrivals(const struct chain *chain, uint64_t t) { return arrivals_up_to(chain, t, UINT64_MAX); }
+
+/* ---- Segments against chain b ---- */
+
+/* Tasks `first` up to, not including, `end`. */
+struct stretch {
+    unsigned first, end;
+};
+
+struct active_segment {
+    struct stretch tasks;
+    unsigned segment; /* the segment of its chain that it is part of */
+};
+
+static uint32_t floor_of(const struct chain *b)
+{
+    uint32_t lowest = b->task[0].priority;
+    for (unsigned i = 1; i < b->tasks; i++)
+        if (b->task[i].priority < lowest)
+            lowest = b->task[i].priority;
+    return lowest;
+}
+
+static uint32_t tail_of(const struct chain *b) { return b->task[b->tasks - 1].priority; }
+
+static uint64_t cost_of_stretch(const struct chain *chain, struct stretch stretch)
+{
+    uint64_t sum = 0;
+    for (unsigned i = stretch.first; i < stretch.end; i++)
+        sum += chain->task[i].cost;
+    return sum;
+}
+
+static uint64_t cost_of_chain(const struct chain *chain)
+{
+    return cost_of_stretch(chain, (struct stretch){0, chain->tasks});
+}
+
+/* The first task from `from` on that lies below the floor, or the number of tasks. */
+static unsigned first_below(const struct chain *a, unsigned from, uint32_t floor)
+{
+    while (from < a->tasks && a->task[from].priority >= floor)
+        from++;
+    return from;
+}
+
+static bool is_deferred(const struct chain *a, uint32_t floor) { return first_below(a, 0, floor) < a->tasks; }
+
+static uint64_t first_segment_cost(const struct chain *a, uint32_t floor)
+{
+    return cost_of_stretch(a, (struct stretch){0, first_below(a, 0, floor)});
+}
+
+/* b's own tasks before the first one at its floor. */
+static uint64_t own_first_part(const struct chain *b)
+{
+    return first_segment_cost(b, floor_of(b) + 1);
+}
+
+/* The longest stretches at or above the floor that end at a's last task; how many there are. */
+static unsigned cut_stretches(const struct chain *a, uint32_t floor, struct stretch stretches[MOST_TASKS])
+{
+    unsigned count = 0;
+    unsigned at = 0;
+    while (at < a->tasks) {
+        unsigned end = first_below(a, at, floor);
+        if (end > at)
+            stretches[count++] = (struct stretch){at, end};
+        at = end + 1;
+    }
+    return count;
+}
+
+/* Whether the last stretch and the first one are the same segment, the last task being followed by the first. */
+static bool last_meets_first(const struct chain *a, const struct stretch *stretches, unsigned count)
+{
+    return count > 1 && stretches[0].first == 0 && stretches[count - 1].end == a->tasks;
+}
+
+/* The cost of every segment of a; how many there are. */
+static unsigned segment_costs(const struct chain *a, uint32_t floor, uint64_t costs[MOST_TASKS])
+{
+    struct stretch stretches[MOST_TASKS];
+    unsigned count = cut_stretches(a, floor, stretches);
+    for (unsigned i = 0; i < count; i++)
+        costs[i] = cost_of_stretch(a, stretches[i]);
+    if (last_meets_first(a, stretches, count)) {
+        costs[0] += costs[count - 1];
+        count--;
+    }
+    return count;
+}
+
+/* The active segments of a against b, in task order; how many there are. */
+static unsigned cut_active_segments(const struct chain *a, const struct chain *b, struct active_segment cut[MOST_TASKS])
+{
+    struct stretch stretches[MOST_TASKS];
+    unsigned count = 0;
+    unsigned stretch_count = cut_stretches(a, floor_of(b), stretches);
+    bool meet = last_meets_first(a, stretches, stretch_count);
+    for (unsigned s = 0; s < stretch_count; s++) {
+        unsigned segment = meet && s == stretch_count - 1 ? 0 : s;
+        unsigned first = stretches[s].first;
+        for (unsigned i = first + 1; i <= stretches[s].end; i++) {
+            if (i < stretches[s].end && a->task[i].priority >= tail_of(b))
+                continue;
+            cut[count++] = (struct active_segment){{first, i}, segment};
+            first = i;
+        }
+    }
+    return count;
+}
+
+/* ---- Windows ---- */
+
+/* What another chain brings to b's windows: this much with each arrival, and this much once. */
+struct interference {
+    const struct chain *chain;
+    uint64_t each, once;
+};
+
+/* Everything b's windows are made of. */
+struct load {
+    const struct chain *b;
+    uint64_t cost, own_first_part;
+    unsigned count;
+    struct interference other[MOST_CHAINS];
+    uint64_t extra; /* a combination's cost */
+};
+
+struct figures {
+    uint64_t K, latency, late, last_window;
+};
+
+static struct interference interference_of(const struct chain *a, const struct chain *b)
+{
+    uint32_t floor = floor_of(b);
+    struct interference found = {a, 0, 0};
+    if (!is_deferred(a, floor)) {
+        found.each = cost_of_chain(a);
+        return found;
+    }
+    uint64_t costs[MOST_TASKS];
+    unsigned count = segment_costs(a, floor, costs);
+    if (a->asynchronous)
+        found.each = first_segment_cost(a, floor);
+    for (unsigned i = 0; i < count; i++) {
+        if (a->asynchronous)
+            found.once += costs[i];
+        else if (costs[i] > found.once)
+            found.once = costs[i];
+    }
+    return found;
+}
+
+/* b's load by the other chains, with or without the overload chains. */
+static struct load load_of(const struct table *table, const struct chain *b, bool with_overload)
+{
+    struct load load = {.b = b, .cost = cost_of_chain(b)};
+    if (b->asynchronous)
+        load.own_first_part = own_first_part(b);
+    for (unsigned i = 0; i < table->chains; i++) {
+        const struct chain *a = &table->chain[i];
+        if (a != b && (with_overload || !a->overload))
+            load.other[load.count++] = interference_of(a, b);
+    }
+    return load;
+}
+
+static uint64_t demand(const struct load *load, uint64_t q, uint64_t t)
+{
+    uint64_t sum = q * load->cost + load->extra;
+    if (load->own_first_part > 0) {
+        uint64_t arrived = arrivals(load->b, t);
+        if (arrived > q)
+            sum += (arrived - q) * load->own_first_part;
+    }
+    for (unsigned i = 0; i < load->count; i++) {
+        const struct interference *other = &load->other[i];
+        if (other->each > 0)
+            sum += arrivals(other->chain, t) * other->each;
+        sum += other->once;
+    }
+    return sum;
+}
+
+/* The least t in 1..horizon equal to its demand, or 0 where there is none. Demand never falls as t grows,
+   so climbing from 1 meets the least one first. */
+static uint64_t window(const struct load *load, uint64_t q)
+{
+    uint64_t t = 1;
+    while (t <= HORIZON) {
+        uint64_t needed = demand(load, q, t);
+        if (needed == t)
+            return t;
+        t = needed;
+    }
+    return 0;
+}
+
+static void count_window(struct figures *figures, const struct chain *b, uint64_t q, uint64_t length)
+{
+    uint64_t response = length - smallest_distance(b, q);
+    if (response > figures->latency)
+        figures->latency = response;
+    if (response > b->deadline)
+        figures->late++;
+    figures->K = q;
+    figures->last_window = length;
+}
+
+/* The windows of q = 1, 2, .. up to K: 0, 16 or 17. */
+static uint32_t analyze(const struct table *table, const struct chain *b, struct figures *figures)
+{
+    struct load load = load_of(table, b, true);
+    *figures = (struct figures){0};
+    for (uint64_t q = 1; q <= MOST_ACTIVATIONS; q++) {
+        uint64_t length = window(&load, q);
+        if (length == 0)
+            return 16;
+        count_window(figures, b, q, length);
+        if (length <= smallest_distance(b, q + 1))
+            return 0;
+    }
+    return 17;
+}
+
+/* ---- Misses ---- */
+
+/* One bit of a combination. */
+struct overload_segment {
+    const struct chain *chain;
+    unsigned segment;
+    uint64_t cost, capacity;
+};
+
+struct overload {
+    unsigned count;
+    struct overload_segment bit[MOST_OVERLOAD_SEGMENTS];
+};
+
+/* The active segments of the overload chains, in table order: 0 or 18. */
+static uint32_t gather_overload(const struct table *table, const struct chain *b, struct overload *overload)
+{
+    overload->count = 0;
+    for (unsigned i = 0; i < table->chains; i++) {
+        const struct chain *a = &table->chain[i];
+        struct active_segment cut[MOST_TASKS];
+        if (!a->overload)
+            continue;
+        unsigned count = cut_active_segments(a, b, cut);
+        for (unsigned n = 0; n < count; n++) {
+            if (overload->count == MOST_OVERLOAD_SEGMENTS)
+                return 18;
+            overload->bit[overload->count++] =
+                (struct overload_segment){a, cut[n].segment, cost_of_stretch(a, cut[n].tasks), 0};
+        }
+    }
+    return 0;
+}
+
+/* Whether any overload chain may start more than once in the last window. */
+static bool overload_starts_again(const struct table *table, uint64_t last_window)
+{
+    for (unsigned i = 0; i < table->chains; i++)
+        if (table->chain[i].overload && arrivals_up_to(&table->chain[i], last_window, 2) > 1)
+            return true;
+    return false;
+}
+
+static bool holds(unsigned combination, unsigned bit) { return combination >> bit & 1; }
+
+/* Active segments of one chain must all be from one of its segments. */
+static bool is_allowed(const struct overload *overload, unsigned combination)
+{
+    for (unsigned i = 0; i < overload->count; i++)
+        for (unsigned j = 0; j < i; j++)
+            if (holds(combination, i) && holds(combination, j) && overload->bit[i].chain == overload->bit[j].chain &&
+                overload->bit[i].segment != overload->bit[j].segment)
+                return false;
+    return true;
+}
+
+static uint64_t cost_of_combination(const struct overload *overload, unsigned combination)
+{
+    uint64_t sum = 0;
+    for (unsigned i = 0; i < overload->count; i++)
+        if (holds(combination, i))
+            sum += overload->bit[i].cost;
+    return sum;
+}
+
+/* Whether some q up to K misses the deadline under a combination. `load` is without the overload chains. */
+static bool is_bad(struct load load, uint64_t K, uint64_t combination_cost)
+{
+    load.extra = combination_cost;
+    for (uint64_t q = 1; q <= K; q++) {
+        uint64_t length = window(&load, q);
+        assert(length != 0); /* never longer than the window with every overload chain */
+        if (length > smallest_distance(load.b, q) + load.b->deadline)
+            return true;
+    }
+    return false;
+}
+
+/* The bad combinations among all that are allowed; how many there are. */
+static unsigned gather_bad(const struct load *load, uint64_t K, const struct overload *overload, uint8_t bad[64])
+{
+    unsigned count = 0;
+    for (unsigned combination = 0; combination < 1u << overload->count; combination++)
+        if (is_allowed(overload, combination) && is_bad(*load, K, cost_of_combination(overload, combination)))
+            bad[count++] = (uint8_t)combination;
+    return count;
+}
+
+/* Capacities for a run that reaches this far; whether all are within 40. */
+static bool set_capacities(struct overload *overload, uint64_t reach)
+{
+    for (unsigned i = 0; i < overload->count; i++) {
+        overload->bit[i].capacity = arrivals_up_to(overload->bit[i].chain, reach, MOST_CAPACITY) + 1;
+        if (overload->bit[i].capacity > MOST_CAPACITY)
+            return false;
+    }
+    return true;
+}
+
+/* ---- The greatest packing ---- */
+
+enum {
+    MOST_SETS = 20, /* of six places, none inside another */
+    WEIGHINGS = 1 << 2 * MOST_OVERLOAD_SEGMENTS
+};
+
+/* Each set from some point on weighs at least this much under these weights. */
+struct cut {
+    uint16_t weights, least;
+};
+
+struct packing {
+    unsigned count; /* of sets */
+    uint8_t set[MOST_SETS];
+    unsigned room[MOST_OVERLOAD_SEGMENTS]; /* what is left of the capacities */
+    unsigned best;
+    unsigned cuts[MOST_SETS];
+    struct cut cut[MOST_SETS][WEIGHINGS];
+};
+
+/* Only sets without a smaller one inside: a use of the larger can always be a use of the smaller instead. */
+static void keep_smallest(const uint8_t *bad, unsigned count, struct packing *packing)
+{
+    for (unsigned i = 0; i < count; i++) {
+        bool smallest = true;
+        for (unsigned j = 0; j < count; j++)
+            if (j != i && (bad[j] & bad[i]) == bad[j])
+                smallest = false;
+        if (smallest)
+            packing->set[packing->count++] = bad[i];
+    }
+}
+
+/* Weights of 0 to 3, two bits for each place. */
+static unsigned weight_at(unsigned weights, unsigned place) { return weights >> 2 * place & 3; }
+
+static unsigned weight_of_set(unsigned weights, unsigned set)
+{
+    unsigned sum = 0;
+    for (unsigned i = 0; i < MOST_OVERLOAD_SEGMENTS; i++)
+        if (holds(set, i))
+            sum += weight_at(weights, i);
+    return sum;
+}
+
+static unsigned weight_of_room(unsigned weights, const unsigned *room)
+{
+    unsigned sum = 0;
+    for (unsigned i = 0; i < MOST_OVERLOAD_SEGMENTS; i++)
+        sum += weight_at(weights, i) * room[i];
+    return sum;
+}
+
+static unsigned weighed_places(unsigned weights)
+{
+    unsigned set = 0;
+    for (unsigned i = 0; i < MOST_OVERLOAD_SEGMENTS; i++)
+        if (weight_at(weights, i) > 0)
+            set |= 1u << i;
+    return set;
+}
+
+/* Notes these weights for every set from which on they say something and none of them could be lower. */
+static void note_cuts(struct packing *packing, unsigned weights)
+{
+    unsigned least = UINT32_MAX;
+    unsigned in_least = 0;
+    for (unsigned from = packing->count; from-- > 0;) {
+        unsigned weight = weight_of_set(weights, packing->set[from]);
+        if (weight < least) {
+            least = weight;
+            in_least = 0;
+        }
+        if (weight == least)
+            in_least |= packing->set[from];
+        if (least > 0 && (weighed_places(weights) & ~in_least) == 0)
+            packing->cut[from][packing->cuts[from]++] = (struct cut){(uint16_t)weights, (uint16_t)least};
+    }
+}
+
+/* No more uses of the sets from `from` on fit than this: together they weigh no more than the room. */
+static unsigned bound(const struct packing *packing, unsigned from)
+{
+    unsigned lowest = UINT32_MAX;
+    for (unsigned i = 0; i < packing->cuts[from]; i++) {
+        struct cut cut = packing->cut[from][i];
+        unsigned most = weight_of_room(cut.weights, packing->room) / cut.least;
+        if (most < lowest)
+            lowest = most;
+    }
+    return lowest;
+}
+
+/* How often a set can be used in the room that is left. */
+static unsigned room_for(const struct packing *packing, unsigned set)
+{
+    unsigned least = UINT32_MAX;
+    for (unsigned i = 0; i < MOST_OVERLOAD_SEGMENTS; i++)
+        if (holds(set, i) && packing->room[i] < least)
+            least = packing->room[i];
+    return least;
+}
+
+static void use(struct packing *packing, unsigned set, unsigned times)
+{
+    for (unsigned i = 0; i < MOST_OVERLOAD_SEGMENTS; i++)
+        if (holds(set, i))
+            packing->room[i] -= times;
+}
+
+static void give_back(struct packing *packing, unsigned set, unsigned times)
+{
+    for (unsigned i = 0; i < MOST_OVERLOAD_SEGMENTS; i++)
+        if (holds(set, i))
+            packing->room[i] += times;
+}
+
+/* Depth first: each set as often as it fits, then once less, and so on. */
+static void pack(struct packing *packing, unsigned from, unsigned uses)
+{
+    if (uses > packing->best)
+        packing->best = uses;
+    if (from == packing->count || uses + bound(packing, from) <= packing->best)
+        return;
+    unsigned set = packing->set[from];
+    for (unsigned times = room_for(packing, set) + 1; times-- > 0;) {
+        use(packing, set, times);
+        pack(packing, from + 1, uses + times);
+        give_back(packing, set, times);
+    }
+}
+
+static unsigned most_uses(const struct overload *overload, const uint8_t *bad, unsigned count)
+{
+    struct packing packing;
+    packing.count = packing.best = 0;
+    memset(packing.room, 0, sizeof packing.room);
+    memset(packing.cuts, 0, sizeof packing.cuts);
+    keep_smallest(bad, count, &packing);
+    for (unsigned i = 0; i < overload->count; i++)
+        packing.room[i] = (unsigned)overload->bit[i].capacity;
+    for (unsigned weights = 1; weights < 1u << 2 * overload->count; weights++)
+        note_cuts(&packing, weights);
+    pack(&packing, 0, 0);
+    return packing.best;
+}
+
+/* ---- The queries on a table ---- */
+
+static uint32_t latency_of(const struct table *table, uint32_t id, const struct chain **b, struct figures *figures)
+{
+    *b = find_chain(table, id);
+    if (!*b)
+        return 12;
+    return analyze(table, *b, figures);
+}
+
+/* The miss count of a chain whose late activations are more than none. */
+static uint32_t misses_of_late(const struct table *table, const struct chain *b, uint32_t k,
+                               const struct figures *figures, uint32_t *misses)
+{
+    struct overload overload;
+    if (gather_overload(table, b, &overload))
+        return 18;
+    if (overload_starts_again(table, figures->last_window))
+        return 19;
+    struct load load = load_of(table, b, false);
+    if (is_bad(load, figures->K, 0))
+        return 20;
+    if (!set_capacities(&overload, (uint64_t)(k - 1) * b->gap + figures->latency))
+        return 21;
+    uint8_t bad[64];
+    unsigned count = gather_bad(&load, figures->K, &overload, bad);
+    *misses = (uint32_t)figures->late * most_uses(&overload, bad, count);
+    return 0;
+}
+
+static uint32_t misses_of(const struct table *table, uint32_t id, uint32_t k, uint32_t *misses)
+{
+    const struct chain *b = find_chain(table, id);
+    if (!b)
+        return 12;
+    if (k < 1 || k > MOST_RUN)
+        return 13;
+    if (b->overload)
+        return 14;
+    if (b->gap == 0)
+        return 15;
+    struct figures figures;
+    uint32_t refusal = analyze(table, b, &figures);
+    if (refusal)
+        return refusal;
+    *misses = 0;
+    return figures.late == 0 ? 0 : misses_of_late(table, b, k, &figures, misses);
+}
+
+static uint32_t segment_of(const struct table *table, uint32_t chain, uint32_t against, uint32_t number,
+                           size_t *offset, size_t *length)
+{
+    const struct chain *a = find_chain(table, chain);
+    const struct chain *b = find_chain(table, against);
+    if (!a || !b)
+        return 12;
+    if (a == b)
+        return 25;
+    struct active_segment cut[MOST_TASKS];
+    unsigned count = cut_active_segments(a, b, cut);
+    if (number < 1 || number > count)
+        return 26;
+    struct stretch tasks = cut[number - 1].tasks;
+    *offset = a->tasks_at + TASK_BYTES * tasks.first;
+    *length = TASK_BYTES * (tasks.end - tasks.first);
+    return 0;
+}
+
+/* ---- Saving one record ---- */
+
+/* The stored chain record that equals these bytes, or NULL. */
+static const struct chain *find_record(const struct table *table, const uint8_t *bytes, const uint8_t *record,
+                                       size_t record_len)
+{
+    for (unsigned i = 0; i < table->chains; i++) {
+        const struct chain *chain = &table->chain[i];
+        if (chain->end - chain->at == record_len && memcmp(bytes + chain->at, record, record_len) == 0)
+            return chain;
+    }
+    return NULL;
+}
+
+/* Whether a new record has the form and the id that it must have. */
+static bool may_replace(const uint8_t *record, size_t record_len, uint32_t id)
+{
+    if (record_len < FIXED_BYTES || !is_mark(record, "CH"))
+        return false;
+    return record_len == FIXED_BYTES + 4u * record[14] + (size_t)TASK_BYTES * record[15] && number16(record + 2) == id;
+}
+
+static uint32_t save(uint8_t *buffer, size_t buffer_len, uint64_t used, const uint8_t *old_record, size_t old_len,
+                     const uint8_t *new_record, size_t new_len, size_t *new_used)
+{
+    struct table table;
+    if (used > buffer_len)
+        return 1;
+    uint32_t fault = read_table(buffer, (size_t)used, &table);
+    if (fault)
+        return fault;
+    const struct chain *old = find_record(&table, buffer, old_record, old_len);
+    if (!old)
+        return 22;
+    if (!may_replace(new_record, new_len, old->id))
+        return 23;
+    size_t rest = (size_t)used - old->end;
+    size_t result_len = old->at + new_len + rest;
+    if (result_len > buffer_len)
+        return 24;
+    uint8_t result[MOST_BYTES + LONGEST_RECORD];
+    memcpy(result, buffer, old->at);
+    memcpy(result + old->at, new_record, new_len);
+    memcpy(result + old->at + new_len, buffer + old->end, rest);
+    fault = read_table(result, result_len, &table);
+    if (fault)
+        return fault;
+    memcpy(buffer, result, result_len);
+    if (result_len < used)
+        memset(buffer + result_len, 0, (size_t)used - result_len);
+    *new_used = result_len;
+    return 0;
+}
+
+/* ---- The C editor ---- */
+
+static void put32(uint8_t *at, uint32_t value)
+{
+    for (unsigned i = 0; i < 4; i++)
+        at[i] = (uint8_t)(value >> 8 * i);
+}
+
+uint32_t plain_latency(const uint8_t *table, size_t table_len, uint32_t id, uint8_t *answer, size_t answer_len)
+{
+    struct table read;
+    const struct chain *b;
+    struct figures figures;
+    if (answer_len < 16)
+        return 27;
+    uint32_t refusal = read_table(table, table_len, &read);
+    if (!refusal)
+        refusal = latency_of(&read, id, &b, &figures);
+    if (refusal)
+        return refusal;
+    put32(answer, (uint32_t)figures.K);
+    put32(answer + 4, (uint32_t)figures.latency);
+    put32(answer + 8, (uint32_t)figures.late);
+    put32(answer + 12, b->deadline - (uint32_t)figures.latency);
+    return 0;
+}
+
+uint32_t plain_misses(const uint8_t *table, size_t table_len, uint32_t id, uint32_t k, uint8_t *answer,
+                      size_t answer_len)
+{
+    struct table read;
+    uint32_t misses;
+    if (answer_len < 4)
+        return 27;
+    uint32_t refusal = read_table(table, table_len, &read);
+    if (!refusal)
+        refusal = misses_of(&read, id, k, &misses);
+    if (!refusal)
+        put32(answer, misses);
+    return refusal;
+}
+
+uint32_t plain_segment(const uint8_t *table, size_t table_len, uint32_t chain, uint32_t against, uint32_t number,
+                       uint8_t *answer, size_t answer_len)
+{
+    struct table read;
+    size_t offset, length;
+    if (answer_len < 8)
+        return 27;
+    uint32_t refusal = read_table(table, table_len, &read);
+    if (!refusal)
+        refusal = segment_of(&read, chain, against, number, &offset, &length);
+    if (refusal)
+        return refusal;
+    put32(answer, (uint32_t)offset);
+    put32(answer + 4, (uint32_t)length);
+    return 0;
+}
+
+uint32_t plain_save(uint8_t *buffer, size_t buffer_len, uint64_t used, const uint8_t *old_record, size_t old_len,
+                    const uint8_t *new_record, size_t new_len, uint8_t *answer, size_t answer_len)
+{
+    size_t new_used;
+    if (answer_len < 4)
+        return 27;
+    uint32_t refusal = save(buffer, buffer_len, used, old_record, old_len, new_record, new_len, &new_used);
+    if (!refusal)
+        put32(answer, (uint32_t)new_used);
+    return refusal;
+}
+
+/* ---- The report ---- */
+
+/* Text that keeps counting where its room has ended. */
+struct text {
+    char *out;
+    size_t room, length;
+};
+
+static void say(struct text *text, const char *words)
+{
+    for (; *words; words++, text->length++)
+        if (text->length < text->room)
+            text->out[text->length] = *words;
+}
+
+static void report_chain(struct text *text, const struct table *table, uint32_t id)
+{
+    const struct chain *b;
+    struct figures figures;
+    char line[128];
+    uint32_t refusal = latency_of(table, id, &b, &figures);
+    if (refusal) {
+        snprintf(line, sizeof line, "%" PRIu32 " r%" PRIu32 "\n", id, refusal);
+        say(text, line);
+        return;
+    }
+    uint32_t misses = 0;
+    refusal = misses_of(table, id, 10, &misses);
+    snprintf(line, sizeof line, "%" PRIu32 " %" PRIu64 " %" PRIu64 " %" PRIu64 " %" PRId64 " %s%" PRIu32 "\n", id,
+             figures.K, figures.latency, figures.late, (int64_t)b->deadline - (int64_t)figures.latency,
+             refusal ? "r" : "", refusal ? refusal : misses);
+    say(text, line);
+}
+
+size_t plain_report(const uint8_t *table, size_t table_len, char *out, size_t out_len)
+{
+    struct text text = {out, out_len, 0};
+    struct table read;
+    uint32_t refusal = read_table(table, table_len, &read);
+    if (refusal) {
+        char line[32];
+        snprintf(line, sizeof line, "refused %" PRIu32 "\n", refusal);
+        say(&text, line);
+        return text.length;
+    }
+    say(&text, "chain K latency late margin miss10\n");
+    for (unsigned i = 0; i < read.chains; i++)
+        report_chain(&text, &read, read.chain[i].id);
+    return text.length;
+}

@@ -1,0 +1,283 @@
+/* How long the entries of mishtodran.h and the plain analyzer take on the same calls, in one process.
+   Usage: bench [SEED]
+
+   A line for each case: microseconds a call, the best of several runs, and how many times as long the plain one takes. */
+#define _POSIX_C_SOURCE 200809L
+#include "../include/mishtodran.h"
+#include "analyzer.h"
+#include "generate.h"
+
+#include <stdio.h>
+#include <stdlib.h>
+#include <string.h>
+#include <time.h>
+
+enum { LATENCY, MISSES, SEGMENT, SAVE };
+enum { MOST_CALLS = 512, MOST_TABLES = 32, ROUNDS = 5 };
+
+static const double LEAST_SECONDS = 0.05; /* of one run */
+
+struct stored {
+    uint8_t bytes[MOST_GENERATED];
+    size_t length;
+};
+
+struct call {
+    unsigned entry;
+    struct stored *table;
+    uint32_t number[3]; /* id; id, k; chain, against, number */
+};
+
+struct bench_case {
+    const char *name;
+    unsigned calls;
+    struct call call[MOST_CALLS];
+};
+
+/* ---- One call on either side ---- */
+
+struct side {
+    uint32_t (*latency)(const uint8_t *, size_t, uint32_t, uint8_t *, size_t);
+    uint32_t (*misses)(const uint8_t *, size_t, uint32_t, uint32_t, uint8_t *, size_t);
+    uint32_t (*segment)(const uint8_t *, size_t, uint32_t, uint32_t, uint32_t, uint8_t *, size_t);
+    uint32_t (*save)(uint8_t *, size_t, uint64_t, const uint8_t *, size_t, const uint8_t *, size_t, uint8_t *, size_t);
+};
+
+static const struct side proved = {mishtodran_latency, mishtodran_misses, mishtodran_segment, mishtodran_save};
+static const struct side plain = {plain_latency, plain_misses, plain_segment, plain_save};
+
+/* The deadline of a table's first chain becomes another, and then what it was. */
+static uint32_t save_and_back(const struct side *side, const struct call *call, uint8_t *answer)
+{
+    struct stored *table = call->table;
+    uint8_t old[256], new[256];
+    size_t length = 16 + 4u * table->bytes[14] + 8u * table->bytes[15];
+    memcpy(old, table->bytes, length);
+    memcpy(new, old, length);
+    new[6] ^= 1;
+    side->save(table->bytes, sizeof table->bytes, table->length, old, length, new, length, answer, 4);
+    return side->save(table->bytes, sizeof table->bytes, table->length, new, length, old, length, answer, 4);
+}
+
+static uint32_t run_call(const struct side *side, const struct call *call, uint8_t *answer)
+{
+    const uint8_t *bytes = call->table->bytes;
+    size_t length = call->table->length;
+    switch (call->entry) {
+    case LATENCY:
+        return side->latency(bytes, length, call->number[0], answer, 16);
+    case MISSES:
+        return side->misses(bytes, length, call->number[0], call->number[1], answer, 4);
+    case SEGMENT:
+        return side->segment(bytes, length, call->number[0], call->number[1], call->number[2], answer, 8);
+    default:
+        return save_and_back(side, call, answer);
+    }
+}
+
+/* ---- Timing ---- */
+
+static double now(void)
+{
+    struct timespec time;
+    clock_gettime(CLOCK_MONOTONIC, &time);
+    return (double)time.tv_sec + (double)time.tv_nsec * 1e-9;
+}
+
+static double seconds_for(const struct side *side, const struct bench_case *what, unsigned long times)
+{
+    uint8_t answer[16];
+    double start = now();
+    for (unsigned long i = 0; i < times; i++)
+        for (unsigned n = 0; n < what->calls; n++)
+            run_call(side, &what->call[n], answer);
+    return now() - start;
+}
+
+/* How often all calls must be made to take long enough. */
+static unsigned long times_needed(const struct side *side, const struct bench_case *what)
+{
+    unsigned long times = 1;
+    double taken = seconds_for(side, what, times);
+    while (taken < LEAST_SECONDS) {
+        times *= taken < LEAST_SECONDS / 10 ? 10 : 2;
+        taken = seconds_for(side, what, times);
+    }
+    return times;
+}
+
+static double least(double a, double b) { return a < b ? a : b; }
+
+/* Whether both sides answer all calls alike. */
+static bool agree(const struct bench_case *what)
+{
+    for (unsigned i = 0; i < what->calls; i++) {
+        uint8_t one[16] = {0}, other[16] = {0};
+        if (run_call(&proved, &what->call[i], one) != run_call(&plain, &what->call[i], other) ||
+            memcmp(one, other, sizeof one) != 0)
+            return false;
+    }
+    return true;
+}
+
+/* Both in turn, so that neither has the quieter moments. What takes long is run once more only. */
+static void measure(const struct bench_case *what)
+{
+    unsigned long times[2] = {times_needed(&proved, what), times_needed(&plain, what)};
+    double best[2] = {1e9, 1e9}; /* seconds a run */
+    for (unsigned i = 0; i < ROUNDS && (i == 0 || best[0] + best[1] < 1); i++) {
+        best[0] = least(best[0], seconds_for(&proved, what, times[0]));
+        best[1] = least(best[1], seconds_for(&plain, what, times[1]));
+    }
+    double by_proved = best[0] * 1e6 / (double)times[0] / what->calls;
+    double by_plain = best[1] * 1e6 / (double)times[1] / what->calls;
+    printf("%-44s %14.2f %14.2f %10.2f%s\n", what->name, by_proved, by_plain, by_plain / by_proved,
+           agree(what) ? "" : "  the answers differ");
+    fflush(stdout);
+}
+
+/* ---- Cases ---- */
+
+static struct stored tables[MOST_TABLES];
+static unsigned tables_used;
+
+static struct stored *keep(struct made_table table)
+{
+    struct stored *stored = &tables[tables_used++];
+    stored->length = encode(&table, stored->bytes);
+    return stored;
+}
+
+static void measure_one(const char *name, unsigned entry, struct stored *table, uint32_t first, uint32_t second,
+                        uint32_t third)
+{
+    static struct bench_case what;
+    what = (struct bench_case){.name = name, .calls = 1};
+    what.call[0] = (struct call){.entry = entry, .table = table, .number = {first, second, third}};
+    measure(&what);
+}
+
+/* Every chain of several tables. */
+static void measure_all(const char *name, unsigned entry, struct stored *first, unsigned count, uint32_t k)
+{
+    static struct bench_case what;
+    what = (struct bench_case){.name = name};
+    for (unsigned t = 0; t < count; t++)
+        for (const uint8_t *at = first[t].bytes; at[0] == 'C'; at += 16 + 4u * at[14] + 8u * at[15]) {
+            uint32_t id = at[2] | (uint32_t)at[3] << 8;
+            what.call[what.calls++] = (struct call){.entry = entry, .table = &first[t], .number = {id, k, 0}};
+        }
+    measure(&what);
+}
+
+static void usual_cases(struct source *source)
+{
+    struct stored *sample = keep(sample_table());
+    struct stored *study = keep(case_study());
+    struct stored *full = keep(full_table(source));
+    measure_one("read the sample (140 bytes), refusal 12", LATENCY, sample, 0, 0, 0);
+    measure_one("read a full table (1,284 bytes), refusal 12", LATENCY, full, 0, 0, 0);
+    measure_one("latency, sample", LATENCY, sample, 1, 0, 0);
+    measure_one("misses, sample, k 10", MISSES, sample, 1, 10, 0);
+    measure_one("segment, sample", SEGMENT, sample, 3, 1, 2);
+    measure_one("latency, case study", LATENCY, study, 2, 0, 0);
+    measure_one("misses, case study, k 3", MISSES, study, 2, 3, 0);
+    struct stored *random = &tables[tables_used];
+    for (unsigned i = 0; i < 16; i++)
+        keep(light_table(source, 16));
+    measure_all("latency, random tables of 16 chains", LATENCY, random, 16, 0);
+    measure_all("misses, random tables of 16 chains, k 10", MISSES, random, 16, 10);
+    measure_one("two saves, sample", SAVE, sample, 0, 0, 0);
+    measure_one("two saves, full table", SAVE, full, 0, 0, 0);
+}
+
+/* ---- Slow cases ---- */
+
+/* K is 1,000 and the last window near the horizon; four free chains of this distance take half of the time. */
+static struct made_table long_backlog(uint32_t distance, unsigned overload)
+{
+    struct made_table table = {0};
+    struct made_chain *b = add_chain(&table, 30000 + distance * 3 / 5, 10000, 9700);
+    add_task(b, 3, 2400);
+    add_task(b, 3, 2420);
+    for (unsigned i = 0; i < 4; i++)
+        add_task(add_chain(&table, 1000, 0, distance), 5 + i, distance / 8);
+    for (unsigned i = 0; i < overload; i++) {
+        struct made_chain *chain = add_chain(&table, 1000, 0, 10000000);
+        chain->overload = true;
+        add_task(chain, 10, 4900 + 17 * i);
+    }
+    if (overload == 0)
+        add_task(add_chain(&table, 1000, 0, 10000000), 10, 30000);
+    return table;
+}
+
+/* Chains of cost 1 that leave a 240th of the time to one that needs 300. */
+static struct made_table unit_costs(void)
+{
+    struct made_table table = {0};
+    add_task(add_chain(&table, 1, 10000000, 10000000), 1, 300);
+    for (unsigned i = 0; i < 15; i++)
+        add_task(add_chain(&table, 1000, 0, i < 14 ? 15 : 16), 2 + i, 1);
+    return table;
+}
+
+/* Six overload chains of one segment, with these costs and capacities for k = 1,000; a set is bad above the threshold. */
+struct shape {
+    uint32_t cost[6], capacity[6], threshold;
+};
+
+static struct made_table shaped(const struct shape *shape)
+{
+    struct made_table table = {0};
+    uint32_t all = 1;
+    for (unsigned i = 0; i < 6; i++)
+        all += shape->cost[i];
+    struct made_chain *b = add_chain(&table, 1 + shape->threshold, 5 * all, 5 * all);
+    add_task(b, 1, 1);
+    uint32_t reach = 999 * b->gap + all;
+    for (unsigned i = 0; i < 6; i++) {
+        uint32_t arrivals = shape->capacity[i] - 1;
+        struct made_chain *chain = add_chain(&table, 1000, 0, (reach + arrivals - 1) / arrivals);
+        chain->overload = true;
+        add_task(chain, 2, shape->cost[i]);
+    }
+    return table;
+}
+
+static void slow_cases(void)
+{
+    static const struct shape shapes[] = {
+        {{1, 1, 1, 1, 1, 1}, {40, 40, 40, 40, 40, 40}, 2},
+        {{5, 5, 2, 3, 1, 5}, {37, 33, 37, 39, 37, 32}, 10},
+        {{3, 4, 1, 2, 2, 3}, {39, 37, 35, 26, 21, 39}, 7},
+        {{5, 1, 4, 1, 3, 1}, {37, 35, 36, 21, 29, 40}, 5},
+        {{4, 5, 3, 4, 4, 4}, {26, 22, 36, 22, 39, 35}, 13},
+        {{120, 887, 741, 462, 477, 289}, {35, 39, 31, 39, 39, 36}, 1712},
+    };
+    tables_used = 0;
+    struct stored *wide = keep(long_backlog(100000, 0));
+    struct stored *narrow = keep(long_backlog(4000, 0));
+    struct stored *overloaded = keep(long_backlog(100000, 6));
+    struct stored *crowded = keep(long_backlog(20000, 6));
+    struct stored *units = keep(unit_costs());
+    measure_one("latency, K near 1,024, few arrivals", LATENCY, wide, 1, 0, 0);
+    measure_one("latency, K near 1,024, many arrivals", LATENCY, narrow, 1, 0, 0);
+    measure_one("misses, K near 1,024, six segments, few", MISSES, overloaded, 1, 10, 0);
+    measure_one("misses, K near 1,024, six segments, many", MISSES, crowded, 1, 10, 0);
+    measure_one("latency, unit costs, load near 1", LATENCY, units, 1, 0, 0);
+    for (unsigned i = 0; i < sizeof shapes / sizeof shapes[0]; i++) {
+        char name[64];
+        snprintf(name, sizeof name, "misses, six segments, shape %u, k 1,000", i + 1);
+        measure_one(name, MISSES, keep(shaped(&shapes[i])), 1, 1000, 0);
+    }
+}
+
+int main(int count, char **words)
+{
+    struct source source = {count > 1 ? strtoull(words[1], NULL, 10) : 1};
+    printf("%-44s %14s %14s %10s\n", "microseconds a call", "mishtodran", "plain", "ratio");
+    usual_cases(&source);
+    slow_cases();
+    return 0;
+}

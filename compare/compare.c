@@ -1,0 +1,471 @@
+/* Holds the entries of mishtodran.h against the plain analyzer, on generated tables.
+   Usage: compare SEED N [walked]
+
+   Makes N tables from SEED, asks both every question about each, and stops at the first difference, with the table and
+   the call. With `walked` the tables are those on which counting arrivals one by one takes seconds. */
+#include "../include/mishtodran.h"
+#include "analyzer.h"
+#include "generate.h"
+
+#include <inttypes.h>
+#include <stdio.h>
+#include <stdlib.h>
+#include <string.h>
+
+enum { LATENCY, MISSES, SEGMENT, SAVE, ENTRIES };
+enum { LONGEST_RECORD = 4096, ANSWER_ROOM = 32, NUMBERS = 28 };
+
+static const char *const entry_name[] = {"latency", "misses", "segment", "save"};
+static const size_t answer_bytes[] = {16, 4, 8, 4};
+
+/* How often each entry has returned each number. */
+static uint64_t met[ENTRIES][NUMBERS];
+
+static void print_hex(const char *what, const uint8_t *bytes, size_t length)
+{
+    printf("%s, %zu bytes: ", what, length);
+    for (size_t i = 0; i < length; i++)
+        printf("%02x", bytes[i]);
+    putchar('\n');
+}
+
+/* ---- Answers of both ---- */
+
+struct outcome {
+    uint32_t returned;
+    uint8_t answer[ANSWER_ROOM]; /* the lent buffer and what follows it */
+};
+
+static struct outcome nothing_yet(void)
+{
+    struct outcome outcome = {0};
+    for (unsigned i = 0; i < ANSWER_ROOM; i++)
+        outcome.answer[i] = (uint8_t)(0x51 + 7 * i);
+    return outcome;
+}
+
+static bool same(const struct outcome *one, const struct outcome *other)
+{
+    return one->returned == other->returned && memcmp(one->answer, other->answer, ANSWER_ROOM) == 0;
+}
+
+static void print_outcome(const char *whose, const struct outcome *outcome)
+{
+    printf("%s returns %" PRIu32 ", ", whose, outcome->returned);
+    print_hex("answer buffer and beyond", outcome->answer, ANSWER_ROOM);
+}
+
+static void note(unsigned entry, uint32_t returned)
+{
+    if (returned < NUMBERS)
+        met[entry][returned]++;
+}
+
+/* ---- Queries ---- */
+
+struct query {
+    unsigned entry;
+    uint32_t number[3]; /* id; id, k; chain, against, number */
+    size_t answer_len;
+};
+
+static uint32_t ask_proved(const struct generated *table, const struct query *query, uint8_t *answer)
+{
+    const uint32_t *number = query->number;
+    switch (query->entry) {
+    case LATENCY:
+        return mishtodran_latency(table->bytes, table->length, number[0], answer, query->answer_len);
+    case MISSES:
+        return mishtodran_misses(table->bytes, table->length, number[0], number[1], answer, query->answer_len);
+    default:
+        return mishtodran_segment(table->bytes, table->length, number[0], number[1], number[2], answer,
+                                  query->answer_len);
+    }
+}
+
+static uint32_t ask_plain(const struct generated *table, const struct query *query, uint8_t *answer)
+{
+    const uint32_t *number = query->number;
+    switch (query->entry) {
+    case LATENCY:
+        return plain_latency(table->bytes, table->length, number[0], answer, query->answer_len);
+    case MISSES:
+        return plain_misses(table->bytes, table->length, number[0], number[1], answer, query->answer_len);
+    default:
+        return plain_segment(table->bytes, table->length, number[0], number[1], number[2], answer, query->answer_len);
+    }
+}
+
+static void stop_at_query(const struct generated *table, const struct query *query, const struct outcome *proved,
+                          const struct outcome *plain, bool changed)
+{
+    printf("difference in %s(%" PRIu32 ", %" PRIu32 ", %" PRIu32 ") with %zu bytes for the answer%s\n",
+           entry_name[query->entry], query->number[0], query->number[1], query->number[2], query->answer_len,
+           changed ? ": the table was written to" : "");
+    printf("family: %s %s\n", table->family, table->damage);
+    print_outcome("mishtodran", proved);
+    print_outcome("plain", plain);
+    exit(1);
+}
+
+/* Asks both, and gives back what they return. */
+static uint32_t ask(const struct generated *table, struct query query)
+{
+    static struct generated lent;
+    struct outcome proved = nothing_yet(), plain = nothing_yet();
+    lent = *table;
+    proved.returned = ask_proved(&lent, &query, proved.answer);
+    plain.returned = ask_plain(table, &query, plain.answer);
+    bool changed = memcmp(lent.bytes, table->bytes, sizeof lent.bytes) != 0;
+    if (changed || !same(&proved, &plain)) {
+        print_hex("table", table->bytes, table->length);
+        stop_at_query(table, &query, &proved, &plain, changed);
+    }
+    note(query.entry, proved.returned);
+    return proved.returned;
+}
+
+static uint32_t ask_whole(const struct generated *table, unsigned entry, uint32_t first, uint32_t second,
+                          uint32_t third)
+{
+    return ask(table, (struct query){entry, {first, second, third}, answer_bytes[entry]});
+}
+
+/* ---- The chains of a table ---- */
+
+struct places {
+    unsigned chains;
+    uint32_t id[16];
+    size_t at[16], length[16];
+};
+
+/* Where the records of an accepted table stand; no chain where it is refused. */
+static struct places find_places(const struct generated *table)
+{
+    struct places places = {0};
+    size_t at = 0;
+    if (ask_whole(table, LATENCY, 0, 0, 0) != 12)
+        return places;
+    while (table->bytes[at] == 'C') {
+        unsigned i = places.chains++;
+        places.at[i] = at;
+        places.length[i] = 16 + 4u * table->bytes[at + 14] + 8u * table->bytes[at + 15];
+        places.id[i] = table->bytes[at + 2] | (uint32_t)table->bytes[at + 3] << 8;
+        at += places.length[i];
+    }
+    return places;
+}
+
+/* ---- All questions about a table ---- */
+
+static const uint32_t runs[] = {0, 1, 2, 3, 10, 11, 999, 1000, 1001};
+
+static void ask_figures(const struct generated *table, const struct places *places)
+{
+    for (unsigned i = 0; i < places->chains; i++) {
+        ask_whole(table, LATENCY, places->id[i], 0, 0);
+        for (unsigned r = 0; r < sizeof runs / sizeof runs[0]; r++)
+            ask_whole(table, MISSES, places->id[i], runs[r], 0);
+    }
+}
+
+static void ask_segments(const struct generated *table, const struct places *places)
+{
+    for (unsigned a = 0; a < places->chains; a++)
+        for (unsigned b = 0; b < places->chains; b++) {
+            uint32_t number = 0;
+            uint32_t returned;
+            do
+                returned = ask_whole(table, SEGMENT, places->id[a], places->id[b], number++);
+            while (returned == 0 || number == 1);
+            ask_whole(table, SEGMENT, places->id[a], places->id[b], UINT32_MAX);
+            ask_whole(table, SEGMENT, places->id[a], places->id[b], 1u << 16 | 1);
+        }
+}
+
+/* Ids that are not there or almost, run lengths far outside, and answer buffers of other lengths. */
+static void ask_oddly(struct source *source, const struct generated *table, const struct places *places)
+{
+    uint32_t known = places->chains ? places->id[draw(source, 0, places->chains - 1)] : 1;
+    const uint32_t ids[] = {0, known, known + 65536, known ^ 1, 65535, UINT32_MAX};
+    for (unsigned i = 0; i < 6; i++) {
+        ask_whole(table, LATENCY, ids[i], 0, 0);
+        ask_whole(table, MISSES, ids[i], 1001, 0);
+        ask_whole(table, MISSES, ids[i], 1u << 16 | 10, 0);
+        ask_whole(table, SEGMENT, known, ids[i], 1);
+        ask_whole(table, SEGMENT, ids[i], known, 0);
+        ask_whole(table, SEGMENT, ids[i], ids[draw(source, 0, 5)], 1);
+    }
+    for (unsigned entry = LATENCY; entry <= SEGMENT; entry++) {
+        size_t whole = answer_bytes[entry];
+        const size_t lengths[] = {0, whole - 1, whole + 1, ANSWER_ROOM};
+        for (unsigned i = 0; i < 4; i++)
+            ask(table, (struct query){entry, {known, 10, 1}, lengths[i]});
+    }
+}
+
+/* ---- Saves ---- */
+
+struct record {
+    uint8_t bytes[LONGEST_RECORD];
+    size_t length;
+};
+
+struct buffer {
+    uint8_t bytes[MOST_GENERATED + 64]; /* some bytes beyond are checked too */
+    size_t length;
+    uint64_t used;
+};
+
+static void stop_at_save(const struct buffer *before, const struct buffer *proved_after,
+                         const struct buffer *plain_after, const struct record *old, const struct record *new,
+                         size_t answer_len)
+{
+    printf("difference in save, %" PRIu64 " bytes used, %zu bytes for the answer\n", before->used, answer_len);
+    print_hex("buffer", before->bytes, before->length);
+    print_hex("old record", old->bytes, old->length);
+    print_hex("new record", new->bytes, new->length);
+    print_hex("buffer after mishtodran and beyond", proved_after->bytes, sizeof proved_after->bytes);
+    print_hex("buffer after plain and beyond", plain_after->bytes, sizeof plain_after->bytes);
+}
+
+/* Saves with both; where they accept, the buffer is changed. */
+static uint32_t save(struct buffer *buffer, const struct record *old, const struct record *new, size_t answer_len)
+{
+    static struct buffer for_proved, for_plain;
+    static struct record old_lent, new_lent;
+    struct outcome proved = nothing_yet(), plain = nothing_yet();
+    for_proved = *buffer;
+    for_plain = *buffer;
+    old_lent = *old;
+    new_lent = *new;
+    proved.returned = mishtodran_save(for_proved.bytes, buffer->length, buffer->used, old_lent.bytes, old->length,
+                                      new_lent.bytes, new->length, proved.answer, answer_len);
+    plain.returned = plain_save(for_plain.bytes, buffer->length, buffer->used, old->bytes, old->length, new->bytes,
+                                new->length, plain.answer, answer_len);
+    if (!same(&proved, &plain) || memcmp(for_proved.bytes, for_plain.bytes, sizeof for_plain.bytes) != 0 ||
+        memcmp(old_lent.bytes, old->bytes, old->length) != 0 || memcmp(new_lent.bytes, new->bytes, new->length) != 0) {
+        stop_at_save(buffer, &for_proved, &for_plain, old, new, answer_len);
+        print_outcome("mishtodran", &proved);
+        print_outcome("plain", &plain);
+        exit(1);
+    }
+    note(SAVE, plain.returned);
+    if (plain.returned == 0) {
+        *buffer = for_plain;
+        buffer->used = plain.answer[0] | (uint64_t)plain.answer[1] << 8;
+    }
+    return plain.returned;
+}
+
+static void put32(uint8_t *at, uint64_t value)
+{
+    for (unsigned i = 0; i < 4; i++)
+        at[i] = (uint8_t)(value >> 8 * i);
+}
+
+/* One task or one distance more or less; a record's counts are its bytes 14 and 15. */
+static void resize_record(struct source *source, struct record *record)
+{
+    unsigned listed = record->bytes[14], tasks = record->bytes[15];
+    uint8_t *first_task = record->bytes + 16 + 4 * listed;
+    switch (draw(source, 0, 3)) {
+    case 0:
+        memcpy(first_task + 8 * tasks, first_task, 8);
+        record->bytes[15]++;
+        record->length += 8;
+        break;
+    case 1:
+        record->bytes[15]--;
+        record->length -= 8;
+        break;
+    case 2:
+        memmove(first_task + 4, first_task, 8 * tasks);
+        memcpy(first_task, first_task - 4, 4);
+        record->bytes[14]++;
+        record->length += 4;
+        break;
+    default:
+        memmove(first_task - 4, first_task, 8 * tasks);
+        record->bytes[14]--;
+        record->length -= 4;
+    }
+}
+
+/* A record of the length that its own counts say, whatever they are. */
+static void fill_counts(struct source *source, struct record *record)
+{
+    record->bytes[14] = (uint8_t)(one_in(source, 2) ? 255 : draw(source, 0, 12));
+    record->bytes[15] = (uint8_t)(one_in(source, 2) ? 255 : draw(source, 0, 40));
+    size_t length = 16 + 4u * record->bytes[14] + 8u * record->bytes[15];
+    for (size_t i = record->length; i < length; i++)
+        record->bytes[i] = record->bytes[i - 8];
+    record->length = length;
+}
+
+/* The new record, made from the one that is stored. */
+static void change_record(struct source *source, struct record *record)
+{
+    switch (draw(source, 0, 11)) {
+    case 0:
+        break;
+    case 1:
+    case 2:
+        put32(record->bytes + 6, draw(source, 1, 10000000));
+        break;
+    case 3:
+    case 4:
+    case 5:
+        resize_record(source, record);
+        break;
+    case 6:
+        record->bytes[2 + draw(source, 0, 1)] ^= (uint8_t)draw(source, 1, 255); /* another id */
+        break;
+    case 7:
+        record->bytes[draw(source, 0, record->length - 1)] ^= (uint8_t)(1u << draw(source, 0, 7));
+        break;
+    case 8:
+        record->length = draw(source, 0, record->length - 1);
+        break;
+    case 9:
+        record->bytes[record->length++] = 0;
+        break;
+    case 10:
+        fill_counts(source, record);
+        break;
+    default:
+        put32(record->bytes + (one_in(source, 2) ? 6 : record->length - 4), draw(source, 0, 1) * UINT32_MAX);
+    }
+}
+
+/* The old record as an editor could offer it. */
+static void make_stale(struct source *source, struct record *record)
+{
+    switch (draw(source, 0, 3)) {
+    case 0:
+        record->bytes[draw(source, 0, record->length - 1)] ^= (uint8_t)(1u << draw(source, 0, 7));
+        break;
+    case 1:
+        record->length = draw(source, 0, record->length - 1);
+        break;
+    case 2:
+        record->bytes[record->length++] = 'C';
+        break;
+    default:
+        record->length = 0;
+    }
+}
+
+/* A buffer with much room, with none, or with just too little for the result. */
+static size_t buffer_length(struct source *source, size_t used, size_t result)
+{
+    size_t more = used > result ? used : result;
+    switch (draw(source, 0, 3)) {
+    case 0:
+        return used;
+    case 1:
+        return more - 1;
+    case 2:
+        return more;
+    default:
+        return more + draw(source, 1, 64);
+    }
+}
+
+static uint64_t other_used(struct source *source, size_t used)
+{
+    const uint64_t values[] = {0, used - 1, used + 1, used + (1ull << 32), 1285, UINT64_MAX};
+    return values[draw(source, 0, 5)];
+}
+
+static void fill_buffer(struct source *source, struct buffer *buffer, const struct generated *table, size_t result)
+{
+    for (size_t i = 0; i < sizeof buffer->bytes; i++)
+        buffer->bytes[i] = (uint8_t)(0x33 + 5 * i);
+    memcpy(buffer->bytes, table->bytes, table->length);
+    buffer->used = one_in(source, 12) ? other_used(source, table->length) : table->length;
+    buffer->length = buffer_length(source, table->length, result);
+    if (buffer->length > sizeof buffer->bytes - 32)
+        buffer->length = sizeof buffer->bytes - 32;
+}
+
+static struct record stored_record(struct source *source, const struct generated *table, const struct places *places)
+{
+    struct record record = {.length = 16};
+    size_t at = 0;
+    if (places->chains) {
+        unsigned place = (unsigned)draw(source, 0, places->chains - 1);
+        at = places->at[place];
+        record.length = places->length[place];
+    }
+    memcpy(record.bytes, table->bytes + at, record.length);
+    return record;
+}
+
+static void save_somehow(struct source *source, const struct generated *table, const struct places *places)
+{
+    static struct buffer buffer;
+    struct record old = stored_record(source, table, places);
+    struct record new = old;
+    change_record(source, &new);
+    if (one_in(source, 6))
+        make_stale(source, &old);
+    fill_buffer(source, &buffer, table, table->length - old.length + new.length);
+    size_t answer_len = one_in(source, 10) ? draw(source, 0, 9) : 4;
+    if (save(&buffer, &old, &new, answer_len) != 0)
+        return;
+    save(&buffer, &old, &new, answer_len); /* stale now, unless nothing changed */
+    save(&buffer, &new, &old, answer_len); /* back again */
+}
+
+/* ---- All tables ---- */
+
+static void compare_table(struct source *source, const struct generated *table)
+{
+    struct places places = find_places(table);
+    ask_figures(table, &places);
+    ask_segments(table, &places);
+    ask_oddly(source, table, &places);
+    for (unsigned i = 0; i < 12; i++)
+        save_somehow(source, table, &places);
+}
+
+/* The first chain alone, and once. */
+static void compare_walked(const struct generated *table)
+{
+    struct places places = find_places(table);
+    ask_whole(table, LATENCY, places.id[0], 0, 0);
+    ask_whole(table, MISSES, places.id[0], 10, 0);
+}
+
+static void print_met(void)
+{
+    for (unsigned entry = 0; entry < ENTRIES; entry++) {
+        printf("%s:", entry_name[entry]);
+        for (unsigned i = 0; i < NUMBERS; i++)
+            if (met[entry][i])
+                printf(" %u x %" PRIu64 ",", i, met[entry][i]);
+        puts(" calls");
+    }
+}
+
+int main(int count, char **words)
+{
+    bool walked = count == 4 && strcmp(words[3], "walked") == 0;
+    if (count != 3 && !walked) {
+        puts("usage: compare SEED N [walked]");
+        return 2;
+    }
+    struct source source = {strtoull(words[1], NULL, 10)};
+    unsigned long tables = strtoul(words[2], NULL, 10);
+    for (unsigned long i = 0; i < tables; i++) {
+        struct generated table = walked ? generate_walked(&source) : generate(&source);
+        if (walked)
+            compare_walked(&table);
+        else
+            compare_table(&source, &table);
+    }
+    print_met();
+    printf("%lu tables, no difference\n", tables);
+    return 0;
+}

@@ -1,0 +1,772 @@
+/* The generator. What makes a table quick to work out is its families' own doing: either the processor is idle often
+   enough for windows to stay short, or distances are wide enough for the horizon to hold few arrivals. */
+#include "generate.h"
+
+#include "analyzer.h"
+
+#include <string.h>
+
+enum {
+    LATEST = 10000000, /* of deadlines, gaps, distances and windows */
+    DEAREST = 1000000,
+    HIGHEST = 65535,
+    MOST_IN_ALL = 64
+};
+
+/* ---- Numbers ---- */
+
+static uint64_t next_number(struct source *source)
+{
+    uint64_t mixed = source->state += 0x9E3779B97F4A7C15u;
+    mixed = (mixed ^ mixed >> 30) * 0xBF58476D1CE4E5B9u;
+    mixed = (mixed ^ mixed >> 27) * 0x94D049BB133111EBu;
+    return mixed ^ mixed >> 31;
+}
+
+uint64_t draw(struct source *source, uint64_t low, uint64_t high)
+{
+    return low >= high ? low : low + next_number(source) % (high - low + 1);
+}
+
+bool one_in(struct source *source, unsigned many) { return draw(source, 1, many) == 1; }
+
+static uint32_t pick(struct source *source, const uint32_t *values, unsigned count)
+{
+    return values[draw(source, 0, count - 1)];
+}
+
+static uint32_t least(uint64_t a, uint64_t b) { return (uint32_t)(a < b ? a : b); }
+
+/* ---- Tables to be stored ---- */
+
+struct made_chain *add_chain(struct made_table *table, uint32_t deadline, uint32_t gap, uint32_t distance)
+{
+    struct made_chain *chain = &table->chain[table->chains++];
+    *chain = (struct made_chain){.id = table->chains, .deadline = deadline, .gap = gap, .listed = 1};
+    chain->distance[0] = distance;
+    return chain;
+}
+
+void add_task(struct made_chain *chain, uint32_t priority, uint32_t cost)
+{
+    chain->task[chain->tasks++] = (struct made_task){priority, cost};
+}
+
+static uint8_t *put(uint8_t *at, uint64_t value, unsigned width)
+{
+    for (unsigned i = 0; i < width; i++)
+        *at++ = (uint8_t)(value >> 8 * i);
+    return at;
+}
+
+static uint8_t *put_mark(uint8_t *at, const char *mark)
+{
+    at[0] = (uint8_t)mark[0];
+    at[1] = (uint8_t)mark[1];
+    return at + 2;
+}
+
+static uint8_t *put_chain(uint8_t *at, const struct made_chain *chain)
+{
+    at = put_mark(at, "CH");
+    at = put(at, chain->id, 2);
+    at = put(at, chain->asynchronous, 1);
+    at = put(at, chain->overload, 1);
+    at = put(at, chain->deadline, 4);
+    at = put(at, chain->gap, 4);
+    at = put(at, chain->listed, 1);
+    at = put(at, chain->tasks, 1);
+    for (unsigned i = 0; i < chain->listed; i++)
+        at = put(at, chain->distance[i], 4);
+    for (unsigned i = 0; i < chain->tasks; i++)
+        at = put(put(put_mark(at, "TK"), chain->task[i].priority, 2), chain->task[i].cost, 4);
+    return at;
+}
+
+size_t encode(const struct made_table *table, uint8_t *bytes)
+{
+    uint8_t *at = bytes;
+    for (unsigned i = 0; i < table->chains; i++)
+        at = put_chain(at, &table->chain[i]);
+    at = put(put_mark(at, "EN"), table->chains, 2);
+    return (size_t)(at - bytes);
+}
+
+static uint64_t cost_of(const struct made_chain *chain)
+{
+    uint64_t sum = 0;
+    for (unsigned i = 0; i < chain->tasks; i++)
+        sum += chain->task[i].cost;
+    return sum;
+}
+
+/* ---- The parts of a chain ---- */
+
+static void fill_tasks(struct source *source, struct made_chain *chain, unsigned count, uint32_t highest,
+                       uint32_t dearest)
+{
+    for (unsigned i = 0; i < count; i++)
+        add_task(chain, (uint32_t)draw(source, 1, highest), (uint32_t)draw(source, 1, dearest));
+}
+
+/* Tasks of one priority that cost this much together. */
+static void split_cost(struct made_chain *chain, uint32_t priority, uint64_t cost)
+{
+    uint64_t count = (cost + DEAREST - 1) / DEAREST;
+    for (; count > 0; count--) {
+        add_task(chain, priority, (uint32_t)(cost / count));
+        cost -= cost / count;
+    }
+}
+
+static void sort(uint32_t *values, unsigned count)
+{
+    for (unsigned i = 1; i < count; i++)
+        for (unsigned j = i; j > 0 && values[j] < values[j - 1]; j--) {
+            uint32_t lower = values[j];
+            values[j] = values[j - 1];
+            values[j - 1] = lower;
+        }
+}
+
+/* A list with this distance on average: even, in bursts, or uneven. */
+static void fill_list(struct source *source, struct made_chain *chain, uint64_t mean)
+{
+    unsigned style = (unsigned)draw(source, 0, 3);
+    if (mean < 1)
+        mean = 1;
+    if (mean > LATEST)
+        mean = LATEST;
+    chain->listed = style == 0 ? 1 : least(draw(source, 1, 8), LATEST / mean);
+    uint32_t last = (uint32_t)mean * chain->listed;
+    for (unsigned i = 0; i < chain->listed; i++) {
+        if (style == 1)
+            chain->distance[i] = (uint32_t)mean * (i + 1);
+        else if (style == 2)
+            chain->distance[i] = (uint32_t)draw(source, 0, last / 50);
+        else
+            chain->distance[i] = (uint32_t)draw(source, 0, last);
+    }
+    chain->distance[chain->listed - 1] = last;
+    sort(chain->distance, chain->listed);
+}
+
+/* The least gap that a list allows. */
+static uint32_t least_gap(const struct made_chain *chain)
+{
+    uint32_t gap = 1;
+    for (unsigned i = 0; i < chain->listed; i++) {
+        uint32_t needed = (chain->distance[i] + i) / (i + 1);
+        if (needed > gap)
+            gap = needed;
+    }
+    return gap;
+}
+
+static void fill_gap(struct source *source, struct made_chain *chain)
+{
+    uint32_t gap = least_gap(chain);
+    switch (draw(source, 0, 4)) {
+    case 0:
+        chain->gap = 0;
+        break;
+    case 1:
+        chain->gap = gap;
+        break;
+    case 2:
+        chain->gap = (uint32_t)draw(source, gap, LATEST);
+        break;
+    default:
+        chain->gap = (uint32_t)draw(source, gap, least(gap * 3ull, LATEST));
+    }
+}
+
+/* Ids in no order. */
+static void mix_ids(struct source *source, struct made_table *table)
+{
+    uint32_t first = (uint32_t)draw(source, 0, HIGHEST - 1);
+    uint32_t step = (uint32_t)draw(source, 1, HIGHEST - 1);
+    while (step % 3 == 0 || step % 5 == 0 || step % 17 == 0 || step % 257 == 0) /* the primes of 65,535 */
+        step = (uint32_t)draw(source, 1, HIGHEST - 1);
+    for (unsigned i = 0; i < table->chains; i++)
+        table->chain[i].id = 1 + (uint32_t)((first + (uint64_t)i * step) % HIGHEST);
+}
+
+/* ---- Deadlines that make a chain late, but not without overload ---- */
+
+/* The latency of the chain at a place, or 0 where it is refused. */
+static uint32_t latency_of(const struct made_table *table, unsigned place)
+{
+    uint8_t bytes[MOST_GENERATED], answer[16];
+    size_t length = encode(table, bytes);
+    if (plain_latency(bytes, length, table->chain[place].id, answer, sizeof answer) != 0)
+        return 0;
+    return answer[4] | (uint32_t)answer[5] << 8 | (uint32_t)answer[6] << 16 | (uint32_t)answer[7] << 24;
+}
+
+static uint32_t latency_without_overload(const struct made_table *table, unsigned place)
+{
+    struct made_table rest = {0};
+    unsigned moved = 0;
+    for (unsigned i = 0; i < table->chains; i++) {
+        if (i == place)
+            moved = rest.chains;
+        if (!table->chain[i].overload || i == place)
+            rest.chain[rest.chains++] = table->chain[i];
+    }
+    return latency_of(&rest, moved);
+}
+
+/* A deadline between the two latencies, now and then just outside. */
+static void make_late(struct source *source, struct made_table *table, unsigned place)
+{
+    uint32_t high = latency_of(table, place);
+    uint32_t low = latency_without_overload(table, place);
+    if (high == 0 || low == 0)
+        return;
+    if (one_in(source, 12))
+        low--;
+    uint64_t deadline = draw(source, low, high - (one_in(source, 8) ? 0 : 1));
+    table->chain[place].deadline = deadline < 1 ? 1 : least(deadline, LATEST);
+}
+
+/* ---- Tables of the documents ---- */
+
+struct made_table sample_table(void)
+{
+    struct made_table table = {0};
+    struct made_chain *chain = add_chain(&table, 40, 100, 100);
+    add_task(chain, 5, 10);
+    add_task(chain, 3, 10);
+    chain = add_chain(&table, 100, 50, 50);
+    add_task(chain, 9, 5);
+    chain = add_chain(&table, 500, 0, 1000);
+    chain->asynchronous = chain->overload = true;
+    add_task(chain, 8, 6);
+    add_task(chain, 1, 4);
+    add_task(chain, 7, 10);
+    chain = add_chain(&table, 300, 0, 1000);
+    chain->overload = true;
+    add_task(chain, 6, 12);
+    return table;
+}
+
+/* Chains d, c, b and a, in this order. */
+struct made_table case_study(void)
+{
+    static const struct made_task of_d[] = {{11, 38}, {10, 6}, {9, 27}, {5, 6}, {2, 38}};
+    static const struct made_task of_c[] = {{8, 4}, {7, 6}, {1, 41}};
+    static const struct made_task of_b[] = {{13, 10}, {12, 10}, {6, 10}};
+    static const struct made_task of_a[] = {{4, 10}, {3, 10}};
+    struct made_table table = {0};
+    struct made_chain *chain = add_chain(&table, 200, 200, 200);
+    for (unsigned i = 0; i < 5; i++)
+        add_task(chain, of_d[i].priority, of_d[i].cost);
+    chain = add_chain(&table, 200, 200, 200);
+    for (unsigned i = 0; i < 3; i++)
+        add_task(chain, of_c[i].priority, of_c[i].cost);
+    chain = add_chain(&table, 600, 0, 600);
+    chain->overload = true;
+    for (unsigned i = 0; i < 3; i++)
+        add_task(chain, of_b[i].priority, of_b[i].cost);
+    chain = add_chain(&table, 700, 0, 700);
+    chain->overload = true;
+    for (unsigned i = 0; i < 2; i++)
+        add_task(chain, of_a[i].priority, of_a[i].cost);
+    return table;
+}
+
+struct made_table horizon_edge(void)
+{
+    struct made_table table = {0};
+    split_cost(add_chain(&table, LATEST, LATEST, LATEST), 1, LATEST);
+    return table;
+}
+
+/* ---- Families ---- */
+
+/* How many tasks the next chain may take so that one is left for each of those after it. */
+static unsigned tasks_for(struct source *source, unsigned left, unsigned chains_after)
+{
+    return (unsigned)draw(source, 1, least(16, left - chains_after));
+}
+
+struct made_table light_table(struct source *source, unsigned chains)
+{
+    static const uint32_t priorities[] = {3, 6, 12, HIGHEST};
+    static const uint32_t costs[] = {3, 20, 1000, 20000};
+    struct made_table table = {0};
+    uint32_t highest = pick(source, priorities, 4);
+    uint32_t dearest = pick(source, costs, 4);
+    uint64_t busy = draw(source, 20, 90); /* of a hundred */
+    unsigned left = MOST_IN_ALL;
+    for (unsigned i = 0; i < chains; i++) {
+        struct made_chain *chain = add_chain(&table, 1, 0, 1);
+        fill_tasks(source, chain, tasks_for(source, left, chains - 1 - i), highest, dearest);
+        left -= chain->tasks;
+        chain->asynchronous = one_in(source, 2);
+        chain->overload = one_in(source, 4);
+        uint64_t rare = chain->overload ? draw(source, 1, 30) : 1;
+        fill_list(source, chain, cost_of(chain) * chains * 100 / busy * rare * draw(source, 10, 30) / 10);
+        fill_gap(source, chain);
+        chain->deadline = (uint32_t)draw(source, 1, least(cost_of(chain) * (1 + chains) * 2, LATEST));
+    }
+    mix_ids(source, &table);
+    for (unsigned i = 0; i < chains; i++)
+        if (one_in(source, 2))
+            make_late(source, &table, i);
+    return table;
+}
+
+struct made_table full_table(struct source *source)
+{
+    struct made_table table = {0};
+    for (unsigned i = 0; i < 16; i++) {
+        struct made_chain *chain = add_chain(&table, (uint32_t)draw(source, 1, 5000), 0, 1);
+        fill_tasks(source, chain, 4, 20, 30);
+        chain->asynchronous = one_in(source, 2);
+        chain->overload = one_in(source, 5);
+        chain->listed = 8;
+        for (unsigned n = 0; n < 8; n++)
+            chain->distance[n] = (uint32_t)draw(source, n * 2500, (n + 1) * 2500);
+        chain->gap = least_gap(chain) + (uint32_t)draw(source, 0, 100);
+    }
+    mix_ids(source, &table);
+    return table;
+}
+
+/* Chains that ask for more than there is: no window closes, or none does within the horizon. */
+static struct made_table heavy_table(struct source *source)
+{
+    struct made_table table = {0};
+    unsigned chains = (unsigned)draw(source, 1, 4);
+    for (unsigned i = 0; i < chains; i++) {
+        struct made_chain *chain = add_chain(&table, (uint32_t)draw(source, 1, LATEST), 0, 1);
+        fill_tasks(source, chain, (unsigned)draw(source, 1, 5), 8, 40000);
+        chain->asynchronous = one_in(source, 2);
+        chain->overload = one_in(source, 4);
+        uint64_t mean = cost_of(chain) * chains * draw(source, 20, 80) / 100;
+        fill_list(source, chain, mean < 8000 ? 8000 : mean);
+        fill_gap(source, chain);
+    }
+    return table;
+}
+
+/* A load of almost all the time, with few arrivals within the horizon. */
+static struct made_table close_to_one(struct source *source)
+{
+    struct made_table table = {0};
+    unsigned chains = (unsigned)draw(source, 1, 3);
+    for (unsigned i = 0; i < chains; i++) {
+        uint64_t mean = draw(source, 100000, 1500000);
+        uint64_t cost = mean * draw(source, 950, 1005) / 1000 / chains;
+        struct made_chain *chain = add_chain(&table, (uint32_t)draw(source, 1, 2 * mean), 0, 1);
+        split_cost(chain, (uint32_t)draw(source, 1, 6), cost / 2 + 1);
+        split_cost(chain, (uint32_t)draw(source, 1, 6), cost / 2 + 1);
+        chain->asynchronous = one_in(source, 3);
+        chain->overload = i > 0 && one_in(source, 3);
+        fill_list(source, chain, mean);
+        fill_gap(source, chain);
+    }
+    if (one_in(source, 2))
+        make_late(source, &table, 0);
+    return table;
+}
+
+/* A load that one chain works off slowly: K up to 1,024 and just past it. */
+static struct made_table backlog(struct source *source)
+{
+    struct made_table table = {0};
+    uint32_t cost = (uint32_t)draw(source, 1, 9700);
+    uint32_t slack = (uint32_t)draw(source, 1, 20);
+    uint64_t wanted = one_in(source, 2) ? draw(source, 1021, 1027) : draw(source, 1, 1100);
+    uint64_t extra = slack * wanted + draw(source, 0, 2) - 1;
+    struct made_chain *b = add_chain(&table, (uint32_t)draw(source, 1, cost + extra + 1), cost + slack, cost + slack);
+    add_task(b, 5, cost);
+    b->asynchronous = one_in(source, 2);
+    unsigned parts = (unsigned)draw(source, 1, 3);
+    for (unsigned i = 0; i < parts && extra > 0; i++) {
+        uint64_t part = i + 1 == parts ? extra : draw(source, 1, extra);
+        struct made_chain *chain = add_chain(&table, 1000, 0, LATEST);
+        split_cost(chain, (uint32_t)draw(source, 5, 9), part);
+        if (one_in(source, 2))
+            add_task(chain, 1, (uint32_t)draw(source, 1, 50));
+        chain->overload = !one_in(source, 3);
+        extra -= part;
+    }
+    if (one_in(source, 2))
+        make_late(source, &table, 0);
+    return table;
+}
+
+/* Windows that end at the horizon or a tick beside it, after the list has been gone through once or twice. */
+static struct made_table horizon(struct source *source)
+{
+    struct made_table table = {0};
+    bool twice = one_in(source, 2);
+    uint64_t all = LATEST + draw(source, 0, 4) - 2;
+    struct made_chain *b = add_chain(&table, (uint32_t)draw(source, 1, LATEST), 0, LATEST);
+    b->listed = (unsigned)draw(source, 1, 8);
+    for (unsigned i = 0; i < b->listed; i++)
+        b->distance[i] = (uint32_t)draw(source, 0, 9);
+    uint32_t last = LATEST - (uint32_t)(twice ? draw(source, 1000, 1000000) : draw(source, 0, 2));
+    b->distance[b->listed - 1] = last;
+    sort(b->distance, b->listed);
+    b->gap = one_in(source, 2) ? least_gap(b) : 0;
+    uint64_t activations = b->listed * (twice ? 2 : 1);
+    uint64_t cost = draw(source, 1, (twice ? all - last - 100 : all / 2) / b->listed);
+    split_cost(b, 4, cost);
+    b->asynchronous = one_in(source, 2);
+    struct made_chain *other = add_chain(&table, LATEST, 0, LATEST);
+    split_cost(other, (uint32_t)draw(source, 4, 5), all - cost * activations);
+    other->overload = one_in(source, 2);
+    if (one_in(source, 2))
+        add_task(other, 1, DEAREST); /* deferred, and so there once at whatever length */
+    return table;
+}
+
+/* Values at the limits, in tables of the least and of the greatest size. */
+static struct made_table at_limits(struct source *source)
+{
+    struct made_table table = {0};
+    unsigned chains = one_in(source, 2) ? 1 : (unsigned)draw(source, 2, 4);
+    for (unsigned i = 0; i < chains; i++) {
+        struct made_chain *chain = add_chain(&table, one_in(source, 2) ? 1 : LATEST, 0, LATEST);
+        unsigned tasks = one_in(source, 2) ? 16 : 1;
+        for (unsigned n = 0; n < tasks; n++)
+            add_task(chain, one_in(source, 2) ? 1 : HIGHEST, one_in(source, 2) ? 1 : DEAREST);
+        chain->listed = one_in(source, 2) ? 8 : 1;
+        for (unsigned n = 0; n < chain->listed; n++)
+            chain->distance[n] = LATEST;
+        if (one_in(source, 3))
+            chain->distance[0] = chain->listed == 1 ? LATEST : 0;
+        chain->gap = one_in(source, 2) ? LATEST : 0;
+        chain->asynchronous = one_in(source, 2);
+        chain->overload = one_in(source, 2);
+    }
+    if (one_in(source, 2))
+        table.chain[0].id = HIGHEST;
+    return table;
+}
+
+/* One chain too many, some tasks too many, or no chain. */
+static struct made_table wrong_count(struct source *source)
+{
+    static const uint32_t counts[] = {0, 5, 17, 17};
+    struct made_table table = {0};
+    unsigned chains = pick(source, counts, 4);
+    for (unsigned i = 0; i < chains; i++)
+        fill_tasks(source, add_chain(&table, 10, 0, 1000), chains == 5 ? (unsigned)draw(source, 12, 16) : 1, 9, 9);
+    return table;
+}
+
+/* Overload against which there is a floor of 3 and a tail of 5: a task of 7 goes on, of 4 cuts, of 2 ends a segment. */
+static void fill_segments(struct source *source, struct made_chain *chain, unsigned segments, uint32_t dearest)
+{
+    if (one_in(source, 5))
+        add_task(chain, 1, (uint32_t)draw(source, 1, dearest));
+    for (unsigned i = 0; i < segments; i++) {
+        bool first = i == 0 || one_in(source, 2);
+        if (i > 0 && first)
+            add_task(chain, 2, (uint32_t)draw(source, 1, dearest));
+        add_task(chain, first && !one_in(source, 4) ? 7 : 4, (uint32_t)draw(source, 1, dearest));
+        if (chain->tasks + 2 * (segments - i) <= 16 && one_in(source, 6))
+            add_task(chain, 8, (uint32_t)draw(source, 1, dearest));
+    }
+    if (chain->tasks < 16 && one_in(source, 5))
+        add_task(chain, 2, (uint32_t)draw(source, 1, dearest));
+}
+
+/* Distances of the overload chains that give capacities of 2 to 41 for some of the run lengths that are asked. */
+static void spread_overload(struct source *source, struct made_table *table, uint64_t busy)
+{
+    static const uint32_t runs[] = {1, 2, 3, 10, 11, 999, 1000};
+    uint64_t reach = (pick(source, runs, 7) - 1) * (uint64_t)table->chain[0].gap + busy;
+    bool even = one_in(source, 2);
+    uint64_t capacity = draw(source, 2, 41);
+    for (unsigned i = 0; i < table->chains; i++) {
+        struct made_chain *chain = &table->chain[i];
+        if (!chain->overload)
+            continue;
+        if (!even)
+            capacity = one_in(source, 2) ? draw(source, 36, 41) : draw(source, 2, 41);
+        uint64_t distance = reach / (capacity - 1) + draw(source, 0, 1);
+        if (distance < busy)
+            distance = one_in(source, 10) ? busy * 8 / 10 + 1 : busy;
+        chain->distance[0] = least(distance, LATEST);
+        if (one_in(source, 6)) {
+            chain->listed = 2;
+            chain->distance[1] = least(chain->distance[0] * 2ull, LATEST);
+        }
+    }
+}
+
+struct made_table packing_table(struct source *source, unsigned segments)
+{
+    static const uint32_t costs[] = {5, 20, 1000};
+    struct made_table table = {0};
+    uint32_t dearest = pick(source, costs, 3);
+    struct made_chain *b = add_chain(&table, 1, 0, 1);
+    add_task(b, 3, (uint32_t)draw(source, 1, dearest));
+    add_task(b, 5, (uint32_t)draw(source, 1, dearest));
+    uint64_t busy = cost_of(b);
+    while (segments > 0) {
+        struct made_chain *chain = add_chain(&table, 1000, 0, 1);
+        unsigned count = (unsigned)draw(source, 1, one_in(source, 2) ? 1 : segments);
+        chain->overload = true;
+        chain->asynchronous = one_in(source, 2);
+        fill_segments(source, chain, count, dearest);
+        busy += 2 * cost_of(chain);
+        segments -= count;
+    }
+    b = &table.chain[0];
+    b->distance[0] = b->gap = (uint32_t)draw(source, busy / 3 + 3 * cost_of(b), 2 * busy + 3 * cost_of(b));
+    spread_overload(source, &table, busy);
+    if (one_in(source, 3)) {
+        struct made_chain *other = add_chain(&table, 100, 0, 7 * (uint32_t)busy);
+        fill_tasks(source, other, 2, 9, dearest);
+    }
+    make_late(source, &table, 0);
+    return table;
+}
+
+/* ---- Damage ---- */
+
+static void flip_bit(struct source *source, struct generated *table)
+{
+    table->bytes[draw(source, 0, table->length - 1)] ^= (uint8_t)(1u << draw(source, 0, 7));
+    table->damage = "a bit flipped";
+}
+
+static void replace_byte(struct source *source, struct generated *table)
+{
+    table->bytes[draw(source, 0, table->length - 1)] = (uint8_t)draw(source, 0, 255);
+    table->damage = "a byte replaced";
+}
+
+static void cut(struct source *source, struct generated *table)
+{
+    size_t most = table->length - 1;
+    table->length = draw(source, one_in(source, 3) && most > 8 ? most - 8 : 0, most);
+    table->damage = "cut";
+}
+
+static void append(struct source *source, struct generated *table)
+{
+    unsigned count = (unsigned)(one_in(source, 4) ? 1285 - least(table->length, 1284) : draw(source, 1, 20));
+    for (; count > 0 && table->length < MOST_GENERATED; count--)
+        table->bytes[table->length++] = (uint8_t)(one_in(source, 2) ? 0 : draw(source, 0, 255));
+    table->damage = "appended to";
+}
+
+/* A field of a stored table: where it is, its width and its greatest value (0: a mark). */
+struct field {
+    size_t at;
+    unsigned width;
+    uint32_t most;
+};
+
+static struct field field_of_record(struct source *source, const uint8_t *bytes, size_t at)
+{
+    static const struct field fixed[] = {{0, 2, 0},       {2, 2, HIGHEST}, {4, 1, 1},  {5, 1, 1},
+                                         {6, 4, LATEST},  {10, 4, LATEST}, {14, 1, 8}, {15, 1, 16}};
+    static const struct field of_task[] = {{0, 2, 0}, {2, 2, HIGHEST}, {4, 4, DEAREST}};
+    unsigned listed = bytes[at + 14], tasks = bytes[at + 15];
+    struct field found;
+    switch (draw(source, 0, 2)) {
+    case 0:
+        found = fixed[draw(source, 0, 7)];
+        found.at += at;
+        break;
+    case 1:
+        found = (struct field){at + 16 + 4 * draw(source, 0, listed - 1), 4, LATEST};
+        break;
+    default:
+        found = of_task[draw(source, 0, 2)];
+        found.at += at + 16 + 4 * listed + 8 * draw(source, 0, tasks - 1);
+    }
+    return found;
+}
+
+/* A field of a table that was made without damage. */
+static struct field any_field(struct source *source, const struct generated *table, unsigned chains)
+{
+    unsigned place = (unsigned)draw(source, 0, chains);
+    size_t at = 0;
+    for (unsigned i = 0; i < place; i++)
+        at += 16 + 4u * table->bytes[at + 14] + 8u * table->bytes[at + 15];
+    if (place < chains)
+        return field_of_record(source, table->bytes, at);
+    return one_in(source, 2) ? (struct field){at, 2, 0} : (struct field){at + 2, 2, chains};
+}
+
+static void set_field(struct source *source, struct generated *table, struct field field)
+{
+    static const char *const marks[] = {"CH", "TK", "EN", "ch", "CG", "HC"};
+    const uint32_t values[] = {0, 1, field.most - 1, field.most, field.most + 1, UINT32_MAX};
+    if (field.most == 0)
+        put_mark(table->bytes + field.at, marks[draw(source, 0, 5)]);
+    else
+        put(table->bytes + field.at, one_in(source, 4) ? draw(source, 0, field.most) : pick(source, values, 6), field.width);
+    table->damage = "a field set";
+}
+
+/* Two chains that bear one id. */
+static void repeat_id(struct source *source, struct generated *table)
+{
+    size_t second = 16 + 4u * table->bytes[14] + 8u * table->bytes[15];
+    (void)source;
+    memcpy(table->bytes + second + 2, table->bytes + 2, 2);
+    table->damage = "an id repeated";
+}
+
+/* An end inside the fixed part of the 17th chain, each of whose records has 28 bytes. */
+static void cut_last_of_17(struct source *source, struct generated *table)
+{
+    table->length -= 32 - draw(source, 1, 18);
+    table->damage = "cut in the last chain";
+}
+
+static void damage(struct source *source, struct generated *table, unsigned chains)
+{
+    if (chains == 17 && one_in(source, 2)) {
+        cut_last_of_17(source, table);
+        return;
+    }
+    switch (draw(source, 0, 11)) {
+    case 0:
+        flip_bit(source, table);
+        break;
+    case 1:
+        replace_byte(source, table);
+        break;
+    case 2:
+    case 3:
+        cut(source, table);
+        break;
+    case 4:
+        append(source, table);
+        break;
+    case 5:
+        if (chains > 1)
+            repeat_id(source, table);
+        break;
+    case 6: {
+        struct field one = any_field(source, table, chains), other = any_field(source, table, chains);
+        set_field(source, table, one);
+        set_field(source, table, other);
+        if (one_in(source, 3))
+            cut(source, table);
+        break;
+    }
+    default:
+        set_field(source, table, any_field(source, table, chains));
+    }
+}
+
+/* ---- Any table ---- */
+
+static uint32_t get(const uint8_t *at, unsigned width)
+{
+    uint32_t value = 0;
+    for (unsigned i = 0; i < width; i++)
+        value |= (uint32_t)at[i] << 8 * i;
+    return value;
+}
+
+/* Whether damage has left a table that is accepted, is busy almost all the time and has close arrivals. */
+static bool takes_long(const struct generated *table)
+{
+    uint8_t answer[16];
+    uint64_t busy = 0; /* of a thousand */
+    bool close = false;
+    if (plain_latency(table->bytes, table->length, 0, answer, sizeof answer) != 12)
+        return false;
+    for (const uint8_t *at = table->bytes; at[0] == 'C';) {
+        unsigned listed = at[14], tasks = at[15];
+        uint64_t last = get(at + 12 + 4 * listed, 4), cost = 0;
+        for (unsigned i = 0; i < tasks; i++)
+            cost += get(at + 16 + 4 * listed + 8 * i + 4, 4);
+        busy += cost * listed * 1000 / last;
+        close = close || last / listed < 8000;
+        at += 16 + 4 * listed + 8 * tasks;
+    }
+    return close && busy >= 950;
+}
+
+static struct made_table documented(struct source *source)
+{
+    switch (draw(source, 0, 2)) {
+    case 0:
+        return sample_table();
+    case 1:
+        return case_study();
+    default:
+        return horizon_edge();
+    }
+}
+
+static struct made_table any_family(struct source *source, const char **family)
+{
+    uint64_t turn = draw(source, 0, 99);
+    if (turn < 2)
+        return *family = "of the documents", documented(source);
+    if (turn < 37)
+        return *family = "light", light_table(source, (unsigned)draw(source, 1, one_in(source, 3) ? 16 : 6));
+    if (turn < 41)
+        return *family = "full", full_table(source);
+    if (turn < 46)
+        return *family = "heavy", heavy_table(source);
+    if (turn < 51)
+        return *family = "close to one", close_to_one(source);
+    if (turn < 59)
+        return *family = "backlog", backlog(source);
+    if (turn < 66)
+        return *family = "horizon", horizon(source);
+    if (turn < 72)
+        return *family = "limits", at_limits(source);
+    if (turn < 74)
+        return *family = "wrong count", wrong_count(source);
+    return *family = "packing", packing_table(source, one_in(source, 2) ? 6 : (unsigned)draw(source, 1, 7));
+}
+
+struct generated generate(struct source *source)
+{
+    struct generated found = {.damage = ""};
+    struct made_table table = any_family(source, &found.family);
+    found.length = encode(&table, found.bytes);
+    if (one_in(source, 3)) {
+        damage(source, &found, table.chains);
+        if (takes_long(&found))
+            cut(source, &found);
+    }
+    return found;
+}
+
+/* A chain with a last distance of 1 or 2 before a wide window of another. */
+struct generated generate_walked(struct source *source)
+{
+    struct generated found = {.family = "walked", .damage = ""};
+    struct made_table table = {0};
+    struct made_chain *b = add_chain(&table, (uint32_t)draw(source, 1, LATEST), LATEST, LATEST);
+    b->asynchronous = one_in(source, 2);
+    split_cost(b, 5, draw(source, 500000, 3000000));
+    struct made_chain *other = add_chain(&table, 1000, 0, (uint32_t)draw(source, 1, 2));
+    add_task(other, 7, 1);
+    if (one_in(source, 3))
+        add_task(other, 1, 1);
+    other->asynchronous = one_in(source, 2);
+    if (one_in(source, 2)) {
+        other->listed = 8;
+        other->distance[7] = (uint32_t)draw(source, 8, 16);
+        for (unsigned i = 0; i < 7; i++)
+            other->distance[i] = i;
+    }
+    struct made_chain *rare = add_chain(&table, 1000, 0, LATEST);
+    rare->overload = true;
+    split_cost(rare, 6, draw(source, 1, 3000000));
+    if (one_in(source, 2))
+        make_late(source, &table, 0);
+    found.length = encode(&table, found.bytes);
+    return found;
+}

@@ -1,0 +1,26 @@
+/* The entries of mishtodran.h by the plain analyzer: to try the C programs where the proved library is not at hand. */
+#include "../include/mishtodran.h"
+#include "analyzer.h"
+
+uint32_t mishtodran_latency(const uint8_t *table, size_t table_len, uint32_t id, uint8_t *answer, size_t answer_len)
+{
+    return plain_latency(table, table_len, id, answer, answer_len);
+}
+
+uint32_t mishtodran_misses(const uint8_t *table, size_t table_len, uint32_t id, uint32_t k, uint8_t *answer,
+                           size_t answer_len)
+{
+    return plain_misses(table, table_len, id, k, answer, answer_len);
+}
+
+uint32_t mishtodran_segment(const uint8_t *table, size_t table_len, uint32_t chain, uint32_t against, uint32_t number,
+                            uint8_t *answer, size_t answer_len)
+{
+    return plain_segment(table, table_len, chain, against, number, answer, answer_len);
+}
+
+uint32_t mishtodran_save(uint8_t *buffer, size_t buffer_len, uint64_t used, const uint8_t *old_record, size_t old_len,
+                         const uint8_t *new_record, size_t new_len, uint8_t *answer, size_t answer_len)
+{
+    return plain_save(buffer, buffer_len, used, old_record, old_len, new_record, new_len, answer, answer_len);
+}

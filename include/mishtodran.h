@@ -1,0 +1,98 @@
+/* Mishtodran: latency and deadline misses of task chains, from a stored table.
+ *
+ * Every entry returns 0 and writes its answer, or returns the number of a refusal (below) and writes nothing.
+ * Answers are little-endian. Bytes of an answer buffer past the answer stay as they are.
+ *
+ * What the caller keeps:
+ * - a pointer is good for the length that stands beside it; a null pointer with length 0 is fine;
+ * - a slice that is written (answer, buffer) overlaps no other slice of the call.
+ * Nothing else: any bytes may stand in a table or a record, and any number is taken at its full width. Entries keep
+ * nothing between calls.
+ */
+#ifndef MISHTODRAN_H
+#define MISHTODRAN_H
+
+#include <stddef.h>
+#include <stdint.h>
+
+#ifdef __cplusplus
+extern "C" {
+#endif
+
+/* Why an entry refuses. */
+enum mishtodran_refusal {
+    /* The table */
+    MISHTODRAN_TABLE_LENGTH = 1,       /* its length is 0, above 1,284 or above its buffer */
+    MISHTODRAN_CUT_SHORT = 2,          /* bytes run out inside a record or before the end record */
+    MISHTODRAN_MARK = 3,               /* a mark is not one allowed there */
+    MISHTODRAN_ID = 4,                 /* an id is 0 or used earlier */
+    MISHTODRAN_KIND = 5,               /* a kind or overload byte is above 1 */
+    MISHTODRAN_DEADLINE = 6,           /* a deadline is not 1 to 10,000,000 */
+    MISHTODRAN_GAP = 7,                /* a gap is above 10,000,000 */
+    MISHTODRAN_LIST = 8,               /* a list is not 1 to 8 long, falls, exceeds 10,000,000, ends in 0, or is above
+                                          what the gap allows */
+    MISHTODRAN_TASK_COUNT = 9,         /* a task count is not 1 to 16, or there are over 64 tasks so far */
+    MISHTODRAN_TASK = 10,              /* a priority is 0, or a cost is not 1 to 1,000,000 */
+    MISHTODRAN_END = 11,               /* a 17th chain, no chain, a wrong end count, or bytes after the end */
+    /* A chain's figures; 12 in any query */
+    MISHTODRAN_UNKNOWN_ID = 12,        /* the id is not in the table */
+    MISHTODRAN_RUN_LENGTH = 13,        /* k is not 1 to 1,000 */
+    MISHTODRAN_OF_OVERLOAD = 14,       /* misses are asked of an overload chain */
+    MISHTODRAN_NO_GAP = 15,            /* misses are asked of a chain with gap 0 */
+    MISHTODRAN_NO_WINDOW = 16,         /* a window has no solution within 10,000,000 ticks */
+    MISHTODRAN_NO_CLOSE = 17,          /* the windows do not close by activation 1,024 */
+    MISHTODRAN_SEGMENTS = 18,          /* there are over 6 overload active segments */
+    MISHTODRAN_STARTS_AGAIN = 19,      /* an overload chain may start more than once in the last window */
+    MISHTODRAN_ALWAYS_LATE = 20,       /* a deadline is missed without any overload */
+    MISHTODRAN_CAPACITY = 21,          /* an overload active segment's capacity is above 40 */
+    /* A save */
+    MISHTODRAN_STALE_RECORD = 22,      /* the old record equals no stored chain record */
+    MISHTODRAN_NEW_RECORD = 23,        /* the new record has not a chain record's form, or bears another id */
+    MISHTODRAN_BUFFER_TOO_SHORT = 24,  /* the result is longer than the buffer */
+    /* A segment */
+    MISHTODRAN_AGAINST_ITSELF = 25,    /* a segment of a chain against itself */
+    MISHTODRAN_NO_SUCH_SEGMENT = 26,   /* there is no active segment of that number */
+    /* Any entry */
+    MISHTODRAN_ANSWER_TOO_SHORT = 27   /* the answer buffer is too short */
+};
+
+/* Bytes that an answer buffer needs. */
+enum {
+    MISHTODRAN_LATENCY_BYTES = 16,
+    MISHTODRAN_MISSES_BYTES = 4,
+    MISHTODRAN_SEGMENT_BYTES = 8,
+    MISHTODRAN_SAVE_BYTES = 4
+};
+
+/* The latency of chain `id`: 16 bytes of answer, four for each figure: K (how many activations were looked at), the
+ * latency, how many of the K are late, and the margin (deadline minus latency, two's complement).
+ * Refuses with 27, then 1 to 11, 12, 16 or 17. */
+uint32_t mishtodran_latency(const uint8_t *table, size_t table_len, uint32_t id,
+                            uint8_t *answer, size_t answer_len);
+
+/* A bound on the deadline misses of chain `id` among any `k` activations in a row: 4 bytes of answer. The bound may
+ * exceed k.
+ * Refuses with 27, then 1 to 11, 12, 13, 14, 15, 16 or 17, 18, 19, 20, 21. */
+uint32_t mishtodran_misses(const uint8_t *table, size_t table_len, uint32_t id, uint32_t k,
+                           uint8_t *answer, size_t answer_len);
+
+/* Where active segment `number` (from 1) of chain `chain` against chain `against` stands in the table: 8 bytes of
+ * answer, its offset from the table's first byte and its length in bytes.
+ * Refuses with 27, then 1 to 11, 12 for either id, 25, 26. */
+uint32_t mishtodran_segment(const uint8_t *table, size_t table_len, uint32_t chain, uint32_t against, uint32_t number,
+                            uint8_t *answer, size_t answer_len);
+
+/* Puts a new record in the place of an old one, in the table that stands in the first `used` bytes of a buffer: 4 bytes
+ * of answer, the new used length. The old record is given as it was last seen, whole, so that a change made meanwhile
+ * is never lost. Bytes between a shorter end and the former end become 0; bytes past both ends stay.
+ * Refuses with 27, then 1 to 11 for the table, 22, 23, 24, 1 to 11 for the result; the buffer then stays as it was. */
+uint32_t mishtodran_save(uint8_t *buffer, size_t buffer_len, uint64_t used,
+                         const uint8_t *old_record, size_t old_len,
+                         const uint8_t *new_record, size_t new_len,
+                         uint8_t *answer, size_t answer_len);
+
+#ifdef __cplusplus
+}
+#endif
+
+#endif

@@ -1,0 +1,261 @@
+/* Replays packed cases (tests/pack_entries.py) through the entries of mishtodran.h.
+   Usage: entries CASES
+
+   Every slice lent to an entry stands against unreadable pages, in a first pass with its end and in a second with its
+   start, and slices that are only read are write-protected: a step outside is caught and counts as a failure. Checked
+   are the returned number, every byte of every slice afterwards, and some bytes beside it. */
+#define _GNU_SOURCE
+#include "mishtodran.h"
+
+#include <setjmp.h>
+#include <signal.h>
+#include <stdbool.h>
+#include <stdio.h>
+#include <stdlib.h>
+#include <string.h>
+#include <sys/mman.h>
+
+enum {
+    PAGE = 65536, /* at least a page of any machine, also of one that emulates */
+    BESIDE = 64,  /* bytes beside a slice that are checked too */
+    FILLER = 0xA5,
+    SAME = 65535 /* the packed length of bytes that do not change */
+};
+
+enum { LATENCY, MISSES, SEGMENT, SAVE };
+enum { TABLE, OLD, NEW, ANSWER, SLICES };
+
+/* Bytes to lend, and what they must be afterwards. */
+struct slice {
+    const uint8_t *before, *after;
+    size_t length;
+};
+
+struct entry_case {
+    unsigned entry;
+    int name_length;
+    const char *name;
+    uint64_t number[3];
+    uint32_t returns;
+    struct slice slice[SLICES];
+};
+
+/* ---- The packed cases ---- */
+
+static const uint8_t *packed, *packed_end;
+
+static const uint8_t *take(size_t length)
+{
+    if ((size_t)(packed_end - packed) < length) {
+        puts("the packed cases end within a case");
+        exit(2);
+    }
+    packed += length;
+    return packed - length;
+}
+
+static uint64_t take_number(unsigned width)
+{
+    const uint8_t *at = take(width);
+    uint64_t number = 0;
+    for (unsigned i = 0; i < width; i++)
+        number |= (uint64_t)at[i] << 8 * i;
+    return number;
+}
+
+static void take_before(struct slice *slice)
+{
+    slice->length = take_number(2);
+    slice->before = take(slice->length);
+    slice->after = slice->before;
+}
+
+static void take_after(struct slice *slice)
+{
+    size_t length = take_number(2);
+    if (length != SAME)
+        slice->after = take(slice->length);
+}
+
+static struct entry_case take_case(void)
+{
+    struct entry_case found;
+    found.entry = (unsigned)take_number(1);
+    found.name_length = (int)take_number(1);
+    found.name = (const char *)take((size_t)found.name_length);
+    for (unsigned i = 0; i < 3; i++)
+        found.number[i] = take_number(8);
+    found.returns = (uint32_t)take_number(4);
+    for (unsigned i = 0; i < SLICES; i++)
+        take_before(&found.slice[i]);
+    take_after(&found.slice[TABLE]);
+    take_after(&found.slice[ANSWER]);
+    return found;
+}
+
+static void load_cases(const char *path)
+{
+    FILE *file = fopen(path, "rb");
+    static uint8_t bytes[16 << 20];
+    size_t length = file ? fread(bytes, 1, sizeof bytes, file) : 0;
+    if (length == 0 || length == sizeof bytes) {
+        printf("%s: no cases could be read\n", path);
+        exit(2);
+    }
+    fclose(file);
+    packed = bytes;
+    packed_end = bytes + length;
+}
+
+/* ---- Lending ---- */
+
+/* One readable page between two unreadable ones, for each slice. */
+static uint8_t *room[SLICES];
+
+static void make_rooms(void)
+{
+    for (unsigned i = 0; i < SLICES; i++) {
+        uint8_t *pages = mmap(NULL, 4 * PAGE, PROT_NONE, MAP_PRIVATE | MAP_ANONYMOUS, -1, 0);
+        if (pages == MAP_FAILED) {
+            puts("no memory to lend");
+            exit(2);
+        }
+        room[i] = pages + 2 * PAGE - (uintptr_t)pages % PAGE;
+    }
+}
+
+static void protect(unsigned which, int how)
+{
+    if (mprotect(room[which], PAGE, how) != 0) {
+        puts("memory cannot be protected");
+        exit(2);
+    }
+}
+
+/* An entry writes the answer, and save its buffer. */
+static bool is_written(unsigned entry, unsigned which) { return which == ANSWER || (entry == SAVE && which == TABLE); }
+
+/* Where a slice of this length stands: against the page after it, or against the page before it. */
+static uint8_t *place(unsigned which, size_t length, bool at_end)
+{
+    return at_end ? room[which] + PAGE - length : room[which];
+}
+
+/* The checked bytes beside a slice, on its open side. */
+static uint8_t *beside(unsigned which, size_t length, bool at_end)
+{
+    return at_end ? place(which, length, true) - BESIDE : room[which] + length;
+}
+
+static void lend(const struct entry_case *given, unsigned which, bool at_end)
+{
+    const struct slice *slice = &given->slice[which];
+    protect(which, PROT_READ | PROT_WRITE);
+    memset(beside(which, slice->length, at_end), FILLER, BESIDE);
+    memcpy(place(which, slice->length, at_end), slice->before, slice->length);
+    if (!is_written(given->entry, which))
+        protect(which, PROT_READ);
+}
+
+/* The lent pointer; in the second pass an empty slice is a null pointer. */
+static uint8_t *lent(const struct entry_case *given, unsigned which, bool at_end)
+{
+    size_t length = given->slice[which].length;
+    return length == 0 && !at_end ? NULL : place(which, length, at_end);
+}
+
+static bool is_as_expected(const struct entry_case *given, unsigned which, bool at_end)
+{
+    const struct slice *slice = &given->slice[which];
+    const uint8_t *side = beside(which, slice->length, at_end);
+    for (unsigned i = 0; i < BESIDE; i++)
+        if (side[i] != FILLER)
+            return false;
+    return memcmp(place(which, slice->length, at_end), slice->after, slice->length) == 0;
+}
+
+/* ---- Calling ---- */
+
+static sigjmp_buf stepped_outside;
+
+static void on_fault(int number)
+{
+    (void)number;
+    siglongjmp(stepped_outside, 1);
+}
+
+static void catch_faults(void)
+{
+    struct sigaction action = {.sa_handler = on_fault};
+    sigaction(SIGSEGV, &action, NULL);
+    sigaction(SIGBUS, &action, NULL);
+}
+
+static uint32_t call(const struct entry_case *given, bool at_end)
+{
+    const struct slice *slice = given->slice;
+    uint8_t *table = lent(given, TABLE, at_end);
+    uint8_t *answer = lent(given, ANSWER, at_end);
+    size_t table_len = slice[TABLE].length, answer_len = slice[ANSWER].length;
+    const uint64_t *number = given->number;
+    switch (given->entry) {
+    case LATENCY:
+        return mishtodran_latency(table, table_len, (uint32_t)number[0], answer, answer_len);
+    case MISSES:
+        return mishtodran_misses(table, table_len, (uint32_t)number[0], (uint32_t)number[1], answer, answer_len);
+    case SEGMENT:
+        return mishtodran_segment(table, table_len, (uint32_t)number[0], (uint32_t)number[1], (uint32_t)number[2],
+                                  answer, answer_len);
+    default:
+        return mishtodran_save(table, table_len, number[0], lent(given, OLD, at_end), slice[OLD].length,
+                               lent(given, NEW, at_end), slice[NEW].length, answer, answer_len);
+    }
+}
+
+static bool fails(const struct entry_case *given, const char *what)
+{
+    printf("%.*s: %s\n", given->name_length, given->name, what);
+    return false;
+}
+
+static bool run(const struct entry_case *given, bool at_end)
+{
+    for (unsigned i = 0; i < SLICES; i++)
+        lend(given, i, at_end);
+    if (sigsetjmp(stepped_outside, 1))
+        return fails(given, at_end ? "steps past a slice, or writes to one that is only read"
+                                   : "steps before a slice, or writes to one that is only read");
+    uint32_t returned = call(given, at_end);
+    if (returned != given->returns) {
+        char what[64];
+        snprintf(what, sizeof what, "returns %lu, not %lu", (unsigned long)returned, (unsigned long)given->returns);
+        return fails(given, what);
+    }
+    if (!is_as_expected(given, ANSWER, at_end))
+        return fails(given, "the answer buffer is not as expected");
+    if (!is_as_expected(given, TABLE, at_end))
+        return fails(given, "the table is not as expected");
+    if (!is_as_expected(given, OLD, at_end) || !is_as_expected(given, NEW, at_end))
+        return fails(given, "a record has changed");
+    return true;
+}
+
+int main(int count, char **words)
+{
+    if (count != 2) {
+        puts("usage: entries CASES");
+        return 2;
+    }
+    load_cases(words[1]);
+    make_rooms();
+    catch_faults();
+    unsigned cases = 0, right = 0;
+    while (packed < packed_end) {
+        struct entry_case given = take_case();
+        cases++;
+        if (run(&given, true) && run(&given, false))
+            right++;
+    }
+    printf("%u cases, %u as expected\n", cases, right);
+    return right == cases ? 0 : 1;
+}
