@@ -8,6 +8,7 @@
 #include "generate.h"
 
 #include <inttypes.h>
+#include <signal.h>
 #include <stdio.h>
 #include <stdlib.h>
 #include <string.h>
@@ -438,6 +439,16 @@ static void compare_walked(const struct generated *table)
     ask_whole(table, MISSES, places.id[0], 10, 0);
 }
 
+/* The table under way, to be shown where a library crashes on it. */
+static struct generated under_way;
+
+static void on_crash(int number)
+{
+    printf("a crash, signal %d\n", number);
+    print_hex("table", under_way.bytes, under_way.length);
+    exit(1);
+}
+
 static void print_met(void)
 {
     for (unsigned entry = 0; entry < ENTRIES; entry++) {
@@ -458,12 +469,14 @@ int main(int count, char **words)
     }
     struct source source = {strtoull(words[1], NULL, 10)};
     unsigned long tables = strtoul(words[2], NULL, 10);
+    signal(SIGSEGV, on_crash);
+    signal(SIGBUS, on_crash);
     for (unsigned long i = 0; i < tables; i++) {
-        struct generated table = walked ? generate_walked(&source) : generate(&source);
+        under_way = walked ? generate_walked(&source) : generate(&source);
         if (walked)
-            compare_walked(&table);
+            compare_walked(&under_way);
         else
-            compare_table(&source, &table);
+            compare_table(&source, &under_way);
     }
     print_met();
     printf("%lu tables, no difference\n", tables);

@@ -706,34 +706,43 @@ static struct made_table documented(struct source *source)
     }
 }
 
-static struct made_table any_family(struct source *source, const char **family)
+static struct made_table some_light(struct source *source)
 {
-    uint64_t turn = draw(source, 0, 99);
-    if (turn < 2)
-        return *family = "of the documents", documented(source);
-    if (turn < 37)
-        return *family = "light", light_table(source, (unsigned)draw(source, 1, one_in(source, 3) ? 16 : 6));
-    if (turn < 41)
-        return *family = "full", full_table(source);
-    if (turn < 46)
-        return *family = "heavy", heavy_table(source);
-    if (turn < 51)
-        return *family = "close to one", close_to_one(source);
-    if (turn < 59)
-        return *family = "backlog", backlog(source);
-    if (turn < 66)
-        return *family = "horizon", horizon(source);
-    if (turn < 72)
-        return *family = "limits", at_limits(source);
-    if (turn < 74)
-        return *family = "wrong count", wrong_count(source);
-    return *family = "packing", packing_table(source, one_in(source, 2) ? 6 : (unsigned)draw(source, 1, 7));
+    return light_table(source, (unsigned)draw(source, 1, one_in(source, 3) ? 16 : 6));
+}
+
+static struct made_table some_packing(struct source *source)
+{
+    return packing_table(source, one_in(source, 2) ? 6 : (unsigned)draw(source, 1, 7));
+}
+
+struct family {
+    const char *name;
+    unsigned share; /* of a hundred tables */
+    struct made_table (*make)(struct source *source);
+};
+
+static const struct family families[] = {
+    {"of the documents", 2, documented}, {"light", 35, some_light},
+    {"full", 4, full_table},             {"heavy", 5, heavy_table},
+    {"close to one", 5, close_to_one},   {"backlog", 8, backlog},
+    {"horizon", 7, horizon},             {"limits", 6, at_limits},
+    {"wrong count", 2, wrong_count},     {"packing", 26, some_packing},
+};
+
+static const struct family *any_family(struct source *source)
+{
+    const struct family *family = families;
+    for (uint64_t turn = draw(source, 1, 100); turn > family->share; family++)
+        turn -= family->share;
+    return family;
 }
 
 struct generated generate(struct source *source)
 {
-    struct generated found = {.damage = ""};
-    struct made_table table = any_family(source, &found.family);
+    const struct family *family = any_family(source);
+    struct generated found = {.family = family->name, .damage = ""};
+    struct made_table table = family->make(source);
     found.length = encode(&table, found.bytes);
     if (one_in(source, 3)) {
         damage(source, &found, table.chains);

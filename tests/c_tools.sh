@@ -1,8 +1,10 @@
+# shellcheck shell=bash
 # A C compiler for x86-64, for which the static library is made, and what runs its programs here. To be sourced.
 #
 #   c_tools                     find or install both, once; fails with one line where it cannot
 #   c_build OUT ARGUMENTS..     compile and link a static program
 #   c_run PROGRAM ARGUMENTS..   run one
+#   c_run_proved PROGRAM ..     run one that rt has linked, with the toolchain's C library
 #
 # On an x86-64 machine this is the plain compiler and no emulator. Elsewhere it is Debian's cross compiler, and the
 # emulator of the Rattle toolchain, one on the PATH, or Debian's. CC_X86_64 and EMULATOR_X86_64 name others.
@@ -54,12 +56,18 @@ c_find_compiler() {
     fi
 }
 
-# The emulator that the Rattle toolchain has beside its own compiler.
-c_toolchain_emulator() {
-    local rt kit found
+# The folder of the Rattle toolchain's compiler, for this machine.
+c_toolchain() {
+    local rt kit
     rt=$(command -v rt) || return 1
     kit=${RATTLE_HOME:-$(dirname "$(dirname "$(readlink -f "$rt")")")}
-    found=$kit/on/$(uname -m)/toolchain/bin/qemu-x86_64
+    echo "$kit/on/$(uname -m)/toolchain"
+}
+
+# The emulator that the Rattle toolchain has beside its compiler.
+c_toolchain_emulator() {
+    local found
+    found=$(c_toolchain)/bin/qemu-x86_64
     [ -x "$found" ] && echo "$found"
 }
 
@@ -84,4 +92,11 @@ c_build() {
 
 c_run() {
     ${c_emulator:+"$c_emulator"} "$@"
+}
+
+c_run_proved() {
+    local lib
+    lib=$(c_toolchain)/lib
+    [ -f "$lib/ld-linux-x86-64.so.2" ] || c_fail "the Rattle toolchain is not here" || return 1
+    c_run "$lib/ld-linux-x86-64.so.2" --library-path "$lib" "$@"
 }

@@ -44,6 +44,8 @@ def pack(name, case):
     head = struct.pack("<BB", which, len(label)) + label + struct.pack("<QQQI", *numbers, case["rc"])
     before = [case["buffer"] if which == 3 else case["table"], case.get("old", ""), case.get("new", ""), case["answer"]]
     after = [case.get("buffer_after", "="), case["after"]]
+    for old, new in zip((before[0], before[3]), after):
+        assert new in ("=", "") or len(new) == len(old), f"{name}: a slice changes its length"
     return head + b"".join(slice_of(text) for text in before + after)
 
 
