@@ -752,7 +752,7 @@ struct generated generate(struct source *source)
     return found;
 }
 
-/* A chain with a last distance of 1 or 2 before a wide window of another. */
+/* A chain with a last distance of 1 to 3, or eight in a burst, before a wide window of another. */
 struct generated generate_walked(struct source *source)
 {
     struct generated found = {.family = "walked", .damage = ""};
@@ -760,7 +760,7 @@ struct generated generate_walked(struct source *source)
     struct made_chain *b = add_chain(&table, (uint32_t)draw(source, 1, LATEST), LATEST, LATEST);
     b->asynchronous = one_in(source, 2);
     split_cost(b, 5, draw(source, 500000, 3000000));
-    struct made_chain *other = add_chain(&table, 1000, 0, (uint32_t)draw(source, 1, 2));
+    struct made_chain *other = add_chain(&table, 1000, 0, (uint32_t)draw(source, 1, 3));
     add_task(other, 7, 1);
     if (one_in(source, 3))
         add_task(other, 1, 1);
