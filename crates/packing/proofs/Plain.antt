@@ -1,11 +1,11 @@
 -- The plain search is right: k uses of the bad combinations below n have room exactly where a packing of these has k uses.
 -- Assumes nothing.
 use Prim.Native.Nat.{ℕ, zero, suc, _+_, _-_, _*_, _≤_, _<_}
-use mathlib.Core.Path.{_≡_, refl, sym, ap, ap₂, _∙_}
-use mathlib.Core.Bool.{Bool, true, false, _&&_, _||_, or-true, and-false}
+use mathlib.Core.Path.{_≡_, refl, sym, ap, _∙_}
+use mathlib.Core.Bool.{Bool, true, false, _||_, or-true, and-false}
 use mathlib.Core.Logic.{_⊎_, inl, inr, ⊎-elim}
 use native.Mathlib.Omega.{arith}
-use native.Mathlib.Nat.{eq-or-lt-of-le, le-of-suc-le-suc, mul-le-mul-right}
+use native.Mathlib.Nat.{eq-or-lt-of-le, le-of-suc-le-suc}
 use lib.Dec.{ltb, eqb}
 use borrow.Author.Tests.{ltb-true, lt-ltb, ltb-false, eqb-true, eq-eqb, ne-eqb}
 use Rattle.search.proofs.Choice.{true-not-false, lt-or-le, when-yes, when-no, when-cases}
@@ -14,7 +14,7 @@ use Rattle.search.specs.Choice.{_when_else_}
 use Rattle.search.proofs.Find.{first-le, first-miss, first-none}
 use Rattle.packing.specs.Packing.{bit, sum, usable}
 use Rattle.packing.specs.Most.{lacks, fits, less, reach}
-use Rattle.packing.proofs.Sums.{is, is-same, is-other, sum-add, sum-is, sum-ext, sum-mono, sum-zero, sum-at}
+use Rattle.packing.proofs.Sums.{is, is-other, sum-add, sum-is, sum-ext, sum-zero}
 
 -- a packing of the bad combinations below n
 pub record Below (bad : ℕ → Bool) (n : ℕ) (room uses : ℕ → ℕ) : Type 0 where

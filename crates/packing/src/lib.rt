@@ -9,6 +9,9 @@ ghost use Rattle.packing.specs.Most.{mostUses, flagged, capacity};
 ghost use Rattle.packing.specs.Engine.{Ready, Ceiling};
 use table::Table;
 
+// The masks of as many bits as there may be active segments.
+pub const COMBINATIONS: usize = 1 << Table::OVERLOADS;
+
 // All the room there is.
 fn total(room: &[u8; Table::OVERLOADS]) -> u32
     ensures { λ r. ⌜ (r ≡ sum 6 (capacity (now (room .entry)))) × (r ≤ 1530) ⌝ }
@@ -31,7 +34,7 @@ fn ceiling(
     ensures { λ r. ⌜ Ceiling (now (shares .entry)) (now (floors .entry)) (now (room .entry)) r ⌝ }
 {
     let mut need = total(room);
-    while weights::cutting(shares, floors, masks::COMBINATIONS, room, need) < weights::WEIGHTINGS {
+    while weights::cutting(shares, floors, COMBINATIONS, room, need) < weights::WEIGHTINGS {
         need -= 1;
     }
     need
@@ -40,7 +43,7 @@ fn ceiling(
 // Whether `need` uses of kept combinations below n have room: of the last of these once more, or without it. Where a weighting
 // shows that they have not, nothing is tried.
 fn reach(
-    kept: &[u8; masks::COMBINATIONS],
+    kept: &[u8; COMBINATIONS],
     shares: &[u8; weights::SHARES],
     floors: &[u8; weights::FLOORS],
     n: usize,
@@ -74,14 +77,14 @@ fn reach(
 
 // The most uses any packing has of the combinations that `bad` flags with 1, with the capacities `room`. The flag of the empty
 // combination, 0, is not looked at.
-pub fn most_uses(bad: &[u8; masks::COMBINATIONS], room: &[u8; Table::OVERLOADS]) -> u32
+pub fn most_uses(bad: &[u8; COMBINATIONS], room: &[u8; Table::OVERLOADS]) -> u32
     ensures { λ r. ⌜ r ≡ mostUses (flagged (now (bad .entry))) (capacity (now (room .entry))) ⌝ }
 {
     let kept = masks::minimal(bad);
     let shares = weights::shares(&kept);
     let floors = weights::floors(&kept, &shares);
     let mut need = ceiling(&shares, &floors, room);
-    while !reach(&kept, &shares, &floors, masks::COMBINATIONS, *room, need) {
+    while !reach(&kept, &shares, &floors, COMBINATIONS, *room, need) {
         need -= 1;
     }
     need

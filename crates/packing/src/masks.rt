@@ -1,4 +1,5 @@
 // A combination is a mask, one bit for each active segment; a set of combinations is a flag for each.
+use crate::COMBINATIONS;
 use table::Table;
 ghost use mathlib.Core.Path.{_≡_};
 ghost use mathlib.Core.Bool.{true};
@@ -9,11 +10,8 @@ ghost use Rattle.packing.specs.Packing.{bit};
 ghost use Rattle.packing.specs.Most.{mostUses, flagged, capacity, lacks, fits};
 ghost use Rattle.packing.specs.Engine.{part, keeps};
 
-// The masks of as many bits as there may be active segments.
-pub const COMBINATIONS: usize = 64;
-
 // 1 if the active segment i is in the combination m, else 0.
-pub fn has(m: usize, i: usize) -> u8
+pub(crate) fn has(m: usize, i: usize) -> u8
     requires { ⌜ i < 6 ⌝ }
     ensures { λ r. ⌜ r ≡ bit i m ⌝ }
 {
@@ -21,7 +19,7 @@ pub fn has(m: usize, i: usize) -> u8
 }
 
 // The bits of m, one for each active segment.
-pub fn bits(m: usize) -> [u8; Table::OVERLOADS]
+pub(crate) fn bits(m: usize) -> [u8; Table::OVERLOADS]
     ensures { λ r. ⌜ ((i : ℕ) → i < 6 → getD r i 0 ≡ bit i m) ⌝ }
 {
     let mut out = [0u8; Table::OVERLOADS];
@@ -34,7 +32,7 @@ pub fn bits(m: usize) -> [u8; Table::OVERLOADS]
 }
 
 // The first active segment of m that has no room, 6 if each has.
-pub fn lacking(room: &[u8; Table::OVERLOADS], m: usize) -> usize
+pub(crate) fn lacking(room: &[u8; Table::OVERLOADS], m: usize) -> usize
     ensures { λ r. ⌜ r ≡ first (lacks m (capacity (now (room .entry)))) 0 6 ⌝ }
 {
     let mut i: usize = 0;
@@ -48,7 +46,7 @@ pub fn lacking(room: &[u8; Table::OVERLOADS], m: usize) -> usize
 }
 
 // The room that one use of m leaves.
-pub fn less(room: &[u8; Table::OVERLOADS], m: usize) -> [u8; Table::OVERLOADS]
+pub(crate) fn less(room: &[u8; Table::OVERLOADS], m: usize) -> [u8; Table::OVERLOADS]
     requires { ⌜ fits m (capacity (now room)) ≡ true ⌝ }
     ensures { λ r. ⌜ ((i : ℕ) → i < 6 → capacity r i ≡ Rattle.packing.specs.Most.less m (capacity (now (room .entry))) i) ⌝ }
 {
@@ -73,7 +71,7 @@ fn inside(kept: &[u8; COMBINATIONS], s: usize, m: usize) -> bool
 }
 
 // The first kept combination that is a part of m, 64 if there is none.
-pub fn part_of(kept: &[u8; COMBINATIONS], m: usize) -> usize
+pub(crate) fn part_of(kept: &[u8; COMBINATIONS], m: usize) -> usize
     ensures { λ r. ⌜ r ≡ first (part (now (kept .entry)) m) 1 63 ⌝ }
 {
     let mut s: usize = 1;
@@ -101,7 +99,7 @@ fn keep(bad: &[u8; COMBINATIONS], kept: &[u8; COMBINATIONS], m: usize) -> u8
 }
 
 // The bad combinations that have no smaller bad one in them. Nothing is lost by using these alone.
-pub fn minimal(bad: &[u8; COMBINATIONS]) -> [u8; COMBINATIONS]
+pub(crate) fn minimal(bad: &[u8; COMBINATIONS]) -> [u8; COMBINATIONS]
     ensures { λ r. ⌜ ((room : ℕ → ℕ) → mostUses (flagged r) room ≡ mostUses (flagged (now (bad .entry))) room) ⌝ }
 {
     let mut kept = [0u8; COMBINATIONS];

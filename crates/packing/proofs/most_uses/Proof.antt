@@ -1,5 +1,5 @@
 -- No packing has more than `need` uses, first by the linear bound, then since `need` uses have no room.
-use Prim.Native.Nat.{ℕ, _≤_}
+use Prim.Native.Nat.{_≤_}
 use mathlib.Core.Path.{sym, _∙_}
 use native.Mathlib.Omega.{arith}
 use borrow.Author.Needs.{needs}
@@ -9,13 +9,6 @@ use Rattle.packing.proofs.Plain.{reach-some}
 use Rattle.packing.proofs.Most.{most-under, most-at}
 use Rattle.packing.proofs.most_uses.Statement.{statement}
 use Rattle.packing.proofs.most_uses.Tie as tie
-use Rattle.packing.proofs.most_uses.Reads as reads
-use Rattle.packing.proofs.most_uses.Lts as lts
-use Rattle.packing.proofs.ceiling.Reads as ceiling-reads
-use Rattle.packing.proofs.masks.minimal.Reads as minimal-reads
-use Rattle.packing.proofs.reach.Reads as reach-reads
-use Rattle.packing.proofs.weights.floors.Reads as floors-reads
-use Rattle.packing.proofs.weights.shares.Reads as shares-reads
 
 abbrev Inv-loop : tie.InvT-loop
 Inv-loop bad room kept shares floors need₀ need = (need ≤ 1530) × (mostUses (flagged kept) (capacity room) ≤ need)

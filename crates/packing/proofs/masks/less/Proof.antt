@@ -1,5 +1,5 @@
 -- The places before i hold the room that is left.
-use Prim.Native.Nat.{ℕ, _-_}
+use Prim.Native.Nat.{_-_}
 use mathlib.Core.Path.{_≡_}
 use native.Mathlib.Omega.{arith}
 use borrow.Author.Needs.{needs}
@@ -8,9 +8,6 @@ use Rattle.packing.proofs.Plain.{fits-room}
 use Rattle.packing.proofs.Loops.{Filled, filled-on}
 use Rattle.packing.proofs.masks.less.Statement.{statement}
 use Rattle.packing.proofs.masks.less.Tie as tie
-use Rattle.packing.proofs.masks.less.Reads as reads
-use Rattle.packing.proofs.masks.less.Lts as lts
-use Rattle.packing.proofs.masks.has.Reads as has-reads
 
 abbrev Inv-loop : tie.InvT-loop
 Inv-loop room m out₀ i₀ out i = Filled (λ k x. x ≡ Rattle.packing.specs.Most.less m (capacity room) k) 6 out i

@@ -1,5 +1,4 @@
 -- One combination more: d stays where m is not kept or weighs no less.
-use mathlib.Core.Path.{sym, _∙_}
 use native.Mathlib.Omega.{arith}
 use borrow.Author.Needs.{needs}
 use borrow.Author.Tests.{ne-eqb}
@@ -10,11 +9,6 @@ use Rattle.packing.proofs.Laws.{usable-bad}
 use Rattle.packing.proofs.Cut.{floor-on, weight-ext}
 use Rattle.packing.proofs.weights.lower.Statement.{statement}
 use Rattle.packing.proofs.weights.lower.Tie as tie
-use Rattle.packing.proofs.weights.lower.Reads as reads
-use Rattle.packing.proofs.weights.lower.Lts as lts
-use Rattle.packing.proofs.masks.bits.Reads as bits-reads
-use Rattle.packing.proofs.weights.weigh.Reads as weigh-reads
-use Rattle.packing.proofs.weights.wide.Reads as wide-reads
 
 element-copy-out-if1 : tie.Need-element-copy-out-if1
 element-copy-out-if1 c = search needs
