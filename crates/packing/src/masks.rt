@@ -6,13 +6,14 @@ ghost use mathlib.Core.Bool.{true};
 ghost use Prim.Native.Nat.{ℕ, _<_};
 ghost use lib.ListN.{getD};
 ghost use Rattle.search.specs.Find.{first};
-ghost use Rattle.packing.specs.Packing.{bit};
-ghost use Rattle.packing.specs.Most.{mostUses, flagged, capacity, lacks, fits};
-ghost use Rattle.packing.specs.Engine.{part, keeps};
+ghost use Rattle.packing.specs.Packing.{bit, combinations};
+ghost use Rattle.packing.specs.Most.{mostUses, flagged, capacity, lacks, fits, less};
+ghost use Rattle.packing.specs.Engine.{part, partOf, keeps};
+ghost use Rattle.table.specs.Limits.{maxOverloads};
 
 // 1 if the active segment i is in the combination m, else 0.
 pub(crate) fn has(m: usize, i: usize) -> u8
-    requires { ⌜ i < 6 ⌝ }
+    requires { ⌜ i < maxOverloads ⌝ }
     ensures { λ r. ⌜ r ≡ bit i m ⌝ }
 {
     ((m >> i) & 1) as u8
@@ -20,7 +21,7 @@ pub(crate) fn has(m: usize, i: usize) -> u8
 
 // The bits of m, one for each active segment.
 pub(crate) fn bits(m: usize) -> [u8; Table::OVERLOADS]
-    ensures { λ r. ⌜ ((i : ℕ) → i < 6 → getD r i 0 ≡ bit i m) ⌝ }
+    ensures { λ r. ⌜ ((i : ℕ) → i < maxOverloads → getD r i 0 ≡ bit i m) ⌝ }
 {
     let mut out = [0u8; Table::OVERLOADS];
     let mut i: usize = 0;
@@ -33,7 +34,7 @@ pub(crate) fn bits(m: usize) -> [u8; Table::OVERLOADS]
 
 // The first active segment of m that has no room, 6 if each has.
 pub(crate) fn lacking(room: &[u8; Table::OVERLOADS], m: usize) -> usize
-    ensures { λ r. ⌜ r ≡ first (lacks m (capacity (now (room .entry)))) 0 6 ⌝ }
+    ensures { λ r. ⌜ r ≡ first (lacks m (capacity (now (room .entry)))) 0 maxOverloads ⌝ }
 {
     let mut i: usize = 0;
     while i < Table::OVERLOADS {
@@ -46,9 +47,9 @@ pub(crate) fn lacking(room: &[u8; Table::OVERLOADS], m: usize) -> usize
 }
 
 // The room that one use of m leaves.
-pub(crate) fn less(room: &[u8; Table::OVERLOADS], m: usize) -> [u8; Table::OVERLOADS]
+pub(crate) fn spend(room: &[u8; Table::OVERLOADS], m: usize) -> [u8; Table::OVERLOADS]
     requires { ⌜ fits m (capacity (now room)) ≡ true ⌝ }
-    ensures { λ r. ⌜ ((i : ℕ) → i < 6 → capacity r i ≡ Rattle.packing.specs.Most.less m (capacity (now (room .entry))) i) ⌝ }
+    ensures { λ r. ⌜ ((i : ℕ) → i < maxOverloads → capacity r i ≡ less m (capacity (now (room .entry))) i) ⌝ }
 {
     let mut out = [0u8; Table::OVERLOADS];
     let mut i: usize = 0;
@@ -61,7 +62,7 @@ pub(crate) fn less(room: &[u8; Table::OVERLOADS], m: usize) -> [u8; Table::OVERL
 
 // Whether s is kept and each of its active segments is in m.
 fn inside(kept: &[u8; COMBINATIONS], s: usize, m: usize) -> bool
-    requires { ⌜ s < 64 ⌝ }
+    requires { ⌜ s < combinations ⌝ }
     ensures { λ r. ⌜ r ≡ part (now (kept .entry)) m s ⌝ }
 {
     if kept[s] != 1 {
@@ -72,7 +73,7 @@ fn inside(kept: &[u8; COMBINATIONS], s: usize, m: usize) -> bool
 
 // The first kept combination that is a part of m, 64 if there is none.
 pub(crate) fn part_of(kept: &[u8; COMBINATIONS], m: usize) -> usize
-    ensures { λ r. ⌜ r ≡ first (part (now (kept .entry)) m) 1 63 ⌝ }
+    ensures { λ r. ⌜ r ≡ partOf (now (kept .entry)) m ⌝ }
 {
     let mut s: usize = 1;
     while s < COMBINATIONS {
@@ -86,7 +87,7 @@ pub(crate) fn part_of(kept: &[u8; COMBINATIONS], m: usize) -> usize
 
 // 1 if m is bad and no kept combination is a part of it, else 0.
 fn keep(bad: &[u8; COMBINATIONS], kept: &[u8; COMBINATIONS], m: usize) -> u8
-    requires { ⌜ m < 64 ⌝ }
+    requires { ⌜ m < combinations ⌝ }
     ensures { λ r. ⌜ r ≡ keeps (now (bad .entry)) (now (kept .entry)) m ⌝ }
 {
     if bad[m] != 1 {
