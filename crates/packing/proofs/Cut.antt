@@ -1,7 +1,7 @@
 -- Why a cut is right: the floors of the weightings are no more than what any kept combination weighs, so where the room weighs too
 -- little for so many uses there are none. Assumes nothing.
-use Prim.Native.Nat.{ℕ, zero, suc, _+_, _-_, _*_, _≤_, _<_, _/_, _%_}
-use mathlib.Core.Path.{_≡_, refl, sym, ap, ap₂, subst, _∙_}
+use Prim.Native.Nat.{ℕ, zero, suc, _+_, _-_, _*_, _≤_, _<_}
+use mathlib.Core.Path.{_≡_, refl, sym, ap, subst, _∙_}
 use mathlib.Core.Bool.{Bool, true, false}
 use mathlib.Core.List.{List}
 use mathlib.Core.Logic.{⊎-elim}
@@ -11,8 +11,7 @@ use lib.ListN.{getD}
 use borrow.Author.Tests.{ltb-true}
 use Rattle.search.specs.Find.{first}
 use Rattle.search.proofs.Find.{first-hit}
-use Rattle.search.proofs.Choice.{true-not-false}
-use Rattle.packing.specs.Packing.{bit, sum, usable}
+use Rattle.packing.specs.Packing.{bit, usable}
 use Rattle.packing.specs.Most.{reach, flagged, capacity}
 use Rattle.packing.specs.Engine.{weight, Floor, Floors, Ceiling, Ready, cuts}
 use Rattle.packing.proofs.Sums.{sum-ext}

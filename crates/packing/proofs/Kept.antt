@@ -4,19 +4,15 @@ use Prim.Native.Nat.{ℕ, zero, suc, _+_, _≤_, _<_}
 use mathlib.Core.Path.{_≡_, refl, sym, ap, _∙_}
 use mathlib.Core.Bool.{Bool, true, false, _&&_, and-false}
 use mathlib.Core.List.{List}
-use mathlib.Core.Logic.{⊎-elim}
 use native.Mathlib.Omega.{arith}
-use native.Mathlib.Nat.{eq-or-lt-of-le, le-of-suc-le-suc}
 use native.Mathlib.Decide.{ℕ-discrete}
-use native.Mathlib.Numerals.{add-one}
 use lib.ListN.{length, getD, set, replicate, length-set, length-replicate}
 use lib.Seq.{getD-set-same, getD-set-other}
 use lib.Bits.{bitAnd, and-self, and-le-r}
 use lib.Dec.{eqb}
 use borrow.Author.Tests.{eqb-true, eqb-false, eq-eqb, ne-eqb}
-use Rattle.search.specs.Choice.{_when_else_}
 use Rattle.search.specs.Find.{first}
-use Rattle.search.proofs.Choice.{when-yes, when-no, when-cases, true-not-false, lt-or-le}
+use Rattle.search.proofs.Choice.{when-yes, when-no, when-cases, true-not-false}
 use Rattle.search.proofs.Find.{first-ge, first-le, first-miss, first-hit}
 use Rattle.packing.specs.Packing.{bit, usable}
 use Rattle.packing.specs.Most.{mostUses, flagged}

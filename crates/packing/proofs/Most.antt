@@ -1,16 +1,16 @@
 -- The most uses: `mostUses` is the greatest number of uses that a packing has, whatever the packing. Assumes nothing.
-use Prim.Native.Nat.{ℕ, zero, suc, _+_, _-_, _*_, _≤_, _<_}
-use mathlib.Core.Path.{_≡_, refl, sym, ap, _∙_}
+use Prim.Native.Nat.{ℕ, zero, suc, _-_, _≤_}
+use mathlib.Core.Path.{_≡_, refl}
 use mathlib.Core.Bool.{Bool, true, false}
 use mathlib.Core.Logic.{⊎-elim}
 use native.Mathlib.Omega.{arith}
 use native.Mathlib.Nat.{eq-or-lt-of-le}
-use Rattle.search.specs.Find.{last, Greatest}
+use Rattle.search.specs.Find.{Greatest}
 use Rattle.search.proofs.Choice.{true-not-false}
 use Rattle.search.proofs.Find.{last-hit, last-max, greatest-unique}
 use Rattle.packing.specs.Packing.{sum, Packing, Reached}
 use Rattle.packing.specs.Most.{reach, mostUses}
-use Rattle.packing.proofs.Plain.{Below, Uses, reach-uses, uses-reach}
+use Rattle.packing.proofs.Plain.{Below, reach-uses, uses-reach}
 use Rattle.packing.proofs.Linear.{all-room}
 
 module _ (bad : ℕ → Bool) (capacity : ℕ → ℕ) where

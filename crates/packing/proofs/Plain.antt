@@ -1,11 +1,11 @@
 -- The plain search is right: k uses of the bad combinations below n have room exactly where a packing of these has k uses.
 -- Assumes nothing.
 use Prim.Native.Nat.{ℕ, zero, suc, _+_, _-_, _*_, _≤_, _<_}
-use mathlib.Core.Path.{_≡_, refl, sym, ap, ap₂, _∙_}
-use mathlib.Core.Bool.{Bool, true, false, _&&_, _||_, or-true, and-false}
+use mathlib.Core.Path.{_≡_, refl, sym, ap, _∙_}
+use mathlib.Core.Bool.{Bool, true, false, _||_, or-true, and-false}
 use mathlib.Core.Logic.{_⊎_, inl, inr, ⊎-elim}
 use native.Mathlib.Omega.{arith}
-use native.Mathlib.Nat.{eq-or-lt-of-le, le-of-suc-le-suc, mul-le-mul-right}
+use native.Mathlib.Nat.{eq-or-lt-of-le, le-of-suc-le-suc}
 use lib.Dec.{ltb, eqb}
 use borrow.Author.Tests.{ltb-true, lt-ltb, ltb-false, eqb-true, eq-eqb, ne-eqb}
 use Rattle.search.proofs.Choice.{true-not-false, lt-or-le, when-yes, when-no, when-cases}
@@ -14,7 +14,7 @@ use Rattle.search.specs.Choice.{_when_else_}
 use Rattle.search.proofs.Find.{first-le, first-miss, first-none}
 use Rattle.packing.specs.Packing.{bit, sum, usable}
 use Rattle.packing.specs.Most.{lacks, fits, less, reach}
-use Rattle.packing.proofs.Sums.{is, is-same, is-other, sum-add, sum-is, sum-ext, sum-mono, sum-zero, sum-at}
+use Rattle.packing.proofs.Sums.{is, is-other, sum-add, sum-is, sum-ext, sum-zero}
 
 -- a packing of the bad combinations below n
 pub record Below (bad : ℕ → Bool) (n : ℕ) (room uses : ℕ → ℕ) : Type 0 where
@@ -228,13 +228,17 @@ module _ (bad : ℕ → Bool) where
       let q : suc m - 1 ≡ m = omega arith in
       rw q (reach-full bad m k room (rw q at e))
 
-  -- `once` says whether k - 1 more have room once n - 1 is used
-  pub step-use : (n k : ℕ) (room left : ℕ → ℕ) (once : Bool) → (k ≡ 0 → ⊥) → 1 < n → bad (n - 1) ≡ true → fits (n - 1) room ≡ true
-      → ((i : ℕ) → i < 6 → left i ≡ less (n - 1) room i) → once ≡ reach bad n (k - 1) left → reach bad n k room ≡ (once || reach bad (n - 1) k room)
-  step-use n zero room left once z h e f g o = absurd (z refl)
-  step-use zero (suc k) room left once z h e f g o = absurd (omega arith)
-  step-use (suc m) (suc k) room left once z h e f g o =
+  -- `once` says whether k - 1 more have room once n - 1 is used, and it says b
+  pub step-use : (n k : ℕ) (room left : ℕ → ℕ) (once b : Bool) → (k ≡ 0 → ⊥) → 1 < n → bad (n - 1) ≡ true → fits (n - 1) room ≡ true
+      → ((i : ℕ) → i < 6 → left i ≡ less (n - 1) room i) → once ≡ reach bad n (k - 1) left → once ≡ b
+      → reach bad n k room ≡ (b || reach bad (n - 1) k room)
+  step-use n zero room left once b z h e f g o s = absurd (z refl)
+  step-use zero (suc k) room left once b z h e f g o s = absurd (omega arith)
+  step-use (suc m) (suc k) room left once b z h e f g o s =
       let q : suc m - 1 ≡ m = omega arith in
       let r : suc k - 1 ≡ k = omega arith in
-      let p : once ≡ reach bad (suc m) k (less m room) = o ∙ ap (λ j. reach bad (suc m) j left) r ∙ reach-ext bad (suc m) k left (less m room) (λ i l. g i l ∙ ap (λ x. less x room i) q) in
-      rw (q, p) (reach-use bad m k room (rw (lt-ltb 0 m (let s : 0 < m = omega arith in s)) (rw q at e)) (rw q at f))
+      let some : 0 < m = omega arith in
+      let p : b ≡ reach bad (suc m) k (less m room) =
+      sym s ∙ o ∙ ap (λ j. reach bad (suc m) j left) r
+      ∙ reach-ext bad (suc m) k left (less m room) (λ i l. g i l ∙ ap (λ x. less x room i) q) in
+      rw (q, p) (reach-use bad m k room (rw (lt-ltb 0 m some) (rw q at e)) (rw q at f))

@@ -1,5 +1,5 @@
--- The most uses any packing has, as a number: a plain search. No one has to believe it: `most-greatest` says that it is the
--- greatest number of uses that `Reached` knows.
+-- The most uses any packing has, as a number, so that equalities can be stated of it: a plain search. No one has to believe it:
+-- the law `most-greatest` says that it is what `IsMost` says, for all packings.
 use Prim.Native.Nat.{ℕ, zero, suc, _-_}
 use mathlib.Core.Bool.{Bool, true, false, _&&_, _||_}
 use mathlib.Core.List.{List}
@@ -35,7 +35,7 @@ reach bad (suc m) (suc k) room =
 unfoldable pub mostUses : (ℕ → Bool) → (ℕ → ℕ) → ℕ
 mostUses bad capacity = last (λ k. reach bad combinations (suc k) capacity) (sum maxOverloads capacity)
 
--- combinations flagged by 1, and capacities, as the code holds them
+-- the bad combinations as flags, of which 1 says bad and anything else does not, and the capacities as a list
 abbrev pub flagged : List ℕ → ℕ → Bool
 flagged flags m = eqb (getD flags m 0) 1
 

@@ -1,5 +1,6 @@
 // Weights, which show how many uses the room is enough for: where each kept combination weighs at least d, and the room weighs
 // less than need times d, there is no room for need uses. This holds for any weights.
+use crate::COMBINATIONS;
 use crate::masks;
 use table::Table;
 ghost use mathlib.Core.Path.{_≡_};
@@ -7,17 +8,20 @@ ghost use Prim.Native.Nat.{ℕ, _+_, _<_, _≤_};
 ghost use lib.ListN.{getD};
 ghost use Rattle.search.specs.Find.{first};
 ghost use Rattle.packing.specs.Most.{capacity};
-ghost use Rattle.packing.specs.Engine.{weight, cuts, Floor, Floors};
+ghost use Rattle.packing.specs.Engine.{weight, weightings, maxRoom, cuts, Floor, Floors};
+ghost use Rattle.packing.specs.Packing.{combinations};
+ghost use Rattle.table.specs.Limits.{maxOverloads};
 
-pub const WEIGHTINGS: usize = 975;
+pub(crate) const WEIGHTINGS: usize = 975;
 
-pub const SHARES: usize = 5_850;
+pub(crate) const SHARES: usize = WEIGHTINGS * Table::OVERLOADS;
 
-pub const FLOORS: usize = 63_375;
+pub(crate) const FLOORS: usize = (COMBINATIONS + 1) * WEIGHTINGS;
 
-// The weightings, a digit for each active segment: the corners of the cover polyhedra of all sets of combinations of six active
-// segments, these in falling order of how many combinations that have one of the set in them have them (`rank`), ties in any
-// order. So the least bound that they give is the linear program's. A wrong digit would cost time, and no more.
+// The weightings, six digits each, one for each active segment. For any set of combinations, the weights by which each of them
+// weighs at least 1 make a polyhedron, and the best bound that any weights give comes from one of its corners. These are the
+// corners, as whole numbers, for all sets of combinations of six active segments, these in falling order of `holders`, equal ones
+// in any order. A wrong digit would cost time, and nothing else.
 const WEIGHTS: [u8; SHARES] =
     *b"000001000010000100001000010000100000000011000101000110001001001010001100010001010010010100011000100001\
     100010100100101000110000000111001011001101001110010011010101010110011001011010011100100011100101100110\
@@ -79,20 +83,20 @@ const WEIGHTS: [u8; SHARES] =
     534122534212534221543122543212543221";
 
 // A byte as a wider number.
-pub fn wide(x: u8) -> u32
+pub(crate) fn wide(x: u8) -> u32
     ensures { λ r. ⌜ (r ≡ x) × (r < 256) ⌝ }
 {
     x as u32
 }
 
 // How many combinations have i in them and a kept one too.
-fn holders(kept: &[u8; masks::COMBINATIONS], i: usize) -> u8
-    requires { ⌜ i < 6 ⌝ }
+fn holders(kept: &[u8; COMBINATIONS], i: usize) -> u8
+    requires { ⌜ i < maxOverloads ⌝ }
 {
     let mut count: u8 = 0;
     let mut m: usize = 1;
-    while m < masks::COMBINATIONS {
-        if masks::part_of(kept, m) < masks::COMBINATIONS {
+    while m < COMBINATIONS {
+        if masks::part_of(kept, m) < COMBINATIONS {
             count += masks::has(m, i);
         }
         m += 1;
@@ -101,9 +105,9 @@ fn holders(kept: &[u8; masks::COMBINATIONS], i: usize) -> u8
 }
 
 // How many active segments come before i in falling order of `holders`.
-fn rank(kept: &[u8; masks::COMBINATIONS], i: usize) -> u8
-    requires { ⌜ i < 6 ⌝ }
-    ensures { λ r. ⌜ r < 6 ⌝ }
+fn rank(kept: &[u8; COMBINATIONS], i: usize) -> u8
+    requires { ⌜ i < maxOverloads ⌝ }
+    ensures { λ r. ⌜ r < maxOverloads ⌝ }
 {
     let own = holders(kept, i);
     let mut before: u8 = 0;
@@ -119,8 +123,8 @@ fn rank(kept: &[u8; masks::COMBINATIONS], i: usize) -> u8
     before
 }
 
-fn ranks(kept: &[u8; masks::COMBINATIONS]) -> [u8; Table::OVERLOADS]
-    ensures { λ r. ⌜ ((i : ℕ) → i < 6 → getD r i 0 < 6) ⌝ }
+fn ranks(kept: &[u8; COMBINATIONS]) -> [u8; Table::OVERLOADS]
+    ensures { λ r. ⌜ ((i : ℕ) → i < maxOverloads → getD r i 0 < maxOverloads) ⌝ }
 {
     let mut out = [0u8; Table::OVERLOADS];
     let mut i: usize = 0;
@@ -132,7 +136,7 @@ fn ranks(kept: &[u8; masks::COMBINATIONS]) -> [u8; Table::OVERLOADS]
 }
 
 // The weightings with their digits where the active segments stand: six numbers each.
-pub fn shares(kept: &[u8; masks::COMBINATIONS]) -> [u8; SHARES] {
+pub(crate) fn shares(kept: &[u8; COMBINATIONS]) -> [u8; SHARES] {
     let rank = ranks(kept);
     let mut out = [0u8; SHARES];
     let mut at: usize = 0;
@@ -146,7 +150,7 @@ pub fn shares(kept: &[u8; masks::COMBINATIONS]) -> [u8; SHARES] {
 
 // What `amount` of each active segment weighs by the weighting v.
 fn weigh(shares: &[u8; SHARES], v: usize, amount: &[u8; Table::OVERLOADS]) -> u32
-    requires { ⌜ v < 975 ⌝ }
+    requires { ⌜ v < weightings ⌝ }
     ensures { λ r. ⌜ (r ≡ weight (now (shares .entry)) v (capacity (now (amount .entry)))) × (r ≤ 390150) ⌝ }
 {
     let base = v * Table::OVERLOADS;
@@ -160,8 +164,8 @@ fn weigh(shares: &[u8; SHARES], v: usize, amount: &[u8; Table::OVERLOADS]) -> u3
 }
 
 // The lesser of d and what m weighs by the weighting v, if it is kept.
-fn lower(kept: &[u8; masks::COMBINATIONS], shares: &[u8; SHARES], m: usize, v: usize, d: u8) -> u8
-    requires { ⌜ (m < 64) × (v < 975) ⌝ }
+fn lower(kept: &[u8; COMBINATIONS], shares: &[u8; SHARES], m: usize, v: usize, d: u8) -> u8
+    requires { ⌜ (m < combinations) × (v < weightings) ⌝ }
     ensures { λ r. ⌜ (Floor (now (kept .entry)) (now (shares .entry)) m v d → Floor (now (kept .entry)) (now (shares .entry)) (m + 1) v r) ⌝ }
 {
     if kept[m] != 1 {
@@ -172,7 +176,7 @@ fn lower(kept: &[u8; masks::COMBINATIONS], shares: &[u8; SHARES], m: usize, v: u
 }
 
 // For each n and v the least weight by the weighting v of a kept combination below n, 255 if there is none.
-pub fn floors(kept: &[u8; masks::COMBINATIONS], shares: &[u8; SHARES]) -> [u8; FLOORS]
+pub(crate) fn floors(kept: &[u8; COMBINATIONS], shares: &[u8; SHARES]) -> [u8; FLOORS]
     ensures { λ r. ⌜ Floors (now (kept .entry)) (now (shares .entry)) r ⌝ }
 {
     let mut out = [255u8; FLOORS];
@@ -192,15 +196,15 @@ pub fn floors(kept: &[u8; masks::COMBINATIONS], shares: &[u8; SHARES]) -> [u8; F
 }
 
 // The first weighting by which the room weighs too little for `need` uses of kept combinations below n, 975 if there is none.
-pub fn cutting(
+pub(crate) fn cutting(
     shares: &[u8; SHARES],
     floors: &[u8; FLOORS],
     n: usize,
     room: &[u8; Table::OVERLOADS],
     need: u32,
 ) -> usize
-    requires { ⌜ (n ≤ 64) × (need ≤ 1530) ⌝ }
-    ensures { λ r. ⌜ r ≡ first (cuts (now (shares .entry)) (now (floors .entry)) n (now (room .entry)) need) 0 975 ⌝ }
+    requires { ⌜ (n ≤ combinations) × (need ≤ maxRoom) ⌝ }
+    ensures { λ r. ⌜ r ≡ first (cuts (now (shares .entry)) (now (floors .entry)) n (now (room .entry)) need) 0 weightings ⌝ }
 {
     let base = n * WEIGHTINGS;
     let mut v: usize = 0;

@@ -1,5 +1,4 @@
 -- No packing has more than `need` uses: at first since there is no more room, then since `need` is cut.
-use Prim.Native.Nat.{ℕ, _≤_}
 use native.Mathlib.Omega.{arith}
 use borrow.Author.Needs.{needs}
 use Rattle.packing.specs.Most.{flagged, capacity}
@@ -8,10 +7,6 @@ use Rattle.packing.proofs.Most.{most-room}
 use Rattle.packing.proofs.Cut.{ceiling-on, cut-some}
 use Rattle.packing.proofs.ceiling.Statement.{statement}
 use Rattle.packing.proofs.ceiling.Tie as tie
-use Rattle.packing.proofs.ceiling.Reads as reads
-use Rattle.packing.proofs.ceiling.Lts as lts
-use Rattle.packing.proofs.total.Reads as total-reads
-use Rattle.packing.proofs.weights.cutting.Reads as cutting-reads
 
 abbrev Inv-loop : tie.InvT-loop
 Inv-loop shares floors room need₀ need = Ceiling shares floors room need

@@ -1,14 +1,10 @@
 -- The room before i is added up.
-use Prim.Native.Nat.{ℕ, _-_, _≤_}
-use native.Mathlib.Omega.{arith}
+use Prim.Native.Nat.{_-_}
 use borrow.Author.Needs.{needs}
 use Rattle.packing.specs.Most.{capacity}
 use Rattle.packing.proofs.Loops.{Added, added-start, added-on, added-end}
 use Rattle.packing.proofs.total.Statement.{statement}
 use Rattle.packing.proofs.total.Tie as tie
-use Rattle.packing.proofs.total.Reads as reads
-use Rattle.packing.proofs.total.Lts as lts
-use Rattle.packing.proofs.weights.wide.Reads as wide-reads
 
 abbrev Inv-loop : tie.InvT-loop
 Inv-loop room all₀ i₀ all i = Added (capacity room) 255 6 i all

@@ -1,15 +1,11 @@
 -- The places before i hold their bits.
-use Prim.Native.Nat.{ℕ, _-_}
+use Prim.Native.Nat.{_-_}
 use mathlib.Core.Path.{_≡_}
 use borrow.Author.Needs.{needs}
-use lib.ListN.{getD}
 use Rattle.packing.specs.Packing.{bit}
 use Rattle.packing.proofs.Loops.{Filled, filled-on}
 use Rattle.packing.proofs.masks.bits.Statement.{statement}
 use Rattle.packing.proofs.masks.bits.Tie as tie
-use Rattle.packing.proofs.masks.bits.Reads as reads
-use Rattle.packing.proofs.masks.bits.Lts as lts
-use Rattle.packing.proofs.masks.has.Reads as has-reads
 
 abbrev Inv-loop : tie.InvT-loop
 Inv-loop m out₀ i₀ out i = Filled (λ k x. x ≡ bit k m) 6 out i

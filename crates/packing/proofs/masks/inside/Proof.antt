@@ -1,5 +1,4 @@
 -- By the two tests: the flag, and s & m == s.
-use mathlib.Core.Path.{sym}
 use borrow.Author.Needs.{needs}
 use borrow.Author.Tests.{eq-eqb, ne-eqb}
 use Rattle.packing.proofs.masks.inside.Statement.{statement}

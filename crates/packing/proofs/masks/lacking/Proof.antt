@@ -1,15 +1,11 @@
 -- No active segment before i lacks room.
-use Prim.Native.Nat.{ℕ, _-_}
-use native.Mathlib.Omega.{arith}
+use Prim.Native.Nat.{_-_}
 use borrow.Author.Needs.{needs}
 use borrow.Author.Tests.{lt-ltb, le-ltb}
 use Rattle.packing.specs.Most.{lacks, capacity}
 use Rattle.packing.proofs.Loops.{Passed, passed-start, passed-on, passed-hit, passed-end}
 use Rattle.packing.proofs.masks.lacking.Statement.{statement}
 use Rattle.packing.proofs.masks.lacking.Tie as tie
-use Rattle.packing.proofs.masks.lacking.Reads as reads
-use Rattle.packing.proofs.masks.lacking.Lts as lts
-use Rattle.packing.proofs.masks.has.Reads as has-reads
 
 abbrev Inv-loop : tie.InvT-loop
 Inv-loop room m i₀ i = Passed (lacks m (capacity room)) 0 6 i

@@ -1,14 +1,11 @@
 -- Every bad combination below m has a kept part, and only bad ones are kept.
-use Prim.Native.Nat.{ℕ, _-_}
-use mathlib.Core.Path.{_≡_, ap}
+use Prim.Native.Nat.{_-_}
+use mathlib.Core.Path.{_≡_}
 use native.Mathlib.Omega.{arith}
 use borrow.Author.Needs.{needs}
 use Rattle.packing.proofs.Kept.{Keeping, keeping-start, keeping-on, keeping-end}
 use Rattle.packing.proofs.masks.minimal.Statement.{statement}
 use Rattle.packing.proofs.masks.minimal.Tie as tie
-use Rattle.packing.proofs.masks.minimal.Reads as reads
-use Rattle.packing.proofs.masks.minimal.Lts as lts
-use Rattle.packing.proofs.masks.keep.Reads as keep-reads
 
 abbrev Inv-loop : tie.InvT-loop
 Inv-loop bad kept₀ m₀ kept m = Keeping bad kept m

@@ -1,5 +1,5 @@
 -- No kept combination before s is a part of m.
-use Prim.Native.Nat.{ℕ, _-_}
+use Prim.Native.Nat.{_-_}
 use mathlib.Core.Path.{sym, _∙_}
 use borrow.Author.Needs.{needs}
 use Rattle.packing.specs.Engine.{part}

@@ -1,5 +1,5 @@
 -- No weighting before v cuts.
-use Prim.Native.Nat.{ℕ, _+_, _-_, _*_, _≤_}
+use Prim.Native.Nat.{_-_, _*_, _≤_}
 use native.Mathlib.Omega.{arith}
 use native.Mathlib.Nat.{mul-le-mul}
 use borrow.Author.Needs.{needs}
@@ -8,10 +8,6 @@ use Rattle.packing.specs.Engine.{cuts}
 use Rattle.packing.proofs.Loops.{Passed, passed-start, passed-on, passed-hit, passed-end}
 use Rattle.packing.proofs.weights.cutting.Statement.{statement}
 use Rattle.packing.proofs.weights.cutting.Tie as tie
-use Rattle.packing.proofs.weights.cutting.Reads as reads
-use Rattle.packing.proofs.weights.cutting.Lts as lts
-use Rattle.packing.proofs.weights.weigh.Reads as weigh-reads
-use Rattle.packing.proofs.weights.wide.Reads as wide-reads
 
 abbrev Inv-loop : tie.InvT-loop
 Inv-loop shares floors n room need base v₀ v = Passed (cuts shares floors n room need) 0 975 v

@@ -1,6 +1,6 @@
 -- The places before `at` hold floors; the place of n and v is n * 975 + v, and 975 before it is that of n - 1 and v.
-use Prim.Native.Nat.{ℕ, _+_, _-_, _*_, _≤_, _/_, _%_}
-use mathlib.Core.Path.{_≡_, sym}
+use Prim.Native.Nat.{_+_, _-_, _*_, _≤_, _/_, _%_}
+use mathlib.Core.Path.{_≡_}
 use native.Mathlib.Omega.{arith}
 use borrow.Author.Needs.{needs}
 use Rattle.packing.specs.Engine.{Floor}
@@ -8,9 +8,6 @@ use Rattle.packing.proofs.Loops.{Filled, filled-on}
 use Rattle.packing.proofs.Cut.{floor-start, floor-place}
 use Rattle.packing.proofs.weights.floors.Statement.{statement}
 use Rattle.packing.proofs.weights.floors.Tie as tie
-use Rattle.packing.proofs.weights.floors.Reads as reads
-use Rattle.packing.proofs.weights.floors.Lts as lts
-use Rattle.packing.proofs.weights.lower.Reads as lower-reads
 
 abbrev Inv-loop : tie.InvT-loop
 Inv-loop kept shares out₀ at₀ out at = (975 ≤ at) × Filled (λ k x. Floor kept shares (k / 975) (k % 975) x) 63375 out at

@@ -1,20 +1,16 @@
 -- One combination more: d stays where m is not kept or weighs no less.
-use mathlib.Core.Path.{sym, _∙_}
+use mathlib.Core.Path.{_≡_, _∙_}
 use native.Mathlib.Omega.{arith}
 use borrow.Author.Needs.{needs}
 use borrow.Author.Tests.{ne-eqb}
 use Rattle.search.proofs.Choice.{true-not-false}
 use Rattle.packing.specs.Packing.{bit}
-use Rattle.packing.specs.Most.{flagged, capacity}
+use Rattle.packing.specs.Most.{flagged}
+use Rattle.packing.specs.Engine.{weight}
 use Rattle.packing.proofs.Laws.{usable-bad}
 use Rattle.packing.proofs.Cut.{floor-on, weight-ext}
 use Rattle.packing.proofs.weights.lower.Statement.{statement}
 use Rattle.packing.proofs.weights.lower.Tie as tie
-use Rattle.packing.proofs.weights.lower.Reads as reads
-use Rattle.packing.proofs.weights.lower.Lts as lts
-use Rattle.packing.proofs.masks.bits.Reads as bits-reads
-use Rattle.packing.proofs.weights.weigh.Reads as weigh-reads
-use Rattle.packing.proofs.weights.wide.Reads as wide-reads
 
 element-copy-out-if1 : tie.Need-element-copy-out-if1
 element-copy-out-if1 c = search needs
@@ -36,17 +32,15 @@ wide-requires c κs = search needs
 cast-result : tie.Need-cast-result
 cast-result c = search needs
 
+-- what m weighs, by its bits
+weighs : (c : tie.After-wide) → c .before .weigh .result ≡ weight (c .before .before .before .before .before .before .args .shares .now) (c .before .before .before .before .before .before .args .v) (λ i. bit i (c .before .before .before .before .before .before .args .m))
+weighs c = c .before .weigh .ensures .0 ∙ weight-ext _ _ _ _ (c .before .before .before .bits .ensures)
+
 returns-2 : tie.Need-returns-2
-returns-2 c =
-    let s = c .before .before .before .before .before .before .before in
-    let b = c .before .before .before .before .bits in
-    λ f. floor-on f (omega arith) (λ u. omega (arith, c .before .before .weigh .ensures .0, weight-ext (s .args .shares .now) (s .args .v) (capacity (b .result)) (λ i. bit i (s .args .m)) (b .ensures)))
+returns-2 c = λ f. floor-on f (omega arith) (λ u. omega (arith, weighs (c .before)))
 
 returns-3 : tie.Need-returns-3
-returns-3 c =
-    let s = c .before .before .before .before .before .before .before in
-    let b = c .before .before .before .before .bits in
-    λ f. floor-on f (omega arith) (λ u. omega (arith, c .before .before .weigh .ensures .0, weight-ext (s .args .shares .now) (s .args .v) (capacity (b .result)) (λ i. bit i (s .args .m)) (b .ensures)))
+returns-3 c = λ f. floor-on f (omega arith) (λ u. omega (arith, weighs (c .before)))
 
 pub lower-spec : {M : Type 1} → statement M
 lower-spec =

@@ -1,5 +1,5 @@
 -- The places before i hold ranks.
-use Prim.Native.Nat.{ℕ, _-_, _<_}
+use Prim.Native.Nat.{_-_, _<_}
 use borrow.Author.Needs.{needs}
 use Rattle.packing.proofs.Loops.{Filled, filled-on}
 use Rattle.packing.proofs.weights.ranks.Statement.{statement}

@@ -1,5 +1,5 @@
 -- Only places: the row that `at` is in starts at `at` less its rest by 6, and a rank is below 6. Any weights are sound.
-use Prim.Native.Nat.{ℕ, _-_, _≤_, _%_}
+use Prim.Native.Nat.{_-_, _≤_, _%_}
 use mathlib.Core.Path.{_≡_}
 use native.Mathlib.Omega.{arith}
 use borrow.Author.Needs.{needs}

@@ -1,6 +1,6 @@
 -- The shares before i, each times its amount, are added up.
 use Prim.Native.Nat.{ℕ, _+_, _-_, _*_, _≤_}
-use mathlib.Core.Path.{_≡_, ap₂}
+use mathlib.Core.Path.{ap₂}
 use native.Mathlib.Omega.{arith}
 use native.Mathlib.Nat.{mul-le-mul}
 use borrow.Author.Needs.{needs}
@@ -9,9 +9,6 @@ use Rattle.packing.specs.Engine.{weight}
 use Rattle.packing.proofs.Loops.{Added, added-start, added-on, added-end}
 use Rattle.packing.proofs.weights.weigh.Statement.{statement}
 use Rattle.packing.proofs.weights.weigh.Tie as tie
-use Rattle.packing.proofs.weights.weigh.Reads as reads
-use Rattle.packing.proofs.weights.weigh.Lts as lts
-use Rattle.packing.proofs.weights.wide.Reads as wide-reads
 
 abbrev Inv-loop : tie.InvT-loop
 Inv-loop shares v amount base sum₀ i₀ sum i = Added (λ k. getD shares (v * 6 + k) 0 * getD amount k 0) 65025 6 i sum

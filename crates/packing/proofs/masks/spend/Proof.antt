@@ -1,16 +1,13 @@
 -- The places before i hold the room that is left.
-use Prim.Native.Nat.{ℕ, _-_}
+use Prim.Native.Nat.{_-_}
 use mathlib.Core.Path.{_≡_}
 use native.Mathlib.Omega.{arith}
 use borrow.Author.Needs.{needs}
 use Rattle.packing.specs.Most.{capacity}
 use Rattle.packing.proofs.Plain.{fits-room}
 use Rattle.packing.proofs.Loops.{Filled, filled-on}
-use Rattle.packing.proofs.masks.less.Statement.{statement}
-use Rattle.packing.proofs.masks.less.Tie as tie
-use Rattle.packing.proofs.masks.less.Reads as reads
-use Rattle.packing.proofs.masks.less.Lts as lts
-use Rattle.packing.proofs.masks.has.Reads as has-reads
+use Rattle.packing.proofs.masks.spend.Statement.{statement}
+use Rattle.packing.proofs.masks.spend.Tie as tie
 
 abbrev Inv-loop : tie.InvT-loop
 Inv-loop room m out₀ i₀ out i = Filled (λ k x. x ≡ Rattle.packing.specs.Most.less m (capacity room) k) 6 out i
@@ -48,8 +45,8 @@ loop-again c = filled-on (c .before .before .before .loop .inv) (search needs) (
 returns : tie.Need-returns Inv-loop μ-loop
 returns c = λ i l. c .before .loop .inv .done i (search needs)
 
-pub less-spec : {M : Type 1} → statement M
-less-spec =
+pub spend-spec : {M : Type 1} → statement M
+spend-spec =
     tie.close
     (tie.spec
     Inv-loop
