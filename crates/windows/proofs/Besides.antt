@@ -1,0 +1,110 @@
+-- The views of the chains of a table from one place up to another, one after the other. Assumes nothing.
+use Prim.Native.Nat.{ℕ, zero, suc, _+_, _*_, _-_, _≤_, _<_}
+use mathlib.Core.Path.{_≡_, refl, ap, ap₂, sym, _∙_}
+use mathlib.Core.List.{List, [], _∷_, _++_, map, map-append, append-nil}
+use mathlib.Core.Bool.{Bool, true, false}
+use mathlib.Core.Logic.{_⊎_, inl, inr, ⊎-elim}
+use native.Mathlib.Omega.{arith}
+use borrow.Author.Tests.{eq-eqb, ne-eqb}
+use lib.Dec.{eqb}
+use lib.ListN.{length, take, drop, length-append, length-map}
+use lib.Seq.{slice, slice-empty, length-slice, length-take-le, getD-take, take-take}
+use Rattle.search.specs.Choice.{_when_else_}
+use Rattle.search.proofs.Choice.{when-yes, when-no, when-cases}
+use Rattle.table.specs.Find.{none, rowOf, rows}
+use Rattle.table.specs.Good.{GoodTable}
+use Rattle.table.specs.declared.Row.{Row}
+use Rattle.table.specs.declared.Table.{Table}
+use Rattle.segments.specs.View.{View, viewOf}
+use Rattle.segments.proofs.Views.{view-overload}
+use Rattle.windows.specs.Demand.{others, othersOf, typical}
+use Rattle.windows.specs.Load.{counted}
+use Rattle.windows.proofs.Lists.{slice-more}
+
+pub typical-append : (vs ws : List View) → typical (vs ++ ws) ≡ typical vs ++ typical ws
+unfolding typical _when_else_
+typical-append [] ws = refl
+typical-append (v ∷ vs) ws = go (eqb (v .overload) 0) (typical-append vs ws)
+  where
+    go : (b : Bool) → typical (vs ++ ws) ≡ typical vs ++ typical ws
+        → (v ∷ typical (vs ++ ws) when b else typical (vs ++ ws)) ≡ (v ∷ typical vs when b else typical vs) ++ typical ws
+    go true e = ap (λ r. v ∷ r) e
+    go false e = e
+
+typical-length : (vs : List View) → length (typical vs) ≤ length vs
+unfolding typical
+typical-length [] = omega arith
+typical-length (v ∷ vs) =
+    when-cases {x = v ∷ typical vs} {y = typical vs} (λ r. length r ≤ suc (length vs)) (eqb (v .overload) 0)
+    (λ e. omega (arith, typical-length vs)) (λ e. omega (arith, typical-length vs))
+
+counted-append : (all : Bool) (vs ws : List View) → counted all (vs ++ ws) ≡ counted all vs ++ counted all ws
+counted-append true vs ws = refl
+counted-append false vs ws = typical-append vs ws
+
+counted-length : (all : Bool) (vs : List View) → length (counted all vs) ≤ length vs
+counted-length true vs = omega arith
+counted-length false vs = typical-length vs
+
+counted-none : (all : Bool) → counted all [] ≡ []
+unfolding typical
+counted-none true = refl
+counted-none false = refl
+
+-- a view counts where all do, or where it has no overload mark
+counted-one : (all : Bool) (v : View) → (all ≡ true) ⊎ (v .overload ≡ 0) → counted all (v ∷ []) ≡ v ∷ []
+unfolding typical
+counted-one true v h = refl
+counted-one false v h = ⊎-elim (λ e. let z : _≡_ {A = ℕ} 0 1 = cc in absurd (omega arith)) (λ e. when-yes _ _ (eq-eqb _ _ e)) h
+
+counted-no : (all : Bool) (v : View) → all ≡ false → (v .overload ≡ 0 → ⊥) → counted all (v ∷ []) ≡ []
+unfolding typical
+counted-no true v e h = let z : _≡_ {A = ℕ} 0 1 = cc in absurd (omega arith)
+counted-no false v e h = when-no _ _ (ne-eqb _ _ h)
+
+-- the views that count, of the chains from `from` up to `to`
+abbrev pub viewsFrom : Bool → Table → Row → ℕ → ℕ → List View
+viewsFrom all t b from to = counted all (map (λ a. viewOf a b) (slice from to (rows t)))
+
+pub views-none : (all : Bool) (t : Table) (b : Row) (from : ℕ) → viewsFrom all t b from from ≡ []
+views-none all t b from = ap (λ l. counted all (map (λ a. viewOf a b) l)) (slice-empty from (rows t)) ∙ counted-none all
+
+module _ (all : Bool) (t : Table) (b : Row) (good : GoodTable t) where
+  rows-length : length (rows t) ≡ t .count
+  rows-length = length-take-le (t .count) (t .row) (omega (arith, good .few, good .size))
+
+  pub views-length : (from to : ℕ) → to ≤ t .count → length (viewsFrom all t b from to) ≤ to - from
+  views-length from to h =
+      let views = map (λ a. viewOf a b) (slice from to (rows t)) in
+      omega (arith, counted-length all views, length-map (slice from to (rows t)) (λ a. viewOf a b), length-slice from to (rows t) (omega (arith, rows-length)))
+
+  module _ (from j : ℕ) (low : from ≤ j) (high : j < t .count) where
+    views-on : viewsFrom all t b from (j + 1) ≡ viewsFrom all t b from j ++ counted all (viewOf (rowOf t j) b ∷ [])
+    views-on =
+        ap (λ l. counted all (map (λ a. viewOf a b) l))
+        (slice-more from j (rows t) none low (omega (arith, rows-length))
+        ∙ ap (λ r. slice from j (rows t) ++ (r ∷ [])) (getD-take (t .count) (t .row) j none high))
+        ∙ ap (counted all) (map-append (λ a. viewOf a b) (slice from j (rows t)) (rowOf t j ∷ []))
+        ∙ counted-append all (map (λ a. viewOf a b) (slice from j (rows t))) (viewOf (rowOf t j) b ∷ [])
+
+    -- the chain j counts
+    pub views-yes : (all ≡ true) ⊎ (rowOf t j .overload ≡ 0) → viewsFrom all t b from (j + 1) ≡ viewsFrom all t b from j ++ (viewOf (rowOf t j) b ∷ [])
+    views-yes h =
+        views-on
+        ∙ ap (λ r. viewsFrom all t b from j ++ r) (counted-one all _ (⊎-elim inl (λ e. inr (view-overload (rowOf t j) b ∙ e)) h))
+
+    -- or it does not
+    pub views-no : all ≡ false → (rowOf t j .overload ≡ 0 → ⊥) → viewsFrom all t b from (j + 1) ≡ viewsFrom all t b from j
+    views-no e h =
+        views-on
+        ∙ ap (λ r. viewsFrom all t b from j ++ r) (counted-no all _ e (λ z. h (sym (view-overload (rowOf t j) b) ∙ z)))
+        ∙ append-nil (viewsFrom all t b from j)
+
+-- those before the chain k and those after it are all others
+pub views-others : (all : Bool) (t : Table) (k : ℕ) → viewsFrom all t (rowOf t k) 0 k ++ viewsFrom all t (rowOf t k) (k + 1) (t .count) ≡ counted all (othersOf t k)
+unfolding othersOf
+views-others all t k =
+    let b = rowOf t k in
+    sym (counted-append all (map (λ a. viewOf a b) (slice 0 k (rows t))) (map (λ a. viewOf a b) (slice (k + 1) (t .count) (rows t))))
+    ∙ ap (counted all) (sym (map-append (λ a. viewOf a b) (slice 0 k (rows t)) (slice (k + 1) (t .count) (rows t))))
+    ∙ ap (λ l. counted all (map (λ a. viewOf a b) (take k (rows t) ++ drop (k + 1) l))) (take-take (t .count) (t .count) (t .row) (omega arith))

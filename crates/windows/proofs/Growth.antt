@@ -1,0 +1,111 @@
+-- The demand never falls with t, and grows with q: its own first part costs less than the chain. Assumes nothing.
+use Prim.Native.Nat.{ℕ, zero, suc, _+_, _*_, _-_, _≤_, _<_}
+use mathlib.Core.Path.{_≡_}
+use mathlib.Core.List.{List, map}
+use mathlib.Core.Bool.{Bool, true, false}
+use native.Mathlib.Omega.{arith}
+use native.Mathlib.Nat.{mul-le-mul-right, mul-pos, le-refl}
+use lib.ListN.{getD}
+use Rattle.search.specs.Choice.{_when_else_}
+use Rattle.search.specs.Lists.{sumOf, All}
+use Rattle.search.proofs.Choice.{when-cases}
+use Rattle.search.proofs.Lists.{sum-mono, all-map}
+use Rattle.table.specs.Good.{GoodRow}
+use Rattle.table.specs.declared.Row.{Row}
+use Rattle.arrivals.specs.Arrivals.{distances, GoodDistances, η}
+use Rattle.arrivals.proofs.Counts.{η-mono}
+use Rattle.arrivals.proofs.Rows.{good-distances}
+use Rattle.segments.specs.Tasks.{chainCost}
+use Rattle.segments.specs.View.{View, allOf, dearestOf}
+use Rattle.segments.proofs.Bounds.{own-less}
+use Rattle.windows.specs.Demand.{asynchronous, termOf, partOf, demandOf}
+use Rattle.windows.specs.Load.{heldOf, Held, ownOf, demandIn, Sound}
+use Rattle.windows.specs.declared.Load.{Load}
+use Rattle.windows.proofs.Least.{Grows}
+
+-- a demand for q activations in t that never falls with t, and not with q
+pub record Growing (demand : ℕ → ℕ → ℕ) : Type 0 where
+  pub grows : (q : ℕ) → 1 ≤ q → Grows (demand q)
+  pub more : (q t : ℕ) → demand q t ≤ demand (q + 1) t
+
+-- what b's activations past q add: it never falls with their number, and loses at most one part where q is one more
+again-mono : (q part m n : ℕ) → m ≤ n → (m - q) * part ≤ (n - q) * part
+again-mono q part m n h = let k : m - q ≤ n - q = omega arith in mul-le-mul-right part k
+
+again-more : (q part n : ℕ) → (n - q) * part ≤ (n - (q + 1)) * part + part
+again-more q part n =
+    let k : n - q ≤ n - (q + 1) + 1 = omega arith in
+    omega (arith, mul-le-mul-right part k)
+
+-- each view has distances of an accepted table
+abbrev pub Paced : List View → Type 0
+Paced vs = All (λ v. GoodDistances (v .list)) vs
+
+pub term-mono : (v : View) → GoodDistances (v .list) → (s t : ℕ) → s ≤ t → termOf v s ≤ termOf v t
+unfolding termOf _when_else_
+term-mono v good s t h = go (v .free) (asynchronous (v .kind))
+  where
+    go : (free async : Bool)
+        → (η (v .list) s * allOf v when free else η (v .list) s * v .first + allOf v when async else dearestOf v)
+        ≤ (η (v .list) t * allOf v when free else η (v .list) t * v .first + allOf v when async else dearestOf v)
+    go true async = mul-le-mul-right (allOf v) (η-mono good s t h)
+    go false true = omega (arith, mul-le-mul-right (v .first) (η-mono good s t h))
+    go false false = le-refl (dearestOf v)
+
+pub part-less : (b : Row) → GoodRow b → partOf b < chainCost b
+unfolding partOf
+part-less b good =
+    when-cases (λ p. p < chainCost b) (asynchronous (b .kind)) (λ e. own-less b good) (λ e. omega (arith, own-less b good))
+
+module _ (b : Row) (vs : List View) (good : GoodRow b) (paced : Paced vs) where
+  pub demand-mono : (q s t : ℕ) → s ≤ t → demandOf b vs q s ≤ demandOf b vs q t
+  unfolding demandOf
+  demand-mono q s t h =
+      omega (
+        arith,
+        again-mono q (partOf b) _ _ (η-mono (good-distances good) s t h),
+        sum-mono (λ v. termOf v s) (λ v. termOf v t) vs (all-map (λ v g. term-mono v g s t h) vs paced),
+      )
+
+  pub demand-more : (q t : ℕ) → demandOf b vs q t < demandOf b vs (q + 1) t
+  unfolding demandOf
+  demand-more q t = omega (arith, again-more q (partOf b) (η (distances b) t), part-less b good)
+
+  pub demand-some : (q t : ℕ) → 1 ≤ q → 1 ≤ demandOf b vs q t
+  unfolding demandOf
+  demand-some q t h =
+      let c : 1 ≤ chainCost b = omega (arith, part-less b good) in
+      omega (arith, mul-pos h c)
+
+  pub demand-growing : Growing (demandOf b vs)
+  demand-growing = record {
+    grows = λ q h. record { some = λ t l. demand-some q t h; mono = demand-mono q };
+    more = λ q t. omega (arith, demand-more q t);
+  }
+
+-- the same of a demand as the code holds it
+module _ (rates lengths lists : List ℕ) where
+  pub held-fewer : (n : ℕ) → Held rates lengths lists (suc n) → Held rates lengths lists n
+  held-fewer n h = record {
+    few = omega (arith, h .few);
+    short = λ i l. h .short i (omega arith);
+    good = λ i l. h .good i (omega arith);
+    cheap = λ i l. h .cheap i (omega arith);
+  }
+
+  pub held-mono : (n s t : ℕ) → Held rates lengths lists n → s ≤ t → heldOf rates lengths lists n s ≤ heldOf rates lengths lists n t
+  unfolding heldOf
+  held-mono zero s t h l = le-refl 0
+  held-mono (suc n) s t h l =
+      omega (arith, held-mono n s t (held-fewer n h) l, mul-le-mul-right (getD rates n 0) (η-mono (h .good n (le-refl (suc n))) s t l))
+
+pub load-growing : (l : Load) → Sound l → Growing (demandIn l)
+unfolding demandIn
+load-growing l ok = record {
+  grows = λ q h. record {
+    some = λ t k. omega (arith, mul-pos h (ok .some));
+    mono = λ s t k.
+        omega (arith, again-mono q (l .part) _ _ (η-mono (ok .own) s t k), held-mono (l .rates) (l .lengths) (l .lists) (l .count) s t (ok .held) k);
+  };
+  more = λ q t. omega (arith, again-more q (l .part) (η (ownOf l) t), ok .part);
+}

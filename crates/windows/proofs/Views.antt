@@ -1,0 +1,42 @@
+-- The demand goes by the views alone: not by their order, and views that are alike give the same. Assumes nothing.
+use Prim.Native.Nat.{ℕ, _+_, _*_}
+use mathlib.Core.Path.{_≡_, refl, ap, sym, fun-ext, _∙_}
+use mathlib.Core.List.{List, [], _∷_, map, List·Permᴰ, List·Permᴰ·trans}
+use mathlib.Core.Bool.{Bool}
+use native.Mathlib.Omega.{arith}
+use Rattle.search.specs.Choice.{_when_else_}
+use Rattle.search.specs.Lists.{sumOf, All, Paired}
+use Rattle.search.proofs.Lists.{perm-sum, all-map, paired-perm}
+use Rattle.table.specs.declared.Row.{Row}
+use Rattle.arrivals.specs.Arrivals.{η}
+use Rattle.segments.specs.View.{View, allOf, dearestOf, Alike}
+use Rattle.segments.proofs.Lists.{sum-map}
+use Rattle.segments.proofs.Views.{alike-all, alike-dearest}
+use Rattle.windows.specs.Demand.{asynchronous, termOf, demandOf, typical}
+use Rattle.windows.specs.Latency.{boundOf, windowsOf}
+
+pub alike-term : {v w : View} → Alike v w → (t : ℕ) → termOf v t ≡ termOf w t
+unfolding termOf
+alike-term s t = rw (s .list, s .free, s .kind, s .first, alike-all s, alike-dearest s)
+
+-- views that pair off alike, in any order
+module _ {vs ws : List View} (p : Paired Alike vs ws) where
+  pub alike-terms : (t : ℕ) → sumOf (λ v. termOf v t) vs ≡ sumOf (λ v. termOf v t) ws
+  alike-terms t =
+      let f : View → ℕ = λ v. termOf v t in
+      let e : List·Permᴰ (map f vs) (map f ws) = paired-perm f f (record {
+        pairs = p .pairs;
+        firsts = p .firsts;
+        seconds = p .seconds;
+        related = all-map (λ q h. alike-term h t) (p .pairs) (p .related);
+      }) in
+      sym (sum-map f (λ n. n) vs) ∙ perm-sum (λ n. n) e ∙ sum-map f (λ n. n) ws
+
+  pub alike-demand : (b : Row) → demandOf b vs ≡ demandOf b ws
+  unfolding demandOf
+  alike-demand b = fun-ext (λ q. fun-ext (λ t. omega (arith, alike-terms t)))
+
+  -- so every figure is the same: B(q), K, latency, late, margin, the last window, and each refusal
+  pub alike-bound : (b : Row) → boundOf b vs ≡ boundOf b ws
+  unfolding boundOf
+  alike-bound b = rw (alike-demand b)

@@ -1,0 +1,107 @@
+-- K, latency, late and margin (01, 'Windows'), over a demand for q activations in t, the distances of its chain, and its deadline.
+use Prim.Native.Nat.{ℕ, zero, suc, _+_, _-_, _≤_}
+use mathlib.Core.List.{List, [], _∷_}
+use mathlib.Core.Bool.{Bool, true}
+use lib.Dec.{eqb, ltb, leb}
+use lib.IntN.{ℤ, pos, _-ℤ_}
+use Rattle.search.specs.Choice.{_when_else_}
+use Rattle.search.specs.Find.{first}
+use Rattle.search.specs.Lists.{sumOf, mostOf}
+use Rattle.table.specs.Limits.{maxActivations}
+use Rattle.table.specs.Find.{rowOf, findOf}
+use Rattle.table.specs.Read.{readTable}
+use Rattle.table.specs.declared.Row.{Row}
+use Rattle.table.specs.declared.Table.{Table}
+use Rattle.table.specs.declared.Verdict.{Verdict}
+use Rattle.table.specs.declared.Verdict.the-variants.{Accepted, Refused as Faulty}
+use Rattle.arrivals.specs.Arrivals.{distances, δ}
+use Rattle.segments.specs.View.{View}
+use Rattle.windows.specs.Demand.{demandOf, othersOf}
+use Rattle.windows.specs.Window.{windowOf}
+use Rattle.windows.specs.declared.Window.{Window}
+use Rattle.windows.specs.declared.Window.the-variants.{At, Nothing}
+use Rattle.windows.specs.declared.Answer.{Answer}
+use Rattle.windows.specs.declared.Answer.the-variants.{Figures, Refused}
+use Rattle.windows.specs.declared.Windows.{Windows}
+
+-- how long a window is, 0 for none
+abbrev pub long : Window → ℕ
+long (At t) = t
+long Nothing = 0
+
+-- taking q = 1, 2, .. ends at q where there is no window B(q), or B(q) ≤ δ(q + 1)
+abbrev pub ends : Window → ℕ → Bool
+ends (At t) next = leb t next
+ends Nothing next = true
+
+-- K: the first q at which it ends, one more than the limit where it's open still
+unfoldable pub closeOf : (ℕ → ℕ → ℕ) → List ℕ → ℕ
+closeOf demand ds = first (λ q. ends (windowOf (demand q)) (δ ds (q + 1))) 1 maxActivations
+
+-- B(q) − δ(q)
+unfoldable pub latencyAt : (ℕ → ℕ → ℕ) → List ℕ → ℕ → ℕ
+latencyAt demand ds q = long (windowOf (demand q)) - δ ds q
+
+-- the activations up to k
+unfoldable pub upTo : ℕ → List ℕ
+upTo zero = []
+upTo (suc k) = suc k ∷ upTo k
+
+-- latency: the greatest B(q) − δ(q), q ≤ k
+unfoldable pub latencyTo : (ℕ → ℕ → ℕ) → List ℕ → ℕ → ℕ
+latencyTo demand ds k = mostOf (latencyAt demand ds) (upTo k)
+
+-- late: how many of them exceed the deadline
+unfoldable pub lateTo : (ℕ → ℕ → ℕ) → List ℕ → ℕ → ℕ → ℕ
+lateTo demand ds deadline k = sumOf (λ q. 1 when ltb deadline (latencyAt demand ds q) else 0) (upTo k)
+
+-- margin: deadline minus latency, signed
+abbrev pub marginOf : ℕ → ℕ → ℤ
+marginOf deadline latency = pos deadline -ℤ pos latency
+
+-- a refusal has no last window
+abbrev pub refusal : ℕ → Windows
+refusal n = record { answer = Refused n; last = 0 }
+
+-- what the windows give where they end at k, and B(k) is the last
+abbrev pub endsWith : (ℕ → ℕ → ℕ) → List ℕ → ℕ → ℕ → Window → Windows
+endsWith demand ds deadline k Nothing = refusal 16
+endsWith demand ds deadline k (At t) =
+    record {
+      answer = Figures k (latencyTo demand ds k) (lateTo demand ds deadline k) (marginOf deadline (latencyTo demand ds k));
+      last = t;
+    }
+
+-- no solution, 16; q = 1,024 still open, 17
+unfoldable pub windowsOf : (ℕ → ℕ → ℕ) → List ℕ → ℕ → Windows
+windowsOf demand ds deadline =
+    refusal 17 when ltb maxActivations (closeOf demand ds) else
+    endsWith demand ds deadline (closeOf demand ds) (windowOf (demand (closeOf demand ds)))
+
+-- every figure of b is a function of its row and its views of the others
+unfoldable pub boundOf : Row → List View → Windows
+boundOf b others = windowsOf (demandOf b others) (distances b) (b .deadline)
+
+-- the chain with the id, 12 if there is none
+unfoldable pub chainOf : Table → ℕ → Answer
+chainOf t id =
+    Refused 12 when eqb (findOf t id) (t .count) else
+    boundOf (rowOf t (findOf t id)) (othersOf t (findOf t id)) .answer
+
+-- the table's own refusals come first
+abbrev pub byVerdict : Verdict → Answer → Answer
+byVerdict Accepted answer = answer
+byVerdict (Faulty n) answer = Refused n
+
+-- what the latency query answers for the chain with the id, of a stored table
+unfoldable pub latencyOf : List ℕ → ℕ → Answer
+latencyOf s id = byVerdict (readTable s .verdict) (chainOf (readTable s .table) id)
+
+-- document 01's number for each answer, 0 or the refusal, and its values: K, latency, late, margin, or none
+abbrev pub numberOf : Answer → ℕ
+numberOf (Figures k latency late margin) = 0
+numberOf (Refused n) = n
+
+abbrev pub valuesOf : Answer → List ℤ
+valuesOf (Figures k latency late margin) = pos k ∷ pos latency ∷ pos late ∷ margin ∷ []
+valuesOf (Refused n) = []

@@ -1,0 +1,53 @@
+// Windows (document 01, 'Windows'): demand, window, K, latency, late and margin; the latency query.
+mod climbing;
+mod loading;
+
+pub use climbing::climb;
+use table::Table;
+
+// The least t that equals its demand, or none up to the horizon.
+pub enum Window {
+    At(u64),
+    Nothing,
+}
+
+// What the latency query answers: the figures, or the refusal's number.
+pub enum Answer {
+    Figures {
+        k: u32,
+        latency: u32,
+        late: u32,
+        margin: i32,
+    },
+    Refused(u32),
+}
+
+// What the windows of a chain give: the answer, and beside it the last window B(K), 0 where it is refused.
+pub struct Windows {
+    pub answer: Answer,
+    pub last: u64,
+}
+
+// What another chain adds in t: η(t) times `rate`, and `once`.
+pub struct Term {
+    pub rate: u64,
+    pub once: u64,
+}
+
+// A demand: the chain's own distances, its cost and its own first part (0 if it is synchronous), what the others add once, and
+// the `count` of them that add η(t) times a rate too. Their lists stand one after the other, each with room for the longest.
+pub struct Load {
+    pub listed: usize,
+    pub list: [u32; Table::DISTANCES],
+    pub cost: u64,
+    pub part: u64,
+    pub once: u64,
+    pub count: usize,
+    pub rates: [u64; Table::CHAINS],
+    pub lengths: [usize; Table::CHAINS],
+    pub lists: [u32; Load::PLACES],
+}
+
+impl Load {
+    pub const PLACES: usize = Table::CHAINS * Table::DISTANCES;
+}
