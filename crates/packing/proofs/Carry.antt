@@ -1,0 +1,68 @@
+-- Packings carried over: a function of masks that turns bad combinations into bad ones, and fits the room, turns a packing into
+-- one with as many uses. From it come the laws that callers use: what the most uses hang on, when they cannot fall, when they
+-- are 0, and that a renumbering of the active segments moves nothing. Assumes nothing.
+use Prim.Native.Nat.{ℕ, zero, suc, _+_, _*_, _≤_, _<_}
+use mathlib.Core.Path.{_≡_, refl, sym, ap, subst, _∙_}
+use mathlib.Core.Bool.{Bool, true, false, _&&_, and-false}
+use mathlib.Core.Logic.{_⊎_, inl, inr, ⊎-elim}
+use native.Mathlib.Omega.{arith}
+use native.Mathlib.Nat.{mul-le-mul-left}
+use lib.Dec.{ltb, eqb}
+use borrow.Author.Tests.{eqb-true, lt-ltb}
+use Rattle.search.specs.Find.{Greatest}
+use Rattle.search.specs.Choice.{_when_else_}
+use Rattle.search.proofs.Choice.{lt-or-le, when-cases, true-not-false}
+use Rattle.packing.specs.Packing.{bit, sum, usable, Packing, Reached}
+use Rattle.packing.specs.Most.{mostUses}
+use Rattle.packing.proofs.Sums.{is, sum-ext, sum-mono, sum-scale, sum-swap, sum-is, sum-zero, sum-some}
+use Rattle.packing.proofs.Weights.{usable-some}
+use Rattle.packing.proofs.Most.{most-greatest}
+
+-- how often x is used where each use of m becomes one of `turn m`
+abbrev turned : (ℕ → ℕ) → (ℕ → ℕ) → ℕ → ℕ
+turned turn u x = sum 64 (λ m. u m * is (turn m) x)
+
+-- what the turned uses come to, use by use
+turned-sum : (turn u g : ℕ → ℕ) → ((m : ℕ) → m < 64 → 0 < u m → turn m < 64) → sum 64 (λ x. turned turn u x * g x) ≡ sum 64 (λ m. u m * g (turn m))
+turned-sum turn u g h =
+    sum-ext 64 (λ x. turned turn u x * g x) (λ x. sum 64 (λ m. u m * (is (turn m) x * g x))) (λ x l. out x)
+    ∙ sum-swap 64 64 (λ x m. u m * (is (turn m) x * g x))
+    ∙ sum-ext 64 (λ m. sum 64 (λ x. u m * (is (turn m) x * g x))) (λ m. u m * g (turn m)) (λ m l. sum-scale 64 (u m) (λ x. is (turn m) x * g x) ∙ each m l (lt-or-le 0 (u m)))
+  where
+    out : (x : ℕ) → turned turn u x * g x ≡ sum 64 (λ m. u m * (is (turn m) x * g x))
+    out x = omega (arith, sum-scale 64 (g x) (λ m. u m * is (turn m) x), sum-ext 64 (λ m. g x * (u m * is (turn m) x)) (λ m. u m * (is (turn m) x * g x)) (λ m l. omega arith))
+
+    each : (m : ℕ) → m < 64 → (0 < u m) ⊎ (u m ≤ 0) → u m * sum 64 (λ x. is (turn m) x * g x) ≡ u m * g (turn m)
+    each m l (inl s) = ap (λ y. u m * y) (sum-is 64 (turn m) g (h m l s))
+    each m l (inr s) = let e : u m ≡ 0 = omega arith in rw e (omega arith)
+
+-- a mask function that turns what is bad into what is worse, and keeps within the room there
+pub record Carries (bad worse : ℕ → Bool) (room more : ℕ → ℕ) : Type 0 where
+  pub turn : ℕ → ℕ
+  pub inside : (m : ℕ) → m < 64 → usable bad m ≡ true → turn m < 64
+  pub bads : (m : ℕ) → m < 64 → usable bad m ≡ true → usable worse (turn m) ≡ true
+  pub within : (u : ℕ → ℕ) → Packing bad room u → (i : ℕ) → i < 6 → sum 64 (λ m. u m * bit i (turn m)) ≤ more i
+
+module _ {bad worse : ℕ → Bool} {room more : ℕ → ℕ} (c : Carries bad worse room more) where
+  pub carried : {n : ℕ} → Reached bad room n → Reached worse more n
+  carried r =
+      let u = r .uses in
+      let sums : (g : ℕ → ℕ) → sum 64 (λ x. turned (c .turn) u x * g x) ≡ sum 64 (λ m. u m * g (c .turn m)) = λ g. turned-sum (c .turn) u g (λ m l s. c .inside m l (r .packing .only m l s)) in
+      record {
+        uses = turned (c .turn) u;
+        packing = record {
+          only = λ x l h.
+              let s = sum-some 64 (λ m. u m * is (c .turn m) x) h in
+              let t = used (u (s .0)) (c .turn (s .0)) x (s .2) in
+              subst (λ y. usable worse y ≡ true) (t .1) (c .bads (s .0) (s .1) (r .packing .only (s .0) (s .1) (t .0)));
+          within = λ i l. omega (arith, sums (bit i), c .within u (r .packing) i l);
+        };
+        total = sum-ext 64 (turned (c .turn) u) (λ x. turned (c .turn) u x * 1) (λ x l. omega arith) ∙ sums (λ x. 1) ∙ sum-ext 64 (λ m. u m * 1) u (λ m l. omega arith) ∙ r .total;
+      }
+    where
+      used : (v y x : ℕ) → 0 < v * is y x → (0 < v) × (y ≡ x)
+      used v y x = when-cases (λ r. 0 < v * r → (0 < v) × (y ≡ x)) (eqb y x) (λ e h. (omega (arith, h), eqb-true y x e)) (λ e h. absurd (omega (arith, h)))
+
+  -- the most uses cannot fall
+  pub carries-most : mostUses bad room ≤ mostUses worse more
+  carries-most = most-greatest worse more .above (mostUses bad room) (carried (most-greatest bad room .holds))

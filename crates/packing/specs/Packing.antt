@@ -1,0 +1,34 @@
+-- The packings of document 01, 'Misses'. A combination is a mask, one bit for each active segment.
+use Prim.Native.Nat.{ℕ, zero, suc, _+_, _*_, _≤_, _<_, _/_, _%_, _^_}
+use mathlib.Core.Path.{_≡_}
+use mathlib.Core.Bool.{Bool, true, _&&_}
+use lib.Dec.{ltb}
+use Rattle.table.specs.Limits.{maxOverloads}
+
+-- the masks of as many bits as there may be active segments
+abbrev pub combinations : ℕ
+combinations = 64
+
+-- 1 if the active segment i is in the combination m, else 0
+abbrev pub bit : ℕ → ℕ → ℕ
+bit i m = m / 2 ^ i % 2
+
+-- f 0 + f 1 + .. + f (n - 1)
+unfoldable pub sum : ℕ → (ℕ → ℕ) → ℕ
+sum zero f = 0
+sum (suc n) f = sum n f + f n
+
+-- a bad combination, the empty one left out: where that is bad, refusal 20 has answered before
+abbrev pub usable : (ℕ → Bool) → ℕ → Bool
+usable bad m = ltb 0 m && bad m
+
+-- 'A packing gives every bad combination a whole number of uses, no active segment used beyond its capacity.'
+pub record Packing (bad : ℕ → Bool) (capacity uses : ℕ → ℕ) : Type 0 where
+  pub only : (m : ℕ) → m < combinations → 0 < uses m → usable bad m ≡ true
+  pub within : (i : ℕ) → i < maxOverloads → sum combinations (λ m. uses m * bit i m) ≤ capacity i
+
+-- some packing has n uses in all
+pub record Reached (bad : ℕ → Bool) (capacity : ℕ → ℕ) (n : ℕ) : Type 0 where
+  pub uses : ℕ → ℕ
+  pub packing : Packing bad capacity uses
+  pub total : sum combinations uses ≡ n
