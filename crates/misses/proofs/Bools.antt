@@ -1,0 +1,18 @@
+-- Laws of tests over a list. Assumes nothing.
+use mathlib.Core.Path.{_≡_, refl, ap, _∙_}
+use mathlib.Core.Bool.{Bool, true, false, _&&_, _||_}
+use mathlib.Core.List.{List, [], _∷_, _++_}
+use Rattle.misses.specs.Tests.{some, every}
+
+module _ {A : Type 0} (p : A → Bool) where
+  pub every-yes : (a : A) (l : List A) → p a ≡ true → every p (a ∷ l) ≡ every p l
+  unfolding every
+  every-yes a l e = rw e
+
+  pub every-no : (a : A) (l : List A) → p a ≡ false → every p (a ∷ l) ≡ false
+  unfolding every
+  every-no a l e = rw e
+
+  pub every-end : every p [] ≡ true
+  unfolding every
+  every-end = refl

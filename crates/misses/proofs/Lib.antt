@@ -1,0 +1,6 @@
+pub mod Bools
+pub mod Fills
+pub mod Masks
+pub mod Prices
+pub mod Sixes
+pub mod Gathers
