@@ -1,9 +1,9 @@
 -- What an answer of the segment query says: who is in the table, and which bytes the task records are. Assumes nothing.
 use Prim.Native.Nat.{ℕ, zero, suc, _+_, _*_, _-_, _<_, _≤_}
 use native.Mathlib.Omega.{arith}
-use mathlib.Core.Path.{_≡_, refl, ap, ap₂, sym, subst, _∙_}
-use mathlib.Core.List.{List, [], _∷_}
-use mathlib.Core.Bool.{Bool, true, false, not, _||_}
+use mathlib.Core.Path.{_≡_, refl, ap, ap₂, sym, _∙_}
+use mathlib.Core.List.{List}
+use mathlib.Core.Bool.{not, _||_}
 use borrow.Author.Tests.{ltb-true, eqb-false, not-false}
 use lib.Dec.{eqb}
 use lib.ListN.{length, getD, take, drop, length-take, length-drop}
@@ -13,7 +13,6 @@ use Rattle.table.specs.Limits.{maxTasks}
 use Rattle.table.specs.Bytes.{word, Bytes}
 use Rattle.table.specs.Record.{priorityAt, costAt, firstTask, prioritiesAt, costsAt, rowAt}
 use Rattle.table.specs.Find.{rowOf, findOf, used}
-use Rattle.table.specs.Fault.{outside}
 use Rattle.table.specs.Place.{placeOf, Holds}
 use Rattle.table.specs.Read.{readTable}
 use Rattle.table.specs.declared.Row.{Row}
@@ -26,8 +25,7 @@ use Rattle.table.proofs.Firsts.{none-or}
 use Rattle.table.proofs.Faultless.{inside}
 use Rattle.table.proofs.Accepted.{accepted-holds}
 use Rattle.segments.specs.Actives.{Active, nothing, activesOf}
-use Rattle.segments.specs.Query.{firstTaskOf, recordsOf, nthOf, answerOf, judged, segmentOf, partOf}
-use Rattle.segments.specs.declared.Answer.{Answer}
+use Rattle.segments.specs.Query.{firstTaskOf, nthOf, answerOf, judged, segmentOf, partOf}
 use Rattle.segments.specs.declared.Answer.the-variants.{Records, Refused}
 use Rattle.segments.proofs.Standing.{Stands, actives-stand, all-at}
 

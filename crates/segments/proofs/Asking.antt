@@ -2,19 +2,25 @@
 use Prim.Native.Nat.{ℕ, zero, suc, _+_, _*_, _-_, _<_, _≤_}
 use native.Mathlib.Omega.{arith}
 use native.Mathlib.Numerals.{add-one}
-use mathlib.Core.Path.{_≡_, refl, ap, sym, subst, _∙_}
+use mathlib.Core.Path.{_≡_, ap, sym, _∙_}
 use mathlib.Core.Bool.{Bool, true, false, not}
-use borrow.Author.Tests.{le-ltb, lt-ltb}
+use mathlib.Core.Logic.{_⊎_, ⊎-elim}
+use borrow.Author.Tests.{le-ltb, lt-ltb, ltb-false}
+use lib.Dec.{ltb}
 use lib.ListN.{length, getD}
+use Rattle.search.proofs.Choice.{when-yes, when-no}
 use Rattle.table.specs.Find.{rowOf, findOf, used}
 use Rattle.table.specs.Place.{placeOf}
 use Rattle.table.specs.Good.{GoodTable}
 use Rattle.table.specs.declared.Row.{Row}
 use Rattle.table.specs.declared.Table.{Table}
 use Rattle.table.proofs.Standing.{place-none, place-on}
+use Rattle.table.proofs.Firsts.{or-left, or-right, or-none}
 use Rattle.table.proofs.Finds.{find-le}
-use Rattle.segments.specs.Actives.{Active, nothing, activesOf, arraysOf}
+use Rattle.segments.specs.Actives.{nothing, activesOf, arraysOf}
+use Rattle.segments.specs.Query.{nthOf}
 use Rattle.segments.specs.declared.Actives.{Actives}
+use Rattle.segments.specs.declared.Answer.the-variants.{Records, Refused}
 use Rattle.segments.proofs.Bounds.{actives-tasks}
 use Rattle.segments.proofs.Standing.{Stands, actives-stand, all-at, array-at}
 
@@ -45,6 +51,23 @@ fetched a b l n e some few =
       few = omega (arith, actives-tasks a b);
       inside = all-at (Stands a) (activesOf a b) (n - 1) (actives-stand a b) h .inside;
     }
+
+module _ (t : Table) (k j n : ℕ) (l : Actives) (e : l ≡ arraysOf (activesOf (rowOf t k) (rowOf t j))) where
+  count-is : (b : Bool) → ltb (l .count) n ≡ b → ltb (length (activesOf (rowOf t k) (rowOf t j))) n ≡ b
+  count-is b h = ap (λ o. ltb (o .count) n) (sym e) ∙ h
+
+  -- no active segment has the number
+  pub nth-none : (n ≡ 0) ⊎ (ltb (l .count) n ≡ true) → Refused 26 ≡ nthOf t k j n
+  unfolding nthOf
+  nth-none h = sym (when-yes _ _ (⊎-elim (λ z. or-left _ _ (lt-ltb n 1 (omega arith))) (λ z. or-right (ltb n 1) _ (count-is true z)) h))
+
+  -- the task records of the one that has it, where the record of the chain k starts at `at`
+  pub nth-records : (at : ℕ) → at ≡ placeOf t k → (n ≡ 0 → ⊥) → ltb (l .count) n ≡ false
+      → Records (at + 16 + 4 * rowOf t k .listed + 8 * getD (l .start) (n - 1) 0) (8 * getD (l .len) (n - 1) 0) ≡ nthOf t k j n
+  unfolding nthOf
+  nth-records at p some few =
+      let f = fetched (rowOf t k) (rowOf t j) l n e some (ltb-false (l .count) n few) in
+      rw (p, f .start, f .len) (sym (when-no _ _ (or-none _ _ (le-ltb n 1 (omega arith)) (count-is false few))))
 
 -- no record is longer than 176 bytes
 pub place-max : (t : Table) → GoodTable t → (k : ℕ) → k ≤ t .count → placeOf t k ≤ 176 * k

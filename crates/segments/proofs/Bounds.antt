@@ -1,5 +1,5 @@
 -- How large the figures of a chain can be, and how many active segments it has. Assumes nothing.
-use Prim.Native.Nat.{ℕ, zero, suc, _+_, _*_, _-_, _<_, _≤_, min}
+use Prim.Native.Nat.{ℕ, zero, suc, _+_, _*_, _-_, _<_, _≤_}
 use native.Mathlib.Omega.{arith}
 use native.Mathlib.Nat.{eq-or-lt-of-le}
 use mathlib.Core.Path.{_≡_, refl, ap, ap₂, sym, subst, _∙_}
@@ -9,7 +9,7 @@ use mathlib.Core.Bool.{Bool, true, false, _||_}
 use borrow.Author.Tests.{eq-eqb}
 use lib.ListN.{length, getD, length-append, length-map}
 use Rattle.search.specs.Choice.{_when_else_}
-use Rattle.search.specs.Lists.{sumOf, mostOf, All}
+use Rattle.search.specs.Lists.{sumOf, All}
 use Rattle.search.proofs.Choice.{lt-or-le}
 use Rattle.search.proofs.Lists.{sum-append, sum-ext}
 use Rattle.table.specs.Limits.{maxTasks, maxCost}

@@ -1,19 +1,19 @@
 -- What segments cost: from the list of tasks to the loops that sum it up. Assumes nothing.
-use Prim.Native.Nat.{ℕ, zero, suc, _+_, _*_, _-_, _<_, _≤_, max}
+use Prim.Native.Nat.{ℕ, suc, _+_, _-_, _<_, _≤_, max}
 use native.Mathlib.Omega.{arith}
 use mathlib.Core.Path.{_≡_, refl, ap, ap₂, sym, _∙_}
-use mathlib.Core.List.{List, [], _∷_, _++_, map}
+use mathlib.Core.List.{List, [], _∷_, _++_}
 use mathlib.Core.Bool.{Bool, true, false}
 use borrow.Author.Tests.{lt-ltb, le-ltb}
 use lib.ListN.{length, getD, drop}
 use Rattle.search.specs.Choice.{_when_else_}
 use Rattle.search.specs.Lists.{sumOf, mostOf}
-use Rattle.search.proofs.Choice.{when-yes, when-no, when-cases}
+use Rattle.search.proofs.Choice.{when-yes, when-no}
 use Rattle.search.proofs.Lists.{sum-append}
-use Rattle.segments.specs.Tasks.{Task, tasksFrom, costOf, below, before, some, stretchOf}
-use Rattle.segments.specs.Segments.{_on_, stretches, onward, around, full, segments}
+use Rattle.segments.specs.Tasks.{Task, tasksFrom, costOf, below, before, stretchOf}
+use Rattle.segments.specs.Segments.{_on_, stretches, onward, around, segments}
 use Rattle.segments.specs.declared.Stretch.{Stretch}
-use Rattle.segments.proofs.Steps.{task, rest-on, rest-end, rest-all, rest-drop, rest-length, cost-nil, before-length, aheadOf}
+use Rattle.segments.proofs.Steps.{rest-on, rest-end, rest-all, rest-drop, rest-length, cost-nil, before-length, aheadOf, ahead-len, ahead-cost}
 use Rattle.segments.proofs.Lists.{sum-on, full-sum, full-most, around-sum}
 use Rattle.segments.proofs.Levels.{none-before, all-before}
 use Rattle.segments.proofs.Stretches.{stretches-some, stretches-split, stretches-none}
@@ -138,10 +138,10 @@ module _ (ps cs : List ℕ) (n floor f : ℕ) where
 -- from what `ahead` finds of the first stretch
 module _ (ps cs : List ℕ) (n floor : ℕ) (r : Stretch) (d : r ≡ stretchOf (aheadOf ps cs n floor 0)) where
   len-is : r .len ≡ length (before (below floor) (tasksFrom ps cs n 0))
-  len-is = ap (λ s. s .len) d ∙ ap (λ l. length (before (below floor) l)) (rest-all ps cs n)
+  len-is = ahead-len ps cs n floor r d
 
   cost-is : r .cost ≡ costOf (before (below floor) (tasksFrom ps cs n 0))
-  cost-is = ap (λ s. s .cost) d ∙ ap (λ l. costOf (before (below floor) l)) (rest-all ps cs n)
+  cost-is = ahead-cost ps cs n floor r d
 
   pub dearest-one : r .len ≡ n → r .cost ≡ mostOf costOf (segments floor (tasksFrom ps cs n 0))
   dearest-one e = cost-is ∙ sym (dearest-free floor (tasksFrom ps cs n 0) (omega (arith, len-is, rest-length ps cs n 0)))

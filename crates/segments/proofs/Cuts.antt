@@ -1,5 +1,5 @@
 -- The active segments one by one, as `cut` finds them. Assumes nothing.
-use Prim.Native.Nat.{ℕ, zero, suc, _+_, _*_, _-_, _<_, _≤_}
+use Prim.Native.Nat.{ℕ, suc, _+_, _-_, _<_, _≤_}
 use native.Mathlib.Omega.{arith}
 use mathlib.Core.Path.{_≡_, refl, ap, ap₂, sym, _∙_}
 use mathlib.Core.List.{List, [], _∷_, _++_, append-assoc, append-nil, map, map-append}
@@ -12,12 +12,14 @@ use Rattle.search.specs.Choice.{_when_else_}
 use Rattle.search.proofs.Choice.{when-yes, when-no}
 use Rattle.table.specs.Limits.{maxTasks}
 use Rattle.table.specs.Record.{pad}
-use Rattle.segments.specs.Tasks.{Task, tasksFrom, costOf, below, before, stretchOf}
+use Rattle.table.specs.declared.Row.{Row}
+use Rattle.segments.specs.Tasks.{Task, tasksFrom, tasksOf, costOf, floorOf, tailOf, below, before, stretchOf}
 use Rattle.segments.specs.Segments.{_on_, stretches, cuts, parts}
-use Rattle.segments.specs.Actives.{Active, active, startOf, numbered, inOrder, actives, arraysOf, plus}
+use Rattle.segments.specs.Actives.{Active, active, startOf, numbered, inOrder, actives, activesOf, arraysOf, plus}
 use Rattle.segments.specs.declared.Stretch.{Stretch}
 use Rattle.segments.specs.declared.Actives.{Actives}
 use Rattle.segments.proofs.Steps.{task, rest-on, rest-end, rest-all, rest-drop, cost-cons, aheadOf, ahead-inside}
+use Rattle.segments.proofs.Levels.{lowest-le}
 use Rattle.segments.proofs.Stretches.{cuts-some}
 
 -- a task in front of the first active segment of the first stretch
@@ -187,3 +189,11 @@ module _ (ps cs : List ℕ) (n floor tail last : ℕ) where
       let f : c .found ≡ left 0 0 = sym (append-nil (c .found)) ∙ ap (λ r. c .found ++ tagged last k (parts floor tail r)) (sym (rest-end ps cs n i h)) ∙ c .whole in
       let g : last + 1 ≡ length (parts floor tail (tasksFrom ps cs n 0)) = rw length-map e in
       c .is ∙ ap arraysOf (f ∙ ap (λ r. tagged last 0 (parts floor tail r)) (rest-all ps cs n) ∙ tagged-order last (parts floor tail (tasksFrom ps cs n 0)) g)
+
+-- at b's floor and tail
+pub cut-is : (a b : Row) (floor tail : ℕ) (l : Actives) → floor ≡ floorOf b → tail ≡ tailOf b → l ≡ arraysOf (actives floor tail (tasksOf a))
+    → l ≡ arraysOf (activesOf a b)
+cut-is a b floor tail l f t e = e ∙ ap₂ (λ x y. arraysOf (actives x y (tasksOf a))) f t
+
+pub floor-tail : (b : Row) (floor tail : ℕ) → floor ≡ floorOf b → tail ≡ tailOf b → floor ≤ tail
+floor-tail b floor tail f t = omega (arith, lowest-le (b .priority) (b .tasks - 1) (b .tasks - 1) (omega arith))

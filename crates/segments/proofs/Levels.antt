@@ -1,22 +1,21 @@
 -- Floor and tail; the tasks before the first at the floor; deferred or free. Assumes nothing.
-use Prim.Native.Nat.{ℕ, zero, suc, _+_, _*_, _-_, _<_, _≤_, min}
+use Prim.Native.Nat.{ℕ, zero, suc, _+_, _-_, _≤_, min}
 use native.Mathlib.Omega.{arith}
 use native.Mathlib.Nat.{eq-or-lt-of-le}
-use mathlib.Core.Path.{_≡_, refl, ap, ap₂, sym, subst, _∙_}
+use mathlib.Core.Path.{_≡_, refl, ap, ap₂, sym, _∙_}
 use mathlib.Core.Logic.{⊎-elim}
 use mathlib.Core.List.{List, [], _∷_}
 use mathlib.Core.Bool.{Bool, true, false, not, _||_}
 use borrow.Author.Tests.{lt-ltb, le-ltb, eq-eqb, ne-eqb, not-true}
-use lib.Dec.{ltb, eqb, eqb·suc-suc}
+use lib.Dec.{eqb, eqb·suc-suc}
 use lib.ListN.{length, getD}
 use Rattle.search.specs.Choice.{_when_else_}
-use Rattle.search.specs.Lists.{sumOf, All}
+use Rattle.search.specs.Lists.{All}
 use Rattle.search.proofs.Choice.{lt-or-le}
 use Rattle.table.specs.declared.Row.{Row}
-use Rattle.table.specs.Good.{GoodTasks}
-use Rattle.segments.specs.Tasks.{Task, tasksFrom, below, at, before, some, lowest, stretchOf}
+use Rattle.segments.specs.Tasks.{Task, tasksFrom, tasksOf, costOf, chainCost, lowest, floorOf, below, at, some, before, ownPart, stretchOf}
 use Rattle.segments.specs.declared.Stretch.{Stretch}
-use Rattle.segments.proofs.Steps.{rest-each, rest-all, rest-length, aheadOf}
+use Rattle.segments.proofs.Steps.{rest-each, rest-length, aheadOf, ahead-len, ahead-cost}
 
 -- the lowest is one of them, and none lies below it
 pub lowest-le : (ps : List ℕ) (n k : ℕ) → k ≤ n → lowest ps n ≤ getD ps k 0
@@ -48,13 +47,13 @@ before-at f (t ∷ ts) h = ap₂ (λ b r. [] when b else t ∷ r) same (before-a
         (λ l. eq-eqb (t .priority) f (omega (arith, h .0)) ∙ sym (lt-ltb (t .priority) (f + 1) (omega arith)))
         (lt-or-le f (t .priority))
 
-pub own-before : (ps cs : List ℕ) (n : ℕ)
+own-before : (ps cs : List ℕ) (n : ℕ)
     → before (at (lowest ps (n - 1))) (tasksFrom ps cs n 0) ≡ before (below (lowest ps (n - 1) + 1)) (tasksFrom ps cs n 0)
 own-before ps cs n =
     before-at (lowest ps (n - 1)) (tasksFrom ps cs n 0) (rest-each _ ps cs n 0 (λ j l. lowest-le ps (n - 1) j (omega arith)))
 
 -- no task lies below the level 0
-pub before-zero : (ts : List Task) → before (below 0) ts ≡ ts
+before-zero : (ts : List Task) → before (below 0) ts ≡ ts
 unfolding before _when_else_
 before-zero [] = refl
 before-zero (t ∷ ts) = rw (le-ltb (t .priority) 0 (omega arith)) (ap (λ r. t ∷ r) (before-zero ts))
@@ -83,9 +82,18 @@ module _ (p : Task → Bool) where
       go true e r = let z : _≡_ {A = ℕ} 0 1 = cc in absurd (omega arith)
       go false e r = ap (λ l. t ∷ l) (r e)
 
--- from what `ahead` finds: a chain interferes freely where that is all of it
+-- from what `ahead` finds up to the floor: whether a chain interferes freely
 pub free-is : (ps cs : List ℕ) (n floor : ℕ) (r : Stretch) → r ≡ stretchOf (aheadOf ps cs n floor 0)
     → eqb (r .len) n ≡ not (some (below floor) (tasksFrom ps cs n 0))
 free-is ps cs n floor r d =
-    ap₂ eqb (ap (λ s. s .len) d ∙ ap (λ l. length (before (below floor) l)) (rest-all ps cs n)) (sym (rest-length ps cs n 0))
-    ∙ sym (some-before (below floor) (tasksFrom ps cs n 0))
+    ap₂ eqb (ahead-len ps cs n floor r d) (sym (rest-length ps cs n 0)) ∙ sym (some-before (below floor) (tasksFrom ps cs n 0))
+
+-- up to the level 0: the whole chain; and up to the level above b's floor: its own first part
+pub whole-is : (a : Row) (r : Stretch) → r ≡ stretchOf (aheadOf (a .priority) (a .cost) (a .tasks) 0 0) → r .cost ≡ chainCost a
+whole-is a r d = ahead-cost (a .priority) (a .cost) (a .tasks) 0 r d ∙ ap costOf (before-zero (tasksOf a))
+
+pub own-is : (b : Row) (floor : ℕ) (r : Stretch) → floor ≡ floorOf b → r ≡ stretchOf (aheadOf (b .priority) (b .cost) (b .tasks) (floor + 1) 0)
+    → r .cost ≡ ownPart b
+own-is b floor r e d =
+    ahead-cost (b .priority) (b .cost) (b .tasks) (floor + 1) r d ∙ ap (λ f. costOf (before (below (f + 1)) (tasksOf b))) e
+    ∙ ap costOf (sym (own-before (b .priority) (b .cost) (b .tasks)))

@@ -1,11 +1,10 @@
 -- No order of a chain's active segments moves its combinations, their costs, or how often they can be used. Assumes nothing.
-use Prim.Native.Nat.{ℕ, _+_, _*_, _≤_, _/_, _%_}
+use Prim.Native.Nat.{ℕ, _+_, _*_, _/_, _%_}
 use native.Mathlib.Omega.{arith}
 use mathlib.Core.Path.{_≡_, refl, ap, ap₂, subst, _∙_}
 use mathlib.Core.List.{List, [], _∷_, map, map-map, map-id, List·Permᴰ, List·Permᴰ·nil, List·Permᴰ·cons, List·Permᴰ·swap, List·Permᴰ·trans}
 use Rattle.search.specs.Lists.{sumOf}
 use Rattle.segments.specs.Combination.{Item, chosen, Of, Within}
-use Rattle.segments.proofs.Lists.{sum-map}
 
 -- masks of l are turned into masks of k
 pub record Turns (l k : List Item) : Type 0 where

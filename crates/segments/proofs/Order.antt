@@ -1,12 +1,12 @@
 -- The active segments by number are those of the segments, in another order. Assumes nothing.
-use Prim.Native.Nat.{ℕ, zero, suc, _+_, _-_, _<_, _≤_}
+use Prim.Native.Nat.{ℕ, suc, _+_, _-_}
 use native.Mathlib.Omega.{arith}
-use mathlib.Core.Path.{_≡_, refl, ap, ap₂, sym, subst, _∙_}
-use mathlib.Core.List.{List, [], _∷_, _++_, append-assoc, append-nil, map, map-append, List·Permᴰ, List·Permᴰ·trans, List·Permᴰ·append-comm, Permᴰ·refl, Permᴰ·append-left, Permᴰ·append-right}
+use mathlib.Core.Path.{_≡_, refl, ap, subst, _∙_}
+use mathlib.Core.List.{List, [], _∷_, _++_, append-assoc, map, map-append, List·Permᴰ, List·Permᴰ·trans, List·Permᴰ·append-comm, Permᴰ·refl, Permᴰ·append-left, Permᴰ·append-right}
 use lib.ListN.{length}
 use Rattle.segments.specs.Tasks.{Task, costOf}
-use Rattle.segments.specs.Segments.{onward, around, parts}
-use Rattle.segments.specs.Actives.{active, numbered, inOrder, actives}
+use Rattle.segments.specs.Segments.{onward, around}
+use Rattle.segments.specs.Actives.{active, numbered, inOrder}
 use Rattle.segments.specs.Combination.{Item, item, itemOf}
 
 -- the active segments of some segments, each as the costs of its active segments, the segments numbered from j on

@@ -1,17 +1,17 @@
 -- Chains whose views are alike have the same combinations: the numbers of the segments matter no more than their order. Assumes nothing.
-use Prim.Native.Nat.{ℕ, zero, suc, _+_, _*_, _-_, _<_, _≤_, _/_, _%_}
+use Prim.Native.Nat.{ℕ, _+_, _*_, _-_, _<_, _/_, _%_}
 use native.Mathlib.Omega.{arith}
-use mathlib.Core.Path.{_≡_, refl, ap, ap₂, sym, subst, _∙_}
+use mathlib.Core.Path.{_≡_, refl, ap, ap₂, subst, _∙_}
 use mathlib.Core.List.{List, [], _∷_, _++_, map, map-map, map-id, map-append, List·Permᴰ, List·Permᴰ·nil, List·Permᴰ·cons, List·Permᴰ·swap, List·Permᴰ·trans, Permᴰ·symm, Permᴰ·refl, Permᴰ·map, Permᴰ·append-left, Permᴰ·append-right}
 use lib.Dec.{ltb, eqb}
 use borrow.Author.Tests.{lt-ltb, le-ltb, eq-eqb, ne-eqb}
 use Rattle.search.specs.Choice.{_when_else_}
-use Rattle.search.specs.Lists.{sumOf, All, Paired}
+use Rattle.search.specs.Lists.{All, Paired}
 use Rattle.table.specs.declared.Row.{Row}
 use Rattle.segments.specs.Tasks.{Task, tasksOf, floorOf, tailOf, costOf}
 use Rattle.segments.specs.Segments.{around, full, parts, cutSegments}
-use Rattle.segments.specs.Actives.{inOrder, actives, activesOf}
-use Rattle.segments.specs.View.{View, viewOf, Alike}
+use Rattle.segments.specs.Actives.{actives}
+use Rattle.segments.specs.View.{viewOf, Alike}
 use Rattle.segments.specs.Combination.{Item, item, itemsOf, chosen, Of, Combination, Within}
 use Rattle.segments.proofs.Order.{items, costs, behind, by-number}
 use Rattle.segments.proofs.Masks.{turns}

@@ -63,7 +63,7 @@ pub record ActiveSamples : Type 0 where
   pub even-cut : activesOf even edge ≡ act 0 2 3 0 ∷ act 2 1 4 0 ∷ []
 
 pub active-samples : ActiveSamples
-unfolding tasksFrom lowest stretches cuts parts startOf numbered inOrder actives sumOf _when_else_
+unfolding tasksFrom lowest stretches onward around cuts parts startOf numbered inOrder actives sumOf _when_else_
 active-samples = record { sample-actives = refl; figure-actives = refl; free-cut = refl; low-none = refl; even-cut = refl }
 
 -- segments, each as its active-segment costs

@@ -1,10 +1,10 @@
 -- An active segment is contiguous: its tasks follow one another in the chain, inside it. Assumes nothing.
 use Prim.Native.Nat.{ℕ, zero, suc, _+_, _-_, _<_, _≤_}
 use native.Mathlib.Omega.{arith}
-use mathlib.Core.Path.{_≡_, refl, ap, ap₂, sym, subst, _∙_}
-use mathlib.Core.List.{List, [], _∷_, _++_, map}
+use mathlib.Core.Path.{_≡_, refl, ap, sym, subst, _∙_}
+use mathlib.Core.List.{List, [], _∷_, map}
 use mathlib.Core.Bool.{Bool, true, false}
-use lib.ListN.{length, getD, replicate, length-map, List·getD-append, List·getD-eq-default}
+use lib.ListN.{length, getD, replicate, length-map, List·getD-append}
 use Rattle.search.specs.Choice.{_when_else_}
 use Rattle.search.specs.Lists.{All}
 use Rattle.search.proofs.Lists.{all-append, all-map}

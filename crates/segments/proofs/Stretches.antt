@@ -1,13 +1,13 @@
 -- Stretches and their cuts: how many, and that the cuts of a segment put together are the segment. Assumes nothing.
-use Prim.Native.Nat.{ℕ, zero, suc, _+_, _-_, _<_, _≤_}
+use Prim.Native.Nat.{ℕ, suc, _+_, _-_, _<_, _≤_}
 use native.Mathlib.Omega.{arith}
-use mathlib.Core.Path.{_≡_, refl, ap, ap₂, sym, subst, _∙_}
-use mathlib.Core.List.{List, [], _∷_, _++_, map, map-map, map-id, flatten}
+use mathlib.Core.Path.{_≡_, refl, ap, ap₂, _∙_}
+use mathlib.Core.List.{List, [], _∷_, _++_, map, flatten}
 use mathlib.Core.Bool.{Bool, true, false, _||_}
 use borrow.Author.Tests.{lt-ltb, le-ltb}
 use lib.ListN.{length, getD, drop}
 use Rattle.search.specs.Choice.{_when_else_}
-use Rattle.search.specs.Lists.{sumOf, All}
+use Rattle.search.specs.Lists.{All}
 use Rattle.search.proofs.Lists.{all-append}
 use Rattle.segments.specs.Tasks.{Task, tasksFrom, below, before, some}
 use Rattle.segments.specs.Segments.{_on_, stretches, around, full, segments, cuts, parts, cutSegments}

@@ -1,19 +1,22 @@
 -- What matters of a chain a to a chain b comes from its view, and views that are alike give the same. Assumes nothing.
-use Prim.Native.Nat.{ℕ, _+_, _<_, _≤_}
+use Prim.Native.Nat.{ℕ, _+_, _<_}
 use native.Mathlib.Omega.{arith}
-use mathlib.Core.Path.{_≡_, refl, ap, ap₂, sym, subst, _∙_}
-use mathlib.Core.List.{List, [], _∷_, _++_, map, map-map, flatten, List·Permᴰ, Permᴰ·symm, Permᴰ·refl, List·Permᴰ·trans}
-use mathlib.Core.Bool.{Bool, true, false, not}
+use mathlib.Core.Path.{_≡_, refl, ap, ap₂, sym, _∙_}
+use mathlib.Core.List.{List, [], _∷_, _++_, map, map-map, flatten, List·Permᴰ, Permᴰ·symm}
+use mathlib.Core.Bool.{true, false, not}
 use borrow.Author.Tests.{not-true}
+use lib.Dec.{eqb}
 use lib.ListN.{length, take}
 use Rattle.search.specs.Lists.{sumOf, mostOf, All, Paired}
-use Rattle.search.proofs.Lists.{sum-ext, perm-sum, perm-most, all-map, paired-perm}
+use Rattle.search.proofs.Lists.{perm-sum, perm-most, all-map, paired-perm}
 use Rattle.table.specs.declared.Row.{Row}
-use Rattle.segments.specs.Tasks.{Task, tasksOf, costOf, chainCost, floorOf, tailOf, below, deferred, firstCost}
-use Rattle.segments.specs.Segments.{stretches, onward, around, full, segments, segmentsOf, cutSegments, allCost, dearestCost}
+use Rattle.segments.specs.Tasks.{Task, tasksOf, costOf, chainCost, floorOf, tailOf, below, deferred, firstCost, stretchOf}
+use Rattle.segments.specs.Segments.{onward, around, full, segments, segmentsOf, cutSegments, allCost, dearestCost}
 use Rattle.segments.specs.View.{View, viewOf, sum, allOf, dearestOf, countOf, Alike, seenOf}
 use Rattle.segments.specs.declared.Seen.{Seen}
-use Rattle.segments.proofs.Steps.{rest-length, cost-nil}
+use Rattle.segments.specs.declared.Stretch.{Stretch}
+use Rattle.segments.proofs.Steps.{rest-length, cost-nil, aheadOf, ahead-cost}
+use Rattle.segments.proofs.Levels.{free-is}
 use Rattle.segments.proofs.Lists.{sum-map, most-map, sum-ones, sum-flatten, full-sum}
 use Rattle.segments.proofs.Stretches.{stretches-none, cut-flatten}
 
@@ -87,7 +90,15 @@ pub record Shows (v : View) (r : Seen) : Type 0 where
   pub all : r .all ≡ allOf v
   pub dearest : r .dearest ≡ dearestOf v
 
--- what `see` answers shows the view
+-- what `see` puts together is what b sees
+pub seen-is : (a b : Row) (floor cost all dearest : ℕ) (first : Stretch) → floor ≡ floorOf b
+    → first ≡ stretchOf (aheadOf (a .priority) (a .cost) (a .tasks) floor 0) → all ≡ sumOf costOf (segments floor (tasksOf a))
+    → dearest ≡ mostOf costOf (segments floor (tasksOf a)) → cost ≡ chainCost a
+    → _≡_ {A = Seen} (record { free = eqb (first .len) (a .tasks); cost = cost; first = first .cost; all = all; dearest = dearest }) (seenOf a b)
+seen-is a b floor cost all dearest first f d e g h =
+    rw (free-is (a .priority) (a .cost) (a .tasks) floor first d, ahead-cost (a .priority) (a .cost) (a .tasks) floor first d, e, g, h, f)
+
+-- and shows the view
 pub seen-shows : (a b : Row) → Shows (viewOf a b) (seenOf a b)
 unfolding viewOf
 seen-shows a b = record {

@@ -1,5 +1,5 @@
 -- A chain's active segments by number (01, 'Segments against chain b').
-use Prim.Native.Nat.{ℕ, zero, suc, _+_}
+use Prim.Native.Nat.{ℕ, _+_}
 use mathlib.Core.List.{List, [], _∷_, _++_, map}
 use lib.ListN.{length, set}
 use Rattle.table.specs.Limits.{maxTasks}

@@ -5,7 +5,7 @@ use mathlib.Core.Bool.{Bool}
 use Rattle.search.specs.Choice.{_when_else_}
 use Rattle.search.specs.Lists.{sumOf, mostOf}
 use Rattle.table.specs.declared.Row.{Row}
-use Rattle.segments.specs.Tasks.{Task, tasksOf, costOf, floorOf, tailOf, below}
+use Rattle.segments.specs.Tasks.{Task, tasksOf, costOf, floorOf, below}
 
 infixr 67 _on_
 -- one more in front of the first of some lists

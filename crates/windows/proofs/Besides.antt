@@ -1,25 +1,30 @@
 -- The views of the chains of a table from one place up to another, one after the other. Assumes nothing.
 use Prim.Native.Nat.{ℕ, zero, suc, _+_, _*_, _-_, _≤_, _<_}
-use mathlib.Core.Path.{_≡_, refl, ap, ap₂, sym, _∙_}
+use mathlib.Core.Path.{_≡_, refl, ap, sym, subst, _∙_}
 use mathlib.Core.List.{List, [], _∷_, _++_, map, map-append, append-nil}
 use mathlib.Core.Bool.{Bool, true, false}
 use mathlib.Core.Logic.{_⊎_, inl, inr, ⊎-elim}
 use native.Mathlib.Omega.{arith}
 use borrow.Author.Tests.{eq-eqb, ne-eqb}
 use lib.Dec.{eqb}
-use lib.ListN.{length, take, drop, length-append, length-map}
+use lib.ListN.{length, getD, take, drop, length-map}
 use lib.Seq.{slice, slice-empty, length-slice, length-take-le, getD-take, take-take}
 use Rattle.search.specs.Choice.{_when_else_}
+use Rattle.search.specs.Lists.{All}
 use Rattle.search.proofs.Choice.{when-yes, when-no, when-cases}
+use Rattle.search.proofs.Lists.{all-append}
 use Rattle.table.specs.Find.{none, rowOf, rows}
-use Rattle.table.specs.Good.{GoodTable}
+use Rattle.table.specs.Good.{GoodRow, GoodTable}
 use Rattle.table.specs.declared.Row.{Row}
 use Rattle.table.specs.declared.Table.{Table}
+use Rattle.arrivals.specs.Arrivals.{GoodDistances}
+use Rattle.arrivals.proofs.Rows.{good-distances}
 use Rattle.segments.specs.View.{View, viewOf}
-use Rattle.segments.proofs.Views.{view-overload}
+use Rattle.segments.proofs.Views.{view-overload, view-list}
 use Rattle.windows.specs.Demand.{others, othersOf, typical}
 use Rattle.windows.specs.Load.{counted}
 use Rattle.windows.proofs.Lists.{slice-more}
+use Rattle.windows.proofs.Growth.{Paced}
 
 pub typical-append : (vs ws : List View) → typical (vs ++ ws) ≡ typical vs ++ typical ws
 unfolding typical _when_else_
@@ -69,20 +74,20 @@ viewsFrom all t b from to = counted all (map (λ a. viewOf a b) (slice from to (
 pub views-none : (all : Bool) (t : Table) (b : Row) (from : ℕ) → viewsFrom all t b from from ≡ []
 views-none all t b from = ap (λ l. counted all (map (λ a. viewOf a b) l)) (slice-empty from (rows t)) ∙ counted-none all
 
-module _ (all : Bool) (t : Table) (b : Row) (good : GoodTable t) where
-  rows-length : length (rows t) ≡ t .count
-  rows-length = length-take-le (t .count) (t .row) (omega (arith, good .few, good .size))
+rows-length : (t : Table) → GoodTable t → length (rows t) ≡ t .count
+rows-length t good = length-take-le (t .count) (t .row) (omega (arith, good .few, good .size))
 
+module _ (all : Bool) (t : Table) (b : Row) (good : GoodTable t) where
   pub views-length : (from to : ℕ) → to ≤ t .count → length (viewsFrom all t b from to) ≤ to - from
   views-length from to h =
       let views = map (λ a. viewOf a b) (slice from to (rows t)) in
-      omega (arith, counted-length all views, length-map (slice from to (rows t)) (λ a. viewOf a b), length-slice from to (rows t) (omega (arith, rows-length)))
+      omega (arith, counted-length all views, length-map (slice from to (rows t)) (λ a. viewOf a b), length-slice from to (rows t) (omega (arith, rows-length t good)))
 
   module _ (from j : ℕ) (low : from ≤ j) (high : j < t .count) where
     views-on : viewsFrom all t b from (j + 1) ≡ viewsFrom all t b from j ++ counted all (viewOf (rowOf t j) b ∷ [])
     views-on =
         ap (λ l. counted all (map (λ a. viewOf a b) l))
-        (slice-more from j (rows t) none low (omega (arith, rows-length))
+        (slice-more from j (rows t) none low (omega (arith, rows-length t good))
         ∙ ap (λ r. slice from j (rows t) ++ (r ∷ [])) (getD-take (t .count) (t .row) j none high))
         ∙ ap (counted all) (map-append (λ a. viewOf a b) (slice from j (rows t)) (rowOf t j ∷ []))
         ∙ counted-append all (map (λ a. viewOf a b) (slice from j (rows t))) (viewOf (rowOf t j) b ∷ [])
@@ -108,3 +113,33 @@ views-others all t k =
     sym (counted-append all (map (λ a. viewOf a b) (slice 0 k (rows t))) (map (λ a. viewOf a b) (slice (k + 1) (t .count) (rows t))))
     ∙ ap (counted all) (sym (map-append (λ a. viewOf a b) (slice 0 k (rows t)) (slice (k + 1) (t .count) (rows t))))
     ∙ ap (λ l. counted all (map (λ a. viewOf a b) (take k (rows t) ++ drop (k + 1) l))) (take-take (t .count) (t .count) (t .row) (omega arith))
+
+-- the others of a good table are good rows, so their views have distances of an accepted table
+all-at : {A : Type 0} (P : A → Type 0) (l : List A) (z : A) → ((j : ℕ) → j < length l → P (getD l j z)) → All P l
+all-at P [] z h = tt
+all-at P (a ∷ l) z h = (h 0 (omega arith), all-at P l z (λ j k. h (suc j) (omega arith)))
+
+all-take : {A : Type 0} (P : A → Type 0) (k : ℕ) (l : List A) → All P l → All P (take k l)
+all-take P zero l h = tt
+all-take P (suc k) [] h = tt
+all-take P (suc k) (a ∷ l) h = (h .0, all-take P k l (h .1))
+
+all-drop : {A : Type 0} (P : A → Type 0) (k : ℕ) (l : List A) → All P l → All P (drop k l)
+all-drop P zero l h = h
+all-drop P (suc k) [] h = tt
+all-drop P (suc k) (a ∷ l) h = all-drop P k l (h .1)
+
+module _ (t : Table) (good : GoodTable t) where
+  pub others-good : (k : ℕ) → All GoodRow (others t k)
+  others-good k =
+      let rows-good : All GoodRow (rows t) = all-at GoodRow (rows t) none
+      (λ j h. let l : j < t .count = omega (arith, rows-length t good) in rw (getD-take (t .count) (t .row) j none l) (good .row j l)) in
+      all-append GoodRow (take k (rows t)) (drop (k + 1) (rows t)) (all-take GoodRow k (rows t) rows-good) (all-drop GoodRow (k + 1) (rows t) rows-good)
+
+  pub others-paced : (k : ℕ) → Paced (othersOf t k)
+  unfolding othersOf
+  others-paced k = go (others t k) (others-good k)
+    where
+      go : (l : List Row) → All GoodRow l → Paced (map (λ a. viewOf a (rowOf t k)) l)
+      go [] h = tt
+      go (a ∷ l) h = (subst GoodDistances (sym (view-list a (rowOf t k))) (good-distances (h .0)), go l (h .1))

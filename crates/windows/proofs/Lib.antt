@@ -6,3 +6,7 @@ pub mod Terms
 pub mod Lists
 pub mod Joining
 pub mod Besides
+pub mod Walks
+pub mod Margins
+pub mod Answers
+pub mod Starred

@@ -1,8 +1,13 @@
 // Windows (document 01, 'Windows'): demand, window, K, latency, late and margin; the latency query.
 mod climbing;
 mod loading;
+mod query;
+mod walking;
 
 pub use climbing::climb;
+pub use query::bound;
+pub use query::latency;
+pub use query::latency_in;
 use table::Table;
 
 // The least t that equals its demand, or none up to the horizon.

@@ -1,11 +1,6 @@
 -- The floor is no higher than the tail, and `cut` finds the active segments of both.
-use Prim.Native.Nat.{_-_}
-use native.Mathlib.Omega.{arith}
-use mathlib.Core.Path.{_≡_, ap₂, _∙_}
-use Rattle.segments.specs.Tasks.{tasksOf}
-use Rattle.segments.specs.Actives.{actives, arraysOf}
-use Rattle.segments.proofs.Levels.{lowest-le}
 use borrow.Author.Needs.{needs}
+use Rattle.segments.proofs.Cuts.{cut-is, floor-tail}
 use Rattle.segments.proofs.cutting.active_segments.Statement.{statement}
 use Rattle.segments.proofs.cutting.active_segments.Tie as tie
 
@@ -18,13 +13,14 @@ tail-requires c κs = search needs
 cut-requires : tie.Need-cut-requires
 cut-requires c κs =
     let s = c .before .before .before .before .before .before .before .before .before in
-    let b = s .args .b in
-    (s .pre .0 .tasks, omega (arith, c .before .before .before .before .before .before .floor .ensures, c .before .before .before .before .tail .ensures, lowest-le (b .priority) (b .tasks - 1) (b .tasks - 1) (omega arith)))
+    (s .pre .0 .tasks, floor-tail (s .args .b) (c .before .before .before .before .before .before .floor .result) (c .before .before .before .before .tail .result) (c .before .before .before .before .before .before .floor .ensures) (c .before .before .before .before .tail .ensures))
 
 returns : tie.Need-returns
 returns c =
-    let a = c .before .before .before .before .before .before .before .before .before .before .args .a in
-    c .cut .ensures ∙ ap₂ (λ f t. arraysOf (actives f t (tasksOf a))) (c .before .before .before .before .before .before .before .floor .ensures) (c .before .before .before .before .before .tail .ensures)
+    let s = c .before .before .before .before .before .before .before .before .before .before in
+    let f = c .before .before .before .before .before .before .before .floor in
+    let t = c .before .before .before .before .before .tail in
+    cut-is (s .args .a) (s .args .b) (f .result) (t .result) (c .cut .result) (f .ensures) (t .ensures) (c .cut .ensures)
 
 pub active-segments-spec : {M : Type 1} → statement M
 active-segments-spec = tie.close (tie.spec floor-requires tail-requires cut-requires returns)

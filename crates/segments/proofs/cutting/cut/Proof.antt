@@ -1,7 +1,7 @@
 -- The loop's invariant (`Cutting`): the active segments found and those left are all of them.
-use Prim.Native.Nat.{_≤_, _+_, _*_, _-_}
+use Prim.Native.Nat.{_≤_, _+_, _-_}
 use native.Mathlib.Omega.{arith}
-use mathlib.Core.Path.{_≡_, ap}
+use mathlib.Core.Path.{ap}
 use denote.Ref.{now}
 use Rattle.segments.proofs.Steps.{ahead-inside, ahead-fits}
 use Rattle.segments.proofs.Cuts.{Cutting, cutting-start, cutting-low, cutting-on, cutting-end}

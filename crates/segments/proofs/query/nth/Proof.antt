@@ -1,19 +1,11 @@
 -- The active segment comes out of the arrays, and stands inside its chain, whose record stands in the table.
-use Prim.Native.Nat.{_+_, _*_, _-_, _<_, _≤_}
+use Prim.Native.Nat.{_≤_}
 use native.Mathlib.Omega.{arith}
-use mathlib.Core.Path.{_≡_, ap, ap₂, sym, _∙_}
-use Rattle.search.proofs.Choice.{when-yes, when-no}
-use mathlib.Core.Logic.{⊎-elim}
-use borrow.Author.Tests.{lt-ltb, le-ltb, ltb-false}
-use lib.ListN.{getD}
-use lib.Dec.{ltb}
-use Rattle.table.specs.Find.{rowOf}
-use Rattle.table.proofs.Firsts.{or-left, or-right, or-none}
-use Rattle.segments.specs.Actives.{activesOf, nothing}
-use Rattle.segments.specs.Query.{nthOf, recordsOf, firstTaskOf}
-use Rattle.segments.specs.declared.Answer.the-variants.{Records}
-use Rattle.segments.proofs.Asking.{Fetched, fetched, place-max}
+use mathlib.Core.Logic.{inl, inr, ⊎-elim}
 use borrow.Author.Needs.{needs}
+use borrow.Author.Tests.{ltb-false}
+use Rattle.table.specs.Find.{rowOf}
+use Rattle.segments.proofs.Asking.{Fetched, fetched, nth-none, nth-records, place-max}
 use Rattle.segments.proofs.query.nth.Statement.{statement}
 use Rattle.segments.proofs.query.nth.Tie as tie
 
@@ -53,14 +45,10 @@ active-segments-requires : tie.Need-active-segments-requires
 active-segments-requires c κs = (c .before .before .pre .0 .row _ (c .before .before .pre .1), c .before .before .pre .0 .row _ (c .before .before .pre .2))
 
 returns : tie.Need-returns
-unfolding nthOf
 returns c =
     let s = c .before .before .before .before in
-    let e = c .before .active-segments .ensures in
-    sym (when-yes _ _ (⊎-elim
-    (λ w. or-left _ _ (lt-ltb (s .args .number) 1 (omega (arith, w .taken))))
-    (λ w. or-right (ltb (s .args .number) 1) _ (ap (λ o. ltb (o .count) (s .args .number)) (sym e) ∙ w .1 .taken))
-    (c .if1 .came)))
+    let d = c .before .active-segments in
+    nth-none (s .args .t1) (s .args .k) (s .args .j) (s .args .number) (d .result) (d .ensures) (⊎-elim (λ w. inl (w .taken)) (λ w. inr (w .1 .taken)) (c .if1 .came))
 
 place-requires : tie.Need-place-requires
 place-requires c κs = search needs
@@ -108,16 +96,11 @@ cast-t32 : tie.Need-cast-t32
 cast-t32 c = omega (arith, near (c .before .before .before) .tasks, got (c .before .before .before .before) .len, got (c .before .before .before .before) .inside)
 
 returns-2 : tie.Need-returns-2
-unfolding nthOf
 returns-2 c =
     let s = c .before .before .before .before .before .before .before .before .before in
-    let a = rowOf (s .args .t1) (s .args .k) in
-    let n = s .args .number in
     let d = c .before .before .before .before .before .before .active-segments in
-    let g = got (c .before .before .before .before) in
-    let e : Records (c .before .before .before .place .result + 16 + 4 * a .listed + 8 * getD (d .result .start) (n - 1) 0) (8 * getD (d .result .len) (n - 1) 0) ≡ recordsOf (firstTaskOf (s .args .t1) (s .args .k)) (getD (activesOf a (rowOf (s .args .t1) (s .args .j))) (n - 1) nothing) = rw (c .before .before .before .place .ensures, g .start, g .len) in
-    e
-    ∙ sym (when-no _ _ (or-none _ _ (le-ltb n 1 (omega (arith, c .before .before .before .before .before .if1 .left))) (ap (λ o. ltb (o .count) n) (sym (d .ensures)) ∙ c .before .before .before .before .if2 .left)))
+    let p = c .before .before .before .place in
+    nth-records (s .args .t1) (s .args .k) (s .args .j) (s .args .number) (d .result) (d .ensures) (p .result) (p .ensures) (c .before .before .before .before .before .if1 .left) (c .before .before .before .before .if2 .left)
 
 pub nth-spec : {M : Type 1} → statement M
 nth-spec =

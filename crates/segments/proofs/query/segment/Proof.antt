@@ -1,9 +1,8 @@
 -- An accepted table is good; a refused one refuses the query.
 use native.Mathlib.Omega.{arith}
-use mathlib.Core.Path.{_≡_, ap, ap₂, sym, subst, _∙_}
+use mathlib.Core.Path.{ap, ap₂, sym, subst, _∙_}
 use denote.Ref.{now}
 use Rattle.table.specs.Good.{GoodTable}
-use Rattle.table.specs.Read.{readTable}
 use Rattle.table.proofs.Accepted.{accepted-good}
 use Rattle.segments.specs.Query.{segmentOf, judged, answerOf}
 use borrow.Author.Needs.{needs}

@@ -4,7 +4,7 @@ use native.Mathlib.Omega.{arith}
 use mathlib.Core.Path.{_≡_, ap, sym, _∙_}
 use denote.Ref.{now}
 use lib.ListN.{take, drop}
-use Rattle.segments.specs.Query.{segmentOf, partOf, offsetOf}
+use Rattle.segments.specs.Query.{partOf, offsetOf}
 use Rattle.segments.proofs.Answers.{answer-inside}
 use borrow.Author.Needs.{needs}
 use Rattle.segments.proofs.query.segment_part.Statement.{statement}

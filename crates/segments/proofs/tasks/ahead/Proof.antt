@@ -1,7 +1,6 @@
 -- The loop's invariant (`Going`): what was passed and what is left make up the tasks before the first below the level.
-use Prim.Native.Nat.{_≤_, _+_, _*_, _-_}
+use Prim.Native.Nat.{_-_}
 use native.Mathlib.Omega.{arith}
-use mathlib.Core.Path.{_≡_}
 use denote.Ref.{now}
 use Rattle.segments.proofs.Steps.{Going, going-start, going-on, going-done, ahead-stop, ahead-end}
 use Rattle.segments.proofs.tasks.ahead.Statement.{statement}

@@ -1,0 +1,40 @@
+-- What the latency query answers, case by case. Assumes nothing.
+use Prim.Native.Nat.{ℕ}
+use mathlib.Core.Path.{_≡_, ap, ap₂, fun-ext, _∙_}
+use mathlib.Core.List.{List}
+use borrow.Author.Tests.{eq-eqb, ne-eqb}
+use Rattle.search.proofs.Choice.{when-yes, when-no}
+use Rattle.table.specs.Find.{rowOf, findOf}
+use Rattle.table.specs.Read.{readTable}
+use Rattle.table.specs.declared.Row.{Row}
+use Rattle.table.specs.declared.Table.{Table}
+use Rattle.table.specs.declared.Verdict.the-variants.{Accepted, Refused as Faulty}
+use Rattle.segments.specs.View.{View}
+use Rattle.windows.specs.Demand.{demandOf, othersOf}
+use Rattle.windows.specs.Latency.{windowsOf, boundOf, chainOf, byVerdict, latencyOf}
+use Rattle.windows.specs.Load.{ownOf, demandIn, Loads}
+use Rattle.windows.specs.declared.Load.{Load}
+use Rattle.windows.specs.declared.Answer.the-variants.{Figures, Refused}
+
+-- a load of b gives b's figures
+pub loads-bound : {b : Row} {vs : List View} {l : Load} → Loads b vs l → windowsOf (demandIn l) (ownOf l) (b .deadline) ≡ boundOf b vs
+unfolding boundOf
+loads-bound {b} a = ap₂ (λ d ds. windowsOf d ds (b .deadline)) (fun-ext (λ q. fun-ext (λ t. a .demand q t))) (a .own)
+
+module _ (t : Table) (id : ℕ) where
+  pub chain-none : findOf t id ≡ t .count → chainOf t id ≡ Refused 12
+  unfolding chainOf
+  chain-none e = when-yes _ _ (eq-eqb _ _ e)
+
+  pub chain-found : (findOf t id ≡ t .count → ⊥) → chainOf t id ≡ boundOf (rowOf t (findOf t id)) (othersOf t (findOf t id)) .answer
+  unfolding chainOf
+  chain-found h = when-no _ _ (ne-eqb _ _ h)
+
+module _ (s : List ℕ) (id : ℕ) where
+  pub latency-refused : (n : ℕ) → readTable s .verdict ≡ Faulty n → latencyOf s id ≡ Refused n
+  unfolding latencyOf
+  latency-refused n e = ap (λ v. byVerdict v (chainOf (readTable s .table) id)) e
+
+  pub latency-accepted : readTable s .verdict ≡ Accepted → latencyOf s id ≡ chainOf (readTable s .table) id
+  unfolding latencyOf
+  latency-accepted e = ap (λ v. byVerdict v (chainOf (readTable s .table) id)) e

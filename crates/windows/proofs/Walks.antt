@@ -1,0 +1,176 @@
+-- Taking q = 1, 2, .. until the windows close: where the walk stands, one turn more, and how it ends. It goes by what a demand has to
+-- be, and by the laws of δ. Assumes nothing.
+use Prim.Native.Nat.{ℕ, zero, suc, zero-le, _+_, _-_, max, _≤_, _<_}
+use mathlib.Core.Path.{_≡_, refl, subst, ap, ap₂, sym, _∙_}
+use mathlib.Core.List.{List}
+use mathlib.Core.Bool.{Bool, true}
+use mathlib.Core.Logic.{⊎-elim}
+use lib.Dec.{leb, ltb}
+use borrow.Author.Tests.{le-leb, leb-true, lt-ltb, le-ltb}
+use native.Mathlib.Omega.{arith}
+use native.Mathlib.Numerals.{add-one}
+use native.Mathlib.Nat.{eq-or-lt-of-le, le-of-eq, le-refl}
+use Rattle.search.specs.Choice.{_when_else_}
+use Rattle.search.specs.Find.{first}
+use Rattle.search.specs.Lists.{sumOf, mostOf}
+use Rattle.search.proofs.Choice.{when-yes, when-no, when-cases}
+use Rattle.search.proofs.Find.{first-is, first-none}
+use Rattle.table.specs.Limits.{horizon, maxActivations}
+use Rattle.arrivals.specs.Arrivals.{GoodDistances, δ}
+use Rattle.arrivals.proofs.Distances.{δ-one}
+use Rattle.windows.specs.Window.{Solution, windowOf, Under}
+use Rattle.windows.specs.Latency.{long, ends, closeOf, latencyAt, upTo, latencyTo, lateTo, marginOf, refusal, endsWith, windowsOf}
+use Rattle.windows.specs.declared.Window.{Window}
+use Rattle.windows.specs.declared.Window.the-variants.{At, Nothing}
+use Rattle.windows.specs.declared.Windows.{Windows}
+use Rattle.windows.specs.declared.Answer.the-variants.{Figures, Refused}
+use Rattle.windows.proofs.Least.{window-at, window-under, under-one, under-lift}
+use Rattle.windows.proofs.Growth.{Growing}
+
+-- 1 where a is over b
+abbrev pub overOf : ℕ → ℕ → ℕ
+overOf a b = 1 when ltb b a else 0
+
+pub over-le : (a b : ℕ) → overOf a b ≤ 1
+over-le a b = when-cases (λ n. n ≤ 1) (ltb b a) (λ e. le-refl 1) (λ e. zero-le)
+
+module _ (demand : ℕ → ℕ → ℕ) (ds : List ℕ) where
+  -- none of the activations before q ends the walk
+  unfoldable pub Open : ℕ → Type 0
+  Open q = (p : ℕ) → 1 ≤ p → p < q → ends (windowOf (demand p)) (δ ds (p + 1)) ≡ true → ⊥
+
+  open-one : Open 1
+  unfolding Open
+  open-one p l m = absurd (omega arith)
+
+  open-more : (q : ℕ) → Open q → (ends (windowOf (demand q)) (δ ds (q + 1)) ≡ true → ⊥) → Open (q + 1)
+  unfolding Open
+  open-more q o h p l m =
+      ⊎-elim (λ e. subst (λ (x : ℕ). ends (windowOf (demand x)) (δ ds (x + 1)) ≡ true → ⊥) (sym e) h) (λ k. o p l k) (eq-or-lt-of-le (omega arith))
+
+  -- the definitions one activation on, in the code's shape
+  latency-none : 0 ≡ latencyTo demand ds 0
+  unfolding latencyTo upTo mostOf
+  latency-none = refl
+
+  latency-more : (k : ℕ) → latencyTo demand ds (k + 1) ≡ max (latencyTo demand ds k) (latencyAt demand ds (k + 1))
+  unfolding latencyTo upTo mostOf
+  latency-more k = rw add-one (omega arith)
+
+  latency-is : (q t : ℕ) → windowOf (demand q) ≡ At t → latencyAt demand ds q ≡ t - δ ds q
+  unfolding latencyAt
+  latency-is q t e = ap (λ w. long w - δ ds q) e
+
+  module _ (deadline : ℕ) where
+    late-none : 0 ≡ lateTo demand ds deadline 0
+    unfolding lateTo upTo sumOf
+    late-none = refl
+
+    late-more : (k : ℕ) → lateTo demand ds deadline (k + 1) ≡ lateTo demand ds deadline k + overOf (latencyAt demand ds (k + 1)) deadline
+    unfolding lateTo upTo sumOf
+    late-more k = rw add-one (omega arith)
+
+    -- where the walk ends
+    pub windows-end : (q : ℕ) → 1 ≤ q → q ≤ maxActivations → ends (windowOf (demand q)) (δ ds (q + 1)) ≡ true → Open q
+        → windowsOf demand ds deadline ≡ endsWith demand ds deadline q (windowOf (demand q))
+    unfolding windowsOf closeOf Open
+    windows-end q l h e o =
+        let f : closeOf demand ds ≡ q = first-is _ 1 maxActivations q l (omega arith) e o in
+        rw f (when-no _ _ (le-ltb maxActivations q h))
+
+    pub windows-open : Open (maxActivations + 1) → windowsOf demand ds deadline ≡ refusal 17
+    unfolding windowsOf closeOf Open
+    windows-open o =
+        let f : closeOf demand ds ≡ 1 + maxActivations = first-none _ 1 maxActivations o in
+        rw f (when-yes _ _ (lt-ltb maxActivations (1 + maxActivations) (omega arith)))
+
+    -- where the walk stands: `done` activations have been taken, and none ended it; B(done + 1) is not under `start`, and `behind` is
+    -- δ(done + 1)
+    pub record Walk (done start behind latency late : ℕ) : Type 0 where
+      pub some : done ≤ maxActivations
+      pub under : Under (demand (done + 1)) start
+      pub next : behind ≡ δ ds (done + 1)
+      pub ahead : behind ≤ start
+      pub longest : latency ≡ latencyTo demand ds done
+      pub near : latency ≤ horizon
+      pub count : late ≡ lateTo demand ds deadline done
+      pub few : late ≤ done
+      pub still : Open (done + 1)
+
+    pub walk-start : GoodDistances ds → Walk 0 1 0 0 0
+    walk-start good = record {
+      some = zero-le;
+      under = under-one (demand 1);
+      next = sym (δ-one good);
+      ahead = zero-le;
+      longest = latency-none;
+      near = zero-le;
+      count = late-none;
+      few = zero-le;
+      still = open-one;
+    }
+
+    module _ (growing : Growing demand) {done start behind latency late : ℕ} (w : Walk done start behind latency late) where
+      pub walk-open : maxActivations ≤ done → refusal 17 ≡ windowsOf demand ds deadline
+      walk-open h =
+          let e : done + 1 ≡ maxActivations + 1 = omega (arith, w .some) in
+          sym (windows-open (subst Open e (w .still)))
+
+      module _ (turn : done < maxActivations) where
+        pub walk-none : windowOf (demand (done + 1)) ≡ Nothing → refusal 16 ≡ windowsOf demand ds deadline
+        walk-none e =
+            sym (windows-end (done + 1) (omega arith) (omega arith) (ap (λ x. ends x (δ ds (done + 1 + 1))) e) (w .still)
+            ∙ ap (endsWith demand ds deadline (done + 1)) e)
+
+        module _ {t : ℕ} (at : windowOf (demand (done + 1)) ≡ At t) where
+          solution : Solution (demand (done + 1)) t
+          solution = window-at (demand (done + 1)) t at
+
+          -- B(q) is not under its start, and so not under δ(q)
+          pub walk-ahead : behind ≤ t
+          walk-ahead = omega (arith, w .ahead, w .under .under t (solution .low) (le-of-eq (sym (solution .solves))))
+
+          -- the figures with it, as the code works them out
+          module _ {best more : ℕ} (b : best ≡ max latency (t - behind)) (m : more ≡ overOf (t - behind) deadline) where
+            pub walk-near : best ≤ horizon
+            walk-near = omega (arith, w .near, solution .high)
+
+            pub walk-few : late + more ≤ done + 1
+            walk-few = omega (arith, w .few, over-le (t - behind) deadline)
+
+            here : t - behind ≡ latencyAt demand ds (done + 1)
+            here = ap (λ x. t - x) (w .next) ∙ sym (latency-is (done + 1) t at)
+
+            longer : best ≡ latencyTo demand ds (done + 1)
+            longer = b ∙ ap₂ max (w .longest) here ∙ sym (latency-more done)
+
+            later : late + more ≡ lateTo demand ds deadline (done + 1)
+            later = ap₂ _+_ (w .count) (m ∙ ap (λ n. overOf n deadline) here) ∙ sym (late-more done)
+
+            module _ {next : ℕ} (n : next ≡ δ ds (done + 1 + 1)) where
+              -- it closes
+              pub walk-close : t ≤ next
+                  → _≡_ {A = Windows} (record { answer = Figures (done + 1) best (late + more) (marginOf deadline best); last = t })
+                  (windowsOf demand ds deadline)
+              walk-close h =
+                  ap₂ (λ x y. record { answer = Figures (done + 1) x y (marginOf deadline x); last = t }) longer later
+                  ∙ sym (windows-end (done + 1) (omega arith) (omega arith)
+                  (ap (λ x. ends x (δ ds (done + 1 + 1))) at ∙ le-leb t (δ ds (done + 1 + 1)) (omega arith)) (w .still)
+                  ∙ ap (endsWith demand ds deadline (done + 1)) at)
+
+              -- it goes on
+              pub walk-on : next < t → Walk (done + 1) t next best (late + more)
+              walk-on h = record {
+                some = omega arith;
+                under =
+                    under-lift (demand (done + 1)) (demand (done + 1 + 1)) t (growing .more (done + 1))
+                    (window-under (demand (done + 1)) (growing .grows (done + 1) (omega arith)) t at);
+                next = n;
+                ahead = omega arith;
+                longest = longer;
+                near = walk-near;
+                count = later;
+                few = walk-few;
+                still = open-more (done + 1) (w .still)
+                    (λ e. omega (arith, leb-true t (δ ds (done + 1 + 1)) (sym (ap (λ x. ends x (δ ds (done + 1 + 1))) at) ∙ e)));
+              }

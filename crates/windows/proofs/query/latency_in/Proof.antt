@@ -1,0 +1,35 @@
+-- `latency_in` meets its contract: a chain was found, or none bears the id.
+use mathlib.Core.Path.{_≡_, ap, sym, _∙_}
+use native.Mathlib.Omega.{arith}
+use borrow.Author.Needs.{needs}
+use Rattle.table.specs.Find.{rowOf}
+use Rattle.table.proofs.Finds.{find-le}
+use Rattle.windows.specs.Demand.{othersOf}
+use Rattle.windows.specs.Latency.{boundOf}
+use Rattle.windows.proofs.Answers.{chain-none, chain-found}
+use Rattle.windows.proofs.query.latency_in.Statement.{statement}
+use Rattle.windows.proofs.query.latency_in.Tie as tie
+
+find-requires : tie.Need-find-requires
+find-requires c κs = search needs
+
+returns : tie.Need-returns
+returns c =
+    let a = c .before .before .before .args in
+    sym (chain-none (a .t) (a .id) (sym (c .before .before .find .ensures) ∙ c .if1 .taken))
+
+bound-requires : tie.Need-bound-requires
+bound-requires c κs =
+    let s = c .before .before .before in
+    (s .pre, omega (arith, find-le (s .args .t) (s .args .id), c .before .before .find .ensures, c .if1 .left))
+
+returns-2 : tie.Need-returns-2
+returns-2 c =
+    let a = c .before .before .before .before .args in
+    let f = c .before .before .before .find .ensures in
+    ap (λ w. w .answer) (c .bound .ensures)
+    ∙ ap (λ k. boundOf (rowOf (a .t) k) (othersOf (a .t) k) .answer) f
+    ∙ sym (chain-found (a .t) (a .id) (λ e. c .before .if1 .left (f ∙ e)))
+
+pub latency-in-spec : {M : Type 1} → statement M
+latency-in-spec = tie.close (tie.spec find-requires returns bound-requires returns-2)

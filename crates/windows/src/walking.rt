@@ -1,0 +1,87 @@
+// K, latency, late, margin and the last window, activation by activation.
+use crate::Answer;
+use crate::Load;
+use crate::Window;
+use crate::Windows;
+use crate::climbing::climb;
+use arrivals::delta;
+use table::Table;
+ghost use mathlib.Core.Path.{_≡_};
+ghost use Prim.Native.Nat.{max, _≤_};
+ghost use lib.Dec.{ltb};
+ghost use Rattle.search.specs.Choice.{_when_else_};
+ghost use Rattle.table.specs.Limits.{horizon, maxActivations, maxDeadline};
+ghost use Rattle.windows.specs.Latency.{marginOf, refusal, windowsOf};
+ghost use Rattle.windows.specs.Load.{ownOf, demandIn, Sound};
+ghost use Rattle.windows.specs.declared.Answer.the-variants.{Figures};
+
+fn larger(a: u64, b: u64) -> u64
+    ensures { λ r. ⌜ r ≡ max a b ⌝ }
+{
+    if a < b { b } else { a }
+}
+
+// 1 where a is over b.
+fn over(a: u64, b: u64) -> u32
+    ensures { λ r. ⌜ r ≡ (1 when ltb b a else 0) ⌝ }
+{
+    if b < a { 1 } else { 0 }
+}
+
+// Deadline minus latency, signed.
+fn margin(deadline: u32, latency: u32) -> i32
+    requires { ⌜ (deadline ≤ maxDeadline) × (latency ≤ horizon) ⌝ }
+    ensures { λ r. ⌜ r ≡ marginOf deadline latency ⌝ }
+{
+    (deadline as i32) - (latency as i32)
+}
+
+fn refused(n: u32) -> Windows
+    ensures { λ r. ⌜ r ≡ refusal n ⌝ }
+{
+    Windows {
+        answer: Answer::Refused(n),
+        last: 0,
+    }
+}
+
+// Takes q = 1, 2, ..: each window's climb starts where the window before ended.
+pub fn walk(l: Load, deadline: u32) -> Windows
+    requires { ⌜ Sound l × (deadline ≤ maxDeadline) ⌝ }
+    ensures { λ r. ⌜ r ≡ windowsOf (demandIn l) (ownOf l) deadline ⌝ }
+{
+    let listed = l.listed;
+    let list = l.list;
+    let mut done: u32 = 0;
+    let mut start: u64 = 1;
+    let mut behind: u64 = 0;
+    let mut latency: u64 = 0;
+    let mut late: u32 = 0;
+    while done < Table::ACTIVATIONS {
+        let q = done + 1;
+        let w = climb(l, q as u64, start);
+        let Window::At(t) = w else {
+            return refused(16);
+        };
+        let span = t - behind;
+        let next = delta(&list[..listed], q as u64 + 1);
+        latency = larger(latency, span);
+        late = late + over(span, deadline as u64);
+        if t <= next {
+            let longest = latency as u32;
+            return Windows {
+                answer: Answer::Figures {
+                    k: q,
+                    latency: longest,
+                    late,
+                    margin: margin(deadline, longest),
+                },
+                last: t,
+            };
+        }
+        start = t;
+        behind = next;
+        done = q;
+    }
+    refused(17)
+}
