@@ -16,3 +16,7 @@ module _ {A : Type 0} (p : A → Bool) where
   pub every-end : every p [] ≡ true
   unfolding every
   every-end = refl
+
+pub or-true : (b : Bool) → b || true ≡ true
+or-true true = refl
+or-true false = refl

@@ -4,3 +4,5 @@ pub mod Masks
 pub mod Prices
 pub mod Sixes
 pub mod Gathers
+pub mod Sweeps
+pub mod Settles

@@ -4,3 +4,4 @@ pub mod Sets
 pub mod Bad
 pub mod Misses
 pub mod Held
+pub mod Settling

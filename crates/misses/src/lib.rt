@@ -1,6 +1,7 @@
 // Deadline misses (document 01, 'Misses'): combinations of overload active segments, the bad ones, and the miss query.
 mod gathering;
 mod pricing;
+mod settling;
 
 use table::Table;
 
@@ -21,7 +22,16 @@ pub struct Pieces {
     pub capacity: [u64; Table::OVERLOADS],
 }
 
+// Costs that are settled: none up to `good` is bad, each from `bad` on is.
+pub struct Settled {
+    pub good: u64,
+    pub bad: u64,
+}
+
 impl Pieces {
     // One mask for each set of six.
     pub const SETS: usize = 64;
+
+    // More than any set costs.
+    pub const BEYOND: u64 = Table::OVERLOADS as u64 * Table::TASKS as u64 * Table::COST as u64 + 1;
 }
