@@ -1,5 +1,5 @@
 -- Laws of masks: their bits, and one inside another. Assumes nothing.
-use Prim.Native.Nat.{ℕ, zero, suc, min, _+_, _*_, _≤_, _<_, _/_, _%_, _^_}
+use Prim.Native.Nat.{ℕ, zero, suc, min, _≤_, _<_, _/_, _%_, _^_}
 use mathlib.Core.Path.{_≡_, refl, sym, ap, _∙_}
 use native.Mathlib.Omega.{arith}
 use native.Mathlib.Nat.{div-one}
@@ -7,7 +7,11 @@ use native.Mathlib.Numerals.{one-add}
 use native.Mathlib.Decide.{decLt}
 use lib.Bits.{bitAnd, and-step, and-shr}
 use lib.Pow.{shr-shr}
-use Rattle.packing.specs.Packing.{bit}
+use Rattle.table.specs.Limits.{maxOverloads}
+use Rattle.packing.specs.Packing.{bit, combinations}
+
+pub all-masks : combinations ≡ 2 ^ maxOverloads
+all-masks = refl
 
 -- the bits of m / 2
 pub bit-suc : (i m : ℕ) → bit (suc i) m ≡ bit i (m / 2)

@@ -1,21 +1,17 @@
 -- Packings carried over: a function of masks that turns bad combinations into bad ones, and fits the room, turns a packing into
 -- one with as many uses. From it come the laws that callers use: what the most uses hang on, when they cannot fall, when they
 -- are 0, and that a renumbering of the active segments moves nothing. Assumes nothing.
-use Prim.Native.Nat.{ℕ, zero, suc, _+_, _*_, _≤_, _<_}
-use mathlib.Core.Path.{_≡_, refl, sym, ap, subst, _∙_}
-use mathlib.Core.Bool.{Bool, true, false, _&&_, and-false}
-use mathlib.Core.Logic.{_⊎_, inl, inr, ⊎-elim}
+use Prim.Native.Nat.{ℕ, _*_, _≤_, _<_}
+use mathlib.Core.Path.{_≡_, ap, subst, _∙_}
+use mathlib.Core.Bool.{Bool, true}
+use mathlib.Core.Logic.{_⊎_, inl, inr}
 use native.Mathlib.Omega.{arith}
-use native.Mathlib.Nat.{mul-le-mul-left}
-use lib.Dec.{ltb, eqb}
-use borrow.Author.Tests.{eqb-true, lt-ltb}
-use Rattle.search.specs.Find.{Greatest}
-use Rattle.search.specs.Choice.{_when_else_}
-use Rattle.search.proofs.Choice.{lt-or-le, when-cases, true-not-false}
+use lib.Dec.{eqb}
+use borrow.Author.Tests.{eqb-true}
+use Rattle.search.proofs.Choice.{lt-or-le, when-cases}
 use Rattle.packing.specs.Packing.{bit, sum, usable, Packing, Reached}
 use Rattle.packing.specs.Most.{mostUses}
-use Rattle.packing.proofs.Sums.{is, sum-ext, sum-mono, sum-scale, sum-swap, sum-is, sum-zero, sum-some}
-use Rattle.packing.proofs.Weights.{usable-some}
+use Rattle.packing.proofs.Sums.{is, sum-ext, sum-scale, sum-swap, sum-is, sum-some}
 use Rattle.packing.proofs.Most.{most-greatest}
 
 -- how often x is used where each use of m becomes one of `turn m`

@@ -1,22 +1,20 @@
 -- What callers go by: the most uses hang only on which combinations are bad, the empty one apart, and on the capacities; they
 -- never fall where more is bad or there is more room; they are 0 where nothing is bad; and renumbering the active segments moves
 -- nothing. Assumes nothing.
-use Prim.Native.Nat.{ℕ, zero, suc, _+_, _*_, _≤_, _<_}
-use mathlib.Core.Path.{_≡_, refl, sym, ap, _∙_}
-use mathlib.Core.Bool.{Bool, true, false, _&&_, and-false}
-use mathlib.Core.Logic.{_⊎_, inl, inr, ⊎-elim}
+use Prim.Native.Nat.{ℕ, zero, suc, _*_, _≤_, _<_}
+use mathlib.Core.Path.{_≡_, sym, _∙_}
+use mathlib.Core.Bool.{Bool, true, false}
+use mathlib.Core.Logic.{_⊎_, ⊎-elim}
 use native.Mathlib.Omega.{arith}
 use native.Mathlib.Nat.{mul-le-mul-left}
-use lib.Dec.{ltb}
 use borrow.Author.Tests.{lt-ltb}
-use Rattle.search.specs.Find.{Greatest}
 use Rattle.search.proofs.Choice.{true-not-false, lt-or-le}
-use Rattle.packing.specs.Packing.{bit, sum, usable, Packing, Reached}
+use Rattle.packing.specs.Packing.{bit, sum, usable, Packing}
 use Rattle.packing.specs.Most.{mostUses}
 use Rattle.packing.proofs.Sums.{sum-mono, sum-zero, sum-bound, sum-some}
-use Rattle.packing.proofs.Weights.{usable-some}
+use Rattle.packing.proofs.Linear.{usable-some}
 use Rattle.packing.proofs.Most.{most-greatest, most-room}
-use Rattle.packing.proofs.Carry.{Carries, carries-most}
+use Rattle.packing.proofs.Carry.{carries-most}
 
 pub usable-bad : (bad : ℕ → Bool) (m : ℕ) → usable bad m ≡ true → bad m ≡ true
 usable-bad bad m e = rw (lt-ltb 0 m (usable-some bad m e)) at e

@@ -1,8 +1,11 @@
 pub mod Sums
 pub mod Bits
-pub mod Reach
-pub mod Weights
+pub mod Plain
+pub mod Linear
 pub mod Most
 pub mod Carry
 pub mod Laws
+pub mod Loops
+pub mod Kept
+pub mod Cut
 pub mod Sample

@@ -1,2 +1,3 @@
 pub mod Packing
 pub mod Most
+pub mod Engine

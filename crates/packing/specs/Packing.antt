@@ -1,11 +1,13 @@
--- The packings of document 01, 'Misses'. A combination is a mask, one bit for each active segment.
+-- The packings of document 01, 'Misses'. A combination is a mask, one bit for each active segment, bit 0 first; which combinations
+-- are bad, and what the capacities are, is for the caller to say.
 use Prim.Native.Nat.{ℕ, zero, suc, _+_, _*_, _≤_, _<_, _/_, _%_, _^_}
 use mathlib.Core.Path.{_≡_}
 use mathlib.Core.Bool.{Bool, true, _&&_}
 use lib.Dec.{ltb}
+use Rattle.search.specs.Find.{Greatest}
 use Rattle.table.specs.Limits.{maxOverloads}
 
--- the masks of as many bits as there may be active segments
+-- how many masks there are: 2 to the power of `maxOverloads`
 abbrev pub combinations : ℕ
 combinations = 64
 
@@ -18,7 +20,7 @@ unfoldable pub sum : ℕ → (ℕ → ℕ) → ℕ
 sum zero f = 0
 sum (suc n) f = sum n f + f n
 
--- a bad combination, the empty one left out: where that is bad, refusal 20 has answered before
+-- m may be used: it is bad, and not the empty combination; where that one is bad, refusal 20 has answered before
 abbrev pub usable : (ℕ → Bool) → ℕ → Bool
 usable bad m = ltb 0 m && bad m
 
@@ -32,3 +34,7 @@ pub record Reached (bad : ℕ → Bool) (capacity : ℕ → ℕ) (n : ℕ) : Typ
   pub uses : ℕ → ℕ
   pub packing : Packing bad capacity uses
   pub total : sum combinations uses ≡ n
+
+-- 'the most uses any packing has': reached by one, exceeded by none
+abbrev pub IsMost : (ℕ → Bool) → (ℕ → ℕ) → ℕ → Type 0
+IsMost bad capacity n = Greatest (Reached bad capacity) n

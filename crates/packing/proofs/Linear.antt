@@ -1,15 +1,15 @@
 -- The linear bound: where every usable combination weighs at least d, what is packed weighs at least d for each use, and at
 -- most what the room weighs. It holds for any weights. Assumes nothing.
-use Prim.Native.Nat.{ℕ, zero, suc, _+_, _*_, _≤_, _<_}
-use mathlib.Core.Path.{_≡_, refl, sym, ap, _∙_}
-use mathlib.Core.Bool.{Bool, true, false, _&&_}
+use Prim.Native.Nat.{ℕ, zero, suc, _*_, _≤_, _<_}
+use mathlib.Core.Path.{_≡_, refl, sym, _∙_}
+use mathlib.Core.Bool.{Bool, true}
 use native.Mathlib.Omega.{arith}
 use native.Mathlib.Nat.{mul-le-mul-left}
 use Rattle.search.proofs.Choice.{true-not-false}
 use Rattle.packing.specs.Packing.{bit, sum, usable}
 use Rattle.packing.proofs.Sums.{sum-mono, sum-ext, sum-scale, sum-swap, sum-at}
 use Rattle.packing.proofs.Bits.{some-bit}
-use Rattle.packing.proofs.Reach.{Below}
+use Rattle.packing.proofs.Plain.{Below}
 
 uses-weigh : (d v x : ℕ) → (0 < v → d ≤ x) → d * v ≤ v * x
 uses-weigh d zero x h = omega arith
