@@ -6,3 +6,5 @@ pub mod Sixes
 pub mod Gathers
 pub mod Sweeps
 pub mod Settles
+pub mod Covers
+pub mod Existence

@@ -17,6 +17,7 @@ use Rattle.misses.specs.Tests.{every}
 use Rattle.misses.specs.Overloads.{Piece}
 use Rattle.misses.specs.Sets.{members, agree, together, allowed, costOf}
 use Rattle.misses.specs.Held.{pieceAt, piecesAt, membersAt, priceOf, dearest}
+use Rattle.misses.proofs.Bools.{and-right}
 use Rattle.misses.proofs.Masks.{at-in, at-out, at-end, at-start, at-length}
 
 -- the definitions of a set, one more at the front
@@ -46,6 +47,10 @@ module _ (ps : List Piece) (m : ℕ) where
   pub allowed-apart : together (members ps m) ≡ false → allowed ps m ≡ false
   unfolding allowed
   allowed-apart e = rw e (and-false (ltb m (2 ^ length ps)))
+
+  pub allowed-together : allowed ps m ≡ true → together (members ps m) ≡ true
+  unfolding allowed
+  allowed-together e = and-right (ltb m (2 ^ length ps)) (together (members ps m)) e
 
   pub price-allowed : allowed ps m ≡ true → priceOf ps m ≡ costOf (members ps m)
   unfolding priceOf
