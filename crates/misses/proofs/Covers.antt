@@ -1,0 +1,218 @@
+-- A combination costs no more than the overload chains' terms add in any t from 1 on: of each chain it has active segments of one
+-- segment, and that costs no more than the dearest. Assumes nothing.
+use Prim.Native.Nat.{ℕ, zero, suc, _+_, _*_, _/_, _%_, _^_, _≤_, _<_, max}
+use mathlib.Core.Path.{_≡_, refl, ap, ap₂, sym, subst, _∙_}
+use mathlib.Core.Bool.{Bool, true, false, _&&_}
+use mathlib.Core.List.{List, [], _∷_, _++_, map}
+use native.Mathlib.Omega.{arith}
+use native.Mathlib.Nat.{div-one, mul-le-mul-right, le-refl, le-trans, le-of-eq}
+use native.Mathlib.Decide.{ℕ-discrete}
+use lib.Dec.{eqb}
+use lib.ListN.{length}
+use lib.Pow.{shr-shr}
+use borrow.Author.Tests.{eq-eqb, ne-eqb, eqb-true}
+use Rattle.search.specs.Choice.{_when_else_}
+use Rattle.search.specs.Lists.{sumOf, mostOf, All}
+use Rattle.search.proofs.Choice.{when-yes, when-no, when-cases, true-not-false}
+use Rattle.search.proofs.Lists.{sum-append, sum-ext, perm-sum}
+use Rattle.table.specs.Good.{GoodRow}
+use Rattle.table.specs.declared.Row.{Row}
+use Rattle.arrivals.specs.Arrivals.{GoodDistances, η}
+use Rattle.arrivals.proofs.Counts.{η-some}
+use Rattle.arrivals.proofs.Rows.{good-distances}
+use Rattle.segments.specs.Combination.{Item, item, itemsOf}
+use Rattle.segments.specs.View.{View, viewOf, sum, allOf, dearestOf}
+use Rattle.segments.proofs.Lists.{sum-map, most-sum}
+use Rattle.segments.proofs.Order.{items}
+use Rattle.segments.proofs.Renaming.{rename, Renamed, to-view}
+use Rattle.segments.proofs.Views.{view-list, view-overload}
+use Rattle.windows.specs.Demand.{asynchronous, termOf, typical}
+use Rattle.misses.specs.Tests.{every}
+use Rattle.misses.specs.Overloads.{Overload, overload, overloads, Piece, piece, piecesFrom, piecesOf}
+use Rattle.misses.specs.Sets.{members, agree, together, costOf}
+use Rattle.misses.proofs.Bools.{and-left, and-right}
+
+-- those of a mask are some of all
+module _ (f : Piece → ℕ) where
+  members-sum : (ps : List Piece) (m : ℕ) → sumOf f (members ps m) ≤ sumOf f ps
+  unfolding members sumOf
+  members-sum [] m = le-refl 0
+  members-sum (p ∷ ps) m =
+      when-cases {x = p ∷ members ps (m / 2)} {y = members ps (m / 2)} (λ l. sumOf f l ≤ f p + sumOf f ps) _
+      (λ e. omega (arith, members-sum ps (m / 2))) (λ e. omega (arith, members-sum ps (m / 2)))
+
+module _ (P : Piece → Type 0) where
+  members-all : (ps : List Piece) (m : ℕ) → All P ps → All P (members ps m)
+  unfolding members
+  members-all [] m h = tt
+  members-all (p ∷ ps) m h =
+      when-cases {x = p ∷ members ps (m / 2)} {y = members ps (m / 2)} (All P) _
+      (λ e. (h .0, members-all ps (m / 2) (h .1))) (λ e. members-all ps (m / 2) (h .1))
+
+-- the mask of two lists in a row: the lowest bits are the first one's
+pub members-append : (ps rs : List Piece) (m : ℕ) → members (ps ++ rs) m ≡ members ps m ++ members rs (m / 2 ^ length ps)
+unfolding members _when_else_
+members-append [] rs m = ap (members rs) (sym (div-one m))
+members-append (p ∷ ps) rs m = go (eqb (m % 2) 1) (members-append ps rs (m / 2) ∙ ap (λ k. members ps (m / 2) ++ members rs k) (shr-shr m 1 (length ps) ∙ ap (λ k. m / 2 ^ k) (omega arith)))
+  where
+    go : (b : Bool) → members (ps ++ rs) (m / 2) ≡ members ps (m / 2) ++ members rs (m / 2 ^ suc (length ps))
+        → (p ∷ members (ps ++ rs) (m / 2) when b else members (ps ++ rs) (m / 2)) ≡ (p ∷ members ps (m / 2) when b else members ps (m / 2)) ++ members rs (m / 2 ^ suc (length ps))
+    go true e = ap (λ l. p ∷ l) e
+    go false e = e
+
+-- of those that may stand together, each part may
+every-left : (p : Piece → Bool) (ps rs : List Piece) → every p (ps ++ rs) ≡ true → every p ps ≡ true
+unfolding every
+every-left p [] rs e = refl
+every-left p (x ∷ ps) rs e = ap₂ _&&_ (and-left (p x) _ e) (every-left p ps rs (and-right (p x) _ e))
+
+pub together-left : (ps rs : List Piece) → together (ps ++ rs) ≡ true → together ps ≡ true
+unfolding together
+together-left [] rs e = refl
+together-left (p ∷ ps) rs e =
+    ap₂ _&&_ (every-left (agree p) ps rs (and-left (every (agree p) (ps ++ rs)) _ e)) (together-left ps rs (and-right (every (agree p) (ps ++ rs)) _ e))
+
+pub together-right : (ps rs : List Piece) → together (ps ++ rs) ≡ true → together rs ≡ true
+unfolding together
+together-right [] rs e = e
+together-right (p ∷ ps) rs e = together-right ps rs (and-right (every (agree p) (ps ++ rs)) _ e)
+
+-- what the active segments of the segment j cost
+abbrev in-segment : ℕ → ℕ → ℕ → ℕ
+in-segment j segment cost = cost when eqb segment j else 0
+
+abbrev piece-in : ℕ → Piece → ℕ
+piece-in j p = in-segment j (p .segment) (p .cost)
+
+abbrev item-in : ℕ → Item → ℕ
+item-in j i = in-segment j (i .segment) (i .cost)
+
+-- those of one chain that may stand together are all of one segment
+module _ (n : ℕ) where
+  one-segment : (p : Piece) (ps : List Piece) → p .chain ≡ n → All (λ r. r .chain ≡ n) ps → every (agree p) ps ≡ true → costOf ps ≡ sumOf (piece-in (p .segment)) ps
+  unfolding every sumOf
+  one-segment p [] e h f = refl
+  one-segment p (r ∷ ps) e h f =
+      let same : r .segment ≡ p .segment = sym (eqb-true _ _ (sym (when-yes _ _ (eq-eqb (p .chain) (r .chain) (e ∙ sym (h .0)))) ∙ and-left (agree p r) (every (agree p) ps) f)) in
+      ap₂ _+_ (sym (when-yes (r .cost) 0 (eq-eqb _ _ same))) (one-segment p ps e (h .1) (and-right (agree p r) (every (agree p) ps) f))
+
+  chain-segment : (ps : List Piece) → All (λ r. r .chain ≡ n) ps → together ps ≡ true → (j : ℕ) × (costOf ps ≡ sumOf (piece-in j) ps)
+  unfolding together sumOf
+  chain-segment [] h e = (0, refl)
+  chain-segment (p ∷ ps) h e =
+      (p .segment, ap₂ _+_ (sym (when-yes (p .cost) 0 (eq-eqb (p .segment) (p .segment) refl))) (one-segment p ps (h .0) (h .1) (and-left (every (agree p) ps) (together ps) e)))
+
+-- a segment of a view costs no more than the dearest
+block-same : (k : ℕ) (l : List ℕ) → sumOf (item-in k) (map (item k) l) ≡ sum l
+unfolding sumOf
+block-same k [] = refl
+block-same k (c ∷ l) = ap₂ _+_ (when-yes c 0 (eq-eqb k k refl)) (block-same k l)
+
+block-other : (k i : ℕ) (l : List ℕ) → (i ≡ k → ⊥) → sumOf (item-in k) (map (item i) l) ≡ 0
+unfolding sumOf
+block-other k i [] h = refl
+block-other k i (c ∷ l) h = ap₂ _+_ (when-no c 0 (ne-eqb i k h)) (block-other k i l h)
+
+past-none : (k i : ℕ) (ls : List (List ℕ)) → k < i → sumOf (item-in k) (items i ls) ≡ 0
+unfolding items sumOf
+past-none k i [] h = refl
+past-none k i (l ∷ ls) h =
+    sum-append (item-in k) (map (item i) l) (items (i + 1) ls)
+    ∙ omega (arith, block-other k i l (λ e. omega arith), past-none k (i + 1) ls (omega arith))
+
+in-most : (k i : ℕ) (ls : List (List ℕ)) → sumOf (item-in k) (items i ls) ≤ mostOf sum ls
+unfolding items sumOf mostOf
+in-most k i [] = le-refl 0
+in-most k i (l ∷ ls) =
+    let a = sum-append (item-in k) (map (item i) l) (items (i + 1) ls) in
+    elim (ℕ-discrete i k) [
+      | yes e ↦ omega (arith, a, ap (λ j. sumOf (item-in k) (map (item j) l)) e, block-same k l, past-none k (i + 1) ls (omega arith))
+      | no e ↦ omega (arith, a, block-other k i l e, in-most k (i + 1) ls)
+    ]
+
+-- other numbers of the segments take nothing away
+renamed-sum : (f : ℕ → ℕ) (j : ℕ) (l : List Item) → sumOf (item-in j) l ≤ sumOf (item-in (f j)) (map (rename f) l)
+unfolding sumOf
+renamed-sum f j [] = le-refl 0
+renamed-sum f j (i ∷ l) = omega (arith, renamed-sum f j l, one)
+  where
+    one : item-in j i ≤ item-in (f j) (rename f i)
+    one = when-cases {x = i .cost} {y = 0} (λ n. n ≤ item-in (f j) (rename f i)) (eqb (i .segment) j)
+        (λ e. le-of-eq (sym (when-yes (i .cost) 0 (eq-eqb _ _ (ap f (eqb-true (i .segment) j e)))))) (λ e. omega arith)
+
+-- so what a combination has of one chain costs no more than the chain's dearest segment
+module _ (a b : Row) where
+  segment-dearest : (j : ℕ) → sumOf (item-in j) (itemsOf a b) ≤ dearestOf (viewOf a b)
+  segment-dearest j =
+      let r = to-view a b in
+      le-trans (renamed-sum (r .name) j (itemsOf a b)) (le-trans (le-of-eq (perm-sum (item-in (r .name j)) (r .order))) (in-most (r .name j) 0 (viewOf a b .segments)))
+
+  chain-dearest : (n m : ℕ) → together (members (map (piece n) (itemsOf a b)) m) ≡ true → costOf (members (map (piece n) (itemsOf a b)) m) ≤ dearestOf (viewOf a b)
+  chain-dearest n m e =
+      let ps = map (piece n) (itemsOf a b) in
+      let s = chain-segment n (members ps m) (members-all (λ r. r .chain ≡ n) ps m (all-pieces (itemsOf a b))) e in
+      omega (arith, s .1, members-sum (piece-in (s .0)) ps m, sum-map (piece n) (piece-in (s .0)) (itemsOf a b), segment-dearest (s .0))
+    where
+      all-pieces : (l : List Item) → All (λ r. r .chain ≡ n) (map (piece n) l)
+      all-pieces [] = tt
+      all-pieces (i ∷ l) = (refl, all-pieces l)
+
+-- and the dearest segment no more than the chain's term
+pub dearest-term : (v : View) → GoodDistances (v .list) → (t : ℕ) → 1 ≤ t → dearestOf v ≤ termOf v t
+unfolding termOf
+dearest-term v good t h =
+    when-cases (λ n. dearestOf v ≤ n) (v .free)
+    (λ e. omega (arith, most-sum sum (v .segments), mul-le-mul-right (allOf v) (η-some good t h)))
+    (λ e. when-cases (λ n. dearestOf v ≤ n) (asynchronous (v .kind)) (λ f. omega (arith, most-sum sum (v .segments))) (λ f. le-refl (dearestOf v)))
+
+-- a combination beside the chains without overload mark
+module _ (b : Row) (t : ℕ) (some : 1 ≤ t) where
+  abbrev terms : List View → ℕ
+  terms vs = sumOf (λ v. termOf v t) vs
+
+  abbrev views : List Row → List View
+  views l = map (λ a. viewOf a b) l
+
+  abbrev set : ℕ → List Overload → ℕ → List Piece
+  set n os m = members (piecesFrom n os) m
+
+  -- the first chain's part of a set, and the rest
+  set-parts : (n : ℕ) (a : Row) (os : List Overload) (m : ℕ)
+      → set n (overload a b ∷ os) m ≡ members (map (piece n) (itemsOf a b)) m ++ set (n + 1) os (m / 2 ^ length (map (piece n) (itemsOf a b)))
+  unfolding piecesFrom
+  set-parts n a os m = members-append (map (piece n) (itemsOf a b)) (piecesFrom (n + 1) os) m
+
+  set-none : (n m : ℕ) → costOf (set n [] m) ≡ 0
+  unfolding piecesFrom members sumOf
+  set-none n m = refl
+
+  pub covered : (l : List Row) → All GoodRow l → (n m : ℕ) → together (set n (overloads b l) m) ≡ true
+      → terms (typical (views l)) + costOf (set n (overloads b l) m) ≤ terms (views l)
+  unfolding overloads typical sumOf
+  covered [] good n m e = omega (arith, set-none n m)
+  covered (a ∷ l) good n m e = go (eqb (a .overload) 0) refl (covered l (good .1))
+    where
+      go : (x : Bool) → eqb (a .overload) 0 ≡ x
+          → ((k j : ℕ) → together (set k (overloads b l) j) ≡ true → terms (typical (views l)) + costOf (set k (overloads b l) j) ≤ terms (views l))
+          → terms (typical (views (a ∷ l))) + costOf (set n (overloads b (a ∷ l)) m) ≤ terms (views (a ∷ l))
+      go true f r =
+          let o : overloads b (a ∷ l) ≡ overloads b l = when-yes _ _ f in
+          let y : typical (views (a ∷ l)) ≡ viewOf a b ∷ typical (views l) = when-yes _ _ (ap (λ k. eqb k 0) (view-overload a b) ∙ f) in
+          omega (arith, r n m (sym (ap (λ os. together (set n os m)) o) ∙ e), ap terms y, ap (λ os. costOf (set n os m)) o)
+      go false f r =
+          let o : overloads b (a ∷ l) ≡ overload a b ∷ overloads b l = when-no _ _ f in
+          let y : typical (views (a ∷ l)) ≡ typical (views l) = when-no _ _ (ap (λ k. eqb k 0) (view-overload a b) ∙ f) in
+          let own = members (map (piece n) (itemsOf a b)) m in
+          let k = m / 2 ^ length (map (piece n) (itemsOf a b)) in
+          let rest = set (n + 1) (overloads b l) k in
+          let p : set n (overloads b (a ∷ l)) m ≡ own ++ rest = ap (λ os. set n os m) o ∙ set-parts n a (overloads b l) m in
+          let w : together (own ++ rest) ≡ true = sym (ap together p) ∙ e in
+          omega (
+            arith,
+            r (n + 1) k (together-right own rest w),
+            ap terms y,
+            ap costOf p,
+            sum-append (λ q. q .cost) own rest,
+            chain-dearest a b n m (together-left own rest w),
+            dearest-term (viewOf a b) (subst GoodDistances (sym (view-list a b)) (good-distances (good .0))) t some,
+          )

@@ -1,0 +1,56 @@
+-- The loop's invariant: the sets below m have their prices.
+use Prim.Native.Nat.{ℕ, _-_}
+use mathlib.Core.Path.{_≡_}
+use native.Mathlib.Omega.{arith}
+use lib.ListN.{length-replicate}
+use Rattle.misses.specs.Held.{piecesAt, priceOf}
+use Rattle.misses.proofs.Fills.{Filled, filled-none, filled-on}
+use Rattle.misses.proofs.pricing.prices.Statement.{statement}
+use Rattle.misses.proofs.pricing.prices.Tie as tie
+
+abbrev Inv-loop : tie.InvT-loop
+Inv-loop chain segment cost n out₀ m₀ out m = Filled (λ k x. x ≡ priceOf (piecesAt chain segment cost n 0) k) 64 out m
+
+abbrev μ-loop : tie.MeasureT-loop
+μ-loop chain segment cost n out₀ m₀ out m = 64 - m
+
+loop-holds : tie.Need-loop-holds Inv-loop μ-loop
+loop-holds c = filled-none _ _ _ (length-replicate {A = ℕ} 64 0)
+
+price-requires : tie.Need-price-requires Inv-loop μ-loop
+price-requires c κs = let p = c .before .before .before .before .before .before .before .before .pre in (p .few, omega arith, p .cheap)
+
+mul-out : tie.Need-mul-out Inv-loop μ-loop
+mul-out c = omega arith
+
+array-write-out : tie.Need-array-write-out Inv-loop μ-loop
+array-write-out c = omega arith
+
+add-m : tie.Need-add-m Inv-loop μ-loop
+add-m c = omega arith
+
+loop-less : tie.Need-loop-less Inv-loop μ-loop
+loop-less c = omega arith
+
+loop-again : tie.Need-loop-again Inv-loop μ-loop
+loop-again c =
+    let l = c .before .before .before .before .before .loop in
+    filled-on _ _ (l .out) (l .m) (c .price .result) (l .inv) (omega arith) (c .price .ensures)
+
+returns : tie.Need-returns Inv-loop μ-loop
+returns c m h = c .before .loop .inv .each m (omega arith)
+
+pub prices-spec : {M : Type 1} → statement M
+prices-spec =
+    tie.close
+    (tie.spec
+    Inv-loop
+    μ-loop
+    loop-holds
+    price-requires
+    mul-out
+    array-write-out
+    add-m
+    loop-less
+    loop-again
+    returns)

@@ -1,0 +1,72 @@
+-- The active segments of the overload chains as the code holds them.
+use Prim.Native.Nat.{ℕ, zero, suc, _+_, _*_, _-_, _/_, _^_, _≤_, min}
+use mathlib.Core.List.{List, [], _∷_, map}
+use lib.ListN.{length, getD, take, set}
+use Rattle.search.specs.Choice.{_when_else_}
+use Rattle.table.specs.Limits.{maxTasks, maxCost, maxOverloads, maxCapacity}
+use Rattle.table.specs.Record.{pad}
+use Rattle.misses.specs.Overloads.{Overload, Piece, piecesOf, capacitiesOf}
+use Rattle.misses.specs.Sets.{members, allowed, costOf}
+use Rattle.misses.specs.declared.Pieces.{Pieces}
+
+-- the first six of a list, with 0s for those that it lacks
+abbrev pub six : List ℕ → List ℕ
+six l = pad maxOverloads (take maxOverloads l)
+
+-- how many overload chains and active segments there are, and of the first six each one's chain, segment, cost, and
+-- capacity, which is not counted any further than past its limit
+abbrev pub heldAs : ℕ → List Piece → List ℕ → Pieces
+heldAs chains ps cs =
+    record {
+      chains = chains;
+      count = length ps;
+      chain = six (map (λ p. p .chain) ps);
+      segment = six (map (λ p. p .segment) ps);
+      cost = six (map (λ p. p .cost) ps);
+      capacity = six (map (min (maxCapacity + 1)) cs);
+    }
+
+-- those of some overload chains, with their capacities in t
+unfoldable pub gathered : ℕ → List Overload → Pieces
+gathered t os = heldAs (length os) (piecesOf os) (capacitiesOf t os)
+
+-- one active segment more, of the chain that comes next
+abbrev pub plus : Pieces → ℕ → ℕ → ℕ → Pieces
+plus p segment cost capacity =
+    record {
+      chains = p .chains;
+      count = p .count + 1;
+      chain = set (p .chain) (p .count) (p .chains);
+      segment = set (p .segment) (p .count) segment;
+      cost = set (p .cost) (p .count) cost;
+      capacity = set (p .capacity) (p .count) capacity;
+    }
+
+-- the active segment after i others, out of arrays of their chains, segments and costs
+abbrev pub pieceAt : List ℕ → List ℕ → List ℕ → ℕ → Piece
+pieceAt chains segments costs i = record { chain = getD chains i 0; segment = getD segments i 0; cost = getD costs i 0 }
+
+-- n of them from that one on
+unfoldable pub piecesAt : List ℕ → List ℕ → List ℕ → ℕ → ℕ → List Piece
+piecesAt chains segments costs zero i = []
+piecesAt chains segments costs (suc n) i = pieceAt chains segments costs i ∷ piecesAt chains segments costs n (i + 1)
+
+-- those of n in the mask m, from the one after i others on
+abbrev pub membersAt : List ℕ → List ℕ → List ℕ → ℕ → ℕ → ℕ → List Piece
+membersAt chains segments costs n m i = members (piecesAt chains segments costs (n - i) i) (m / 2 ^ i)
+
+-- what a mask costs, 0 where it is no combination
+unfoldable pub priceOf : List Piece → ℕ → ℕ
+priceOf ps m = costOf (members ps m) when allowed ps m else 0
+
+-- no chain costs more, so no active segment does
+abbrev pub dearest : ℕ
+dearest = maxTasks * maxCost
+
+-- six active segments or fewer are held, and none costs more than a chain can
+pub record Few (p : Pieces) : Type 0 where
+  pub few : p .count ≤ maxOverloads
+  pub cheap : (i : ℕ) → getD (p .cost) i 0 ≤ dearest
+
+abbrev pub piecesIn : Pieces → List Piece
+piecesIn p = piecesAt (p .chain) (p .segment) (p .cost) (p .count) 0

@@ -1,0 +1,7 @@
+pub mod Tests
+pub mod Overloads
+pub mod Sets
+pub mod Bad
+pub mod Misses
+pub mod Held
+pub mod Settling

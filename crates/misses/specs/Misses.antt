@@ -1,0 +1,87 @@
+-- The miss query (01, 'Misses' and 'Numbers given back').
+use Prim.Native.Nat.{ℕ, _+_, _*_}
+use mathlib.Core.Bool.{Bool, not}
+use mathlib.Core.List.{List, [], _∷_}
+use lib.Dec.{eqb, ltb}
+use lib.ListN.{length, getD}
+use Rattle.search.specs.Choice.{_when_else_}
+use Rattle.table.specs.Limits.{maxRun, maxOverloads, maxCapacity}
+use Rattle.table.specs.Fault.{outside}
+use Rattle.table.specs.Find.{rowOf, findOf}
+use Rattle.table.specs.Read.{readTable}
+use Rattle.table.specs.declared.Row.{Row}
+use Rattle.table.specs.declared.Table.{Table}
+use Rattle.table.specs.declared.Verdict.{Verdict}
+use Rattle.table.specs.declared.Verdict.the-variants.{Accepted, Refused as Faulty}
+use Rattle.arrivals.specs.Arrivals.{distances, η, largest}
+use Rattle.segments.specs.View.{View}
+use Rattle.windows.specs.Demand.{demandOf, typical, others, othersOf}
+use Rattle.windows.specs.Latency.{boundOf}
+use Rattle.windows.specs.declared.Answer.{Answer as Bound}
+use Rattle.windows.specs.declared.Answer.the-variants.{Figures, Refused as Unbounded}
+use Rattle.packing.specs.Most.{mostUses}
+use Rattle.misses.specs.Tests.{some}
+use Rattle.misses.specs.Overloads.{Overload, overloads, piecesOf, capacitiesOf}
+use Rattle.misses.specs.Bad.{over, bad}
+use Rattle.misses.specs.declared.Answer.{Answer}
+use Rattle.misses.specs.declared.Answer.the-variants.{Misses, Refused}
+
+-- this paper's number for each answer, 0 or the refusal, and its value: how many deadlines are missed
+abbrev pub numberOf : Answer → ℕ
+numberOf (Misses n) = 0
+numberOf (Refused n) = n
+
+abbrev pub valuesOf : Answer → List ℕ
+valuesOf (Misses n) = n ∷ []
+valuesOf (Refused n) = []
+
+-- the misses of a chain b in a run of k activations, beside the chains of these views, whose overload chains are `os`
+module _ (b : Row) (views : List View) (os : List Overload) (k : ℕ) where
+  -- the bad combinations, where the full analysis closes at `close`, its K
+  unfoldable pub badOf : ℕ → ℕ → Bool
+  badOf close m = bad (over (demandOf b (typical views)) (distances b) (b .deadline) close) (piecesOf os) m
+
+  -- capacity of each active segment of a: η_a((k − 1) times b's gap + latency) + 1
+  unfoldable pub roomOf : ℕ → List ℕ
+  roomOf latency = capacitiesOf (largest b k + latency) os
+
+  -- zero late activations answers 0; over 6 overload active segments; any overload chain, with segments or none, may start more
+  -- than once in the last window; a miss without any overload; a capacity above 40; else late times the most uses any packing has
+  unfoldable pub byFigures : ℕ → ℕ → ℕ → ℕ → Answer
+  byFigures close latency late last =
+      Misses 0 when eqb late 0 else
+      Refused 18 when ltb maxOverloads (length (piecesOf os)) else
+      Refused 19 when some (λ o. ltb 1 (η (o .list) last)) os else
+      Refused 20 when badOf close 0 else
+      Refused 21 when some (ltb maxCapacity) (roomOf latency) else
+      Misses (late * mostUses (badOf close) (λ i. getD (roomOf latency) i 0))
+
+  -- 16 or 17, or the figures of the full analysis beside its last window
+  abbrev pub byBound : Bound → ℕ → Answer
+  byBound (Figures close latency late margin) last = byFigures close latency late last
+  byBound (Unbounded n) last = Refused n
+
+  -- k outside 1..1,000; an overload chain; a chain with gap 0; then the windows
+  unfoldable pub missesIn : Answer
+  missesIn =
+      Refused 13 when outside 1 maxRun k else
+      Refused 14 when not (eqb (b .overload) 0) else
+      Refused 15 when eqb (b .gap) 0 else
+      byBound (boundOf b views .answer) (boundOf b views .last)
+
+-- of the chain `at` of a table
+unfoldable pub missesAt : Table → ℕ → ℕ → Answer
+missesAt t at k = missesIn (rowOf t at) (othersOf t at) (overloads (rowOf t at) (others t at)) k
+
+-- of the chain with the id, 12 if there is none
+unfoldable pub chainOf : Table → ℕ → ℕ → Answer
+chainOf t id k = Refused 12 when eqb (findOf t id) (t .count) else missesAt t (findOf t id) k
+
+-- the table's own refusals come first
+abbrev pub byVerdict : Verdict → Answer → Answer
+byVerdict Accepted answer = answer
+byVerdict (Faulty n) answer = Refused n
+
+-- what the miss query answers for a run of k activations of the chain with the id, of a stored table
+unfoldable pub missesOf : List ℕ → ℕ → ℕ → Answer
+missesOf s id k = byVerdict (readTable s .verdict) (chainOf (readTable s .table) id k)

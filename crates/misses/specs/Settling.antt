@@ -1,0 +1,41 @@
+-- Costs that are settled, in the code's search for the lowest bad one.
+use Prim.Native.Nat.{ℕ, _+_, _*_, _<_, _≤_}
+use mathlib.Core.Path.{_≡_}
+use mathlib.Core.Bool.{Bool, true, false}
+use mathlib.Core.List.{List}
+use lib.Dec.{leb}
+use lib.ListN.{getD}
+use Rattle.table.specs.Limits.{maxOverloads}
+use Rattle.packing.specs.Packing.{combinations}
+use Rattle.misses.specs.Held.{dearest}
+use Rattle.misses.specs.declared.Settled.{Settled}
+
+-- no set costs so much
+abbrev pub beyond : ℕ
+beyond = maxOverloads * dearest + 1
+
+-- no cost up to `good` is over, and each from `bad` on is, up to what no set costs
+pub record Settles (over : ℕ → Bool) (s : Settled) : Type 0 where
+  pub below : (c : ℕ) → c ≤ s .good → over c ≡ false
+  pub above : (c : ℕ) → s .bad ≤ c → c < beyond → over c ≡ true
+  pub apart : s .good < s .bad
+  pub inside : s .bad ≤ beyond
+
+-- c lies between the two: it is open whether it is over
+pub record Open (s : Settled) (c : ℕ) : Type 0 where
+  pub low : s .good < c
+  pub high : c < s .bad
+
+-- r is the number of sets or less where c is open, and more where it is not
+pub record Leaves (s : Settled) (c r : ℕ) : Type 0 where
+  pub few : Open s c → r ≤ combinations
+  pub is : r ≤ combinations → Open s c
+
+-- an open one of the costs, or 0 where none is
+pub record Picks (s : Settled) (costs : List ℕ) (r : ℕ) : Type 0 where
+  pub none : r ≡ 0 → (m : ℕ) → m < combinations → Open s (getD costs m 0) → ⊥
+  pub one : 0 < r → Open s r
+
+-- exactly the costs from r on are over
+abbrev pub Tells : (ℕ → Bool) → List ℕ → ℕ → Type 0
+Tells over costs r = (m : ℕ) → m < combinations → leb r (getD costs m 0) ≡ over (getD costs m 0)

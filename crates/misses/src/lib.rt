@@ -1,0 +1,37 @@
+// Deadline misses (document 01, 'Misses'): combinations of overload active segments, the bad ones, and the miss query.
+mod gathering;
+mod pricing;
+mod settling;
+
+use table::Table;
+
+// What the miss query answers: how many deadlines are missed, or the refusal's number.
+pub enum Answer {
+    Misses(u32),
+    Refused(u32),
+}
+
+// The active segments of the overload chains in a row: how many chains and active segments there are, and of the first six
+// each one's chain, segment, cost and capacity; 0 past them.
+pub struct Pieces {
+    pub chains: usize,
+    pub count: usize,
+    pub chain: [usize; Table::OVERLOADS],
+    pub segment: [usize; Table::OVERLOADS],
+    pub cost: [u64; Table::OVERLOADS],
+    pub capacity: [u64; Table::OVERLOADS],
+}
+
+// Costs that are settled: none up to `good` is bad, each from `bad` on is.
+pub struct Settled {
+    pub good: u64,
+    pub bad: u64,
+}
+
+impl Pieces {
+    // One mask for each set of six.
+    pub const SETS: usize = 64;
+
+    // More than any set costs.
+    pub const BEYOND: u64 = Table::OVERLOADS as u64 * Table::TASKS as u64 * Table::COST as u64 + 1;
+}

@@ -1,0 +1,111 @@
+// What the combinations cost.
+use crate::Pieces;
+use table::Table;
+ghost use mathlib.Core.Path.{_≡_};
+ghost use mathlib.Core.Bool.{true};
+ghost use mathlib.Core.List.{List, []};
+ghost use Prim.Native.Nat.{ℕ, _+_, _*_, _≤_, _<_};
+ghost use lib.Dec.{eqb};
+ghost use lib.ListN.{getD};
+ghost use Rattle.search.specs.Choice.{_when_else_};
+ghost use Rattle.table.specs.Limits.{maxOverloads};
+ghost use Rattle.packing.specs.Packing.{bit, combinations};
+ghost use Rattle.misses.specs.Tests.{every};
+ghost use Rattle.misses.specs.Sets.{agree};
+ghost use Rattle.misses.specs.Held.{pieceAt, piecesAt, membersAt, priceOf, dearest, Few, piecesIn};
+
+// 1 if the active segment i is in the set m, else 0.
+fn has(m: usize, i: usize) -> usize
+    requires { ⌜ i < maxOverloads ⌝ }
+    ensures { λ r. ⌜ r ≡ bit i m ⌝ }
+{
+    (m >> i) & 1
+}
+
+// Whether the active segment i may stand with the active segment j, if that is in the set m.
+fn agrees(
+    chain: &[usize; Table::OVERLOADS],
+    segment: &[usize; Table::OVERLOADS],
+    m: usize,
+    i: usize,
+    j: usize,
+) -> bool
+    requires { ⌜ (i < maxOverloads) × (j < maxOverloads) ⌝ }
+    ensures { λ r. ⌜ r ≡ (agree (pieceAt (now (chain .entry)) (now (segment .entry)) [] i) (pieceAt (now (chain .entry)) (now (segment .entry)) [] j) when eqb (bit j m) 1 else true) ⌝ }
+{
+    if has(m, j) == 0 {
+        return true;
+    }
+    if chain[i] != chain[j] {
+        return true;
+    }
+    segment[i] == segment[j]
+}
+
+// Whether the active segment i may stand with those of the set m that come after it.
+fn agrees_with_all(
+    chain: &[usize; Table::OVERLOADS],
+    segment: &[usize; Table::OVERLOADS],
+    n: usize,
+    m: usize,
+    i: usize,
+) -> bool
+    requires { ⌜ (i < n) × (n ≤ maxOverloads) ⌝ }
+    ensures { λ r. ⌜ ((costs : List ℕ) → r ≡ every (agree (pieceAt (now (chain .entry)) (now (segment .entry)) costs i)) (membersAt (now (chain .entry)) (now (segment .entry)) costs n m (i + 1))) ⌝ }
+{
+    let mut j = i + 1;
+    while j < n {
+        if !agrees(chain, segment, m, i, j) {
+            return false;
+        }
+        j += 1;
+    }
+    true
+}
+
+// What the set m costs, 0 where it is no combination.
+fn price(
+    chain: &[usize; Table::OVERLOADS],
+    segment: &[usize; Table::OVERLOADS],
+    cost: &[u64; Table::OVERLOADS],
+    n: usize,
+    m: usize,
+) -> u64
+    requires { ⌜ (n ≤ maxOverloads) × (m < combinations) × ((i : ℕ) → getD (now cost) i 0 ≤ dearest) ⌝ }
+    ensures { λ r. ⌜ r ≡ priceOf (piecesAt (now (chain .entry)) (now (segment .entry)) (now (cost .entry)) n 0) m ⌝ }
+{
+    if m >> n != 0 {
+        return 0;
+    }
+    let mut sum: u64 = 0;
+    let mut i: usize = 0;
+    while i < n {
+        let at = i;
+        i += 1;
+        if has(m, at) == 1 {
+            if !agrees_with_all(chain, segment, n, m, at) {
+                return 0;
+            }
+            sum = sum + cost[at];
+        }
+    }
+    sum
+}
+
+// What each set costs, 0 where it is no combination.
+pub fn prices(p: Pieces) -> [u64; Pieces::SETS]
+    requires { ⌜ Few p ⌝ }
+    ensures { λ r. ⌜ ((m : ℕ) → m < combinations → getD r m 0 ≡ priceOf (piecesIn p) m) ⌝ }
+{
+    let chain = p.chain;
+    let segment = p.segment;
+    let cost = p.cost;
+    let n = p.count;
+    let mut out = [0u64; Pieces::SETS];
+    let mut m: usize = 0;
+    while m < Pieces::SETS {
+        out[m] = price(&chain, &segment, &cost, n, m);
+        m += 1;
+    }
+    out
+}
