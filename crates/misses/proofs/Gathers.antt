@@ -17,7 +17,8 @@ use Rattle.table.specs.Good.{GoodRow, GoodTable}
 use Rattle.table.specs.declared.Row.{Row}
 use Rattle.table.specs.declared.Table.{Table}
 use Rattle.arrivals.specs.Arrivals.{distances, η}
-use Rattle.segments.specs.Actives.{Active, nothing, activesOf, arraysOf}
+use Rattle.segments.specs.Actives.{Active, nothing, activesOf}
+use Rattle.segments.specs.Held.{arraysOf}
 use Rattle.segments.specs.Combination.{Item, itemOf, itemsOf}
 use Rattle.segments.specs.declared.Actives.{Actives}
 use Rattle.segments.proofs.Standing.{array-at}
