@@ -34,7 +34,7 @@ use Rattle.misses.proofs.Bools.{and-left, and-right}
 
 -- those of a mask are some of all
 module _ (f : Piece → ℕ) where
-  members-sum : (ps : List Piece) (m : ℕ) → sumOf f (members ps m) ≤ sumOf f ps
+  pub members-sum : (ps : List Piece) (m : ℕ) → sumOf f (members ps m) ≤ sumOf f ps
   unfolding members sumOf
   members-sum [] m = le-refl 0
   members-sum (p ∷ ps) m =

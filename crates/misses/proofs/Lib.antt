@@ -4,7 +4,14 @@ pub mod Masks
 pub mod Prices
 pub mod Sixes
 pub mod Gathers
+pub mod Starts
 pub mod Sweeps
 pub mod Settles
 pub mod Covers
+pub mod Packs
+pub mod Held
+pub mod Loading
+pub mod Answers
+pub mod Judging
+pub mod Figures
 pub mod Existence

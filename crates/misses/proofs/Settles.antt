@@ -51,11 +51,11 @@ module _ (over : ℕ → Bool) (worsens : Worsens over) where
     }
 
 -- none is open: each cost is settled one way or the other
-pub settles-tell : (over : ℕ → Bool) (s : Settled) (costs : List ℕ) → Settles over s → Picks s costs 0 → ((m : ℕ) → getD costs m 0 < beyond) → Tells over costs (s .bad)
+pub settles-tell : (over : ℕ → Bool) (s : Settled) (costs : List ℕ) → Settles over s → Picks s costs 0 → ((m : ℕ) → m < combinations → getD costs m 0 < beyond) → Tells over costs (s .bad)
 settles-tell over s costs is p few m h =
     ⊎-elim
     (λ l. lt-leb (s .bad) (getD costs m 0) l ∙ sym (is .below (getD costs m 0) (low l)))
-    (λ l. le-leb (s .bad) (getD costs m 0) l ∙ sym (is .above (getD costs m 0) l (few m)))
+    (λ l. le-leb (s .bad) (getD costs m 0) l ∙ sym (is .above (getD costs m 0) l (few m h)))
     (lt-or-le (getD costs m 0) (s .bad))
   where
     low : getD costs m 0 < s .bad → getD costs m 0 ≤ s .good

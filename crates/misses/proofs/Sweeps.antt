@@ -2,7 +2,7 @@
 -- q = 1, 2, .. until one is too long. Both go by what a demand has to be. Assumes nothing.
 use Prim.Native.Nat.{ℕ, zero, suc, _+_, _≤_, _<_}
 use mathlib.Core.Path.{_≡_, refl, ap, sym, subst, fun-ext, _∙_}
-use mathlib.Core.Bool.{Bool, true, false, _||_}
+use mathlib.Core.Bool.{Bool, true, false, _||_, or-true}
 use mathlib.Core.List.{List, []}
 use mathlib.Core.Logic.{⊎-elim}
 use native.Mathlib.Omega.{arith}
@@ -22,7 +22,6 @@ use Rattle.windows.proofs.Growth.{Growing}
 use Rattle.windows.proofs.Joining.{plus-demand}
 use Rattle.misses.specs.Tests.{some}
 use Rattle.misses.specs.Bad.{withCost, longer, over}
-use Rattle.misses.proofs.Bools.{or-true}
 
 -- the window for q activations is too long
 abbrev pub passes : (ℕ → ℕ → ℕ) → List ℕ → ℕ → ℕ → Bool

@@ -3,8 +3,10 @@ use Prim.Native.Nat.{ℕ, zero, suc, _+_, _*_, _-_, _/_, _^_, _≤_, min}
 use mathlib.Core.List.{List, [], _∷_, map}
 use lib.ListN.{length, getD, take, set}
 use Rattle.search.specs.Choice.{_when_else_}
-use Rattle.table.specs.Limits.{maxTasks, maxCost, maxOverloads, maxCapacity}
+use mathlib.Core.Path.{_≡_}
+use Rattle.table.specs.Limits.{maxTasks, maxCost, maxActivations, maxRun, horizon, maxOverloads, maxCapacity}
 use Rattle.table.specs.Record.{pad}
+use Rattle.table.specs.declared.Row.{Row}
 use Rattle.misses.specs.Overloads.{Overload, Piece, piecesOf, capacitiesOf}
 use Rattle.misses.specs.Sets.{members, allowed, costOf}
 use Rattle.misses.specs.declared.Pieces.{Pieces}
@@ -70,3 +72,13 @@ pub record Few (p : Pieces) : Type 0 where
 
 abbrev pub piecesIn : Pieces → List Piece
 piecesIn p = piecesAt (p .chain) (p .segment) (p .cost) (p .count) 0
+
+-- what the figures of a chain b and a run of k are where nothing was refused before: within their limits
+pub record Asked (b : Row) (k close latency late last : ℕ) : Type 0 where
+  pub typical : b .overload ≡ 0
+  pub low : 1 ≤ k
+  pub high : k ≤ maxRun
+  pub few : close ≤ maxActivations
+  pub near : latency ≤ horizon
+  pub count : late ≤ maxActivations
+  pub end : last ≤ horizon

@@ -1,5 +1,5 @@
 -- The miss query (01, 'Misses' and 'Numbers given back').
-use Prim.Native.Nat.{ℕ, _+_, _*_}
+use Prim.Native.Nat.{ℕ, zero, suc, _+_, _*_}
 use mathlib.Core.Bool.{Bool, not}
 use mathlib.Core.List.{List, [], _∷_}
 use lib.Dec.{eqb, ltb}
@@ -35,6 +35,19 @@ abbrev pub valuesOf : Answer → List ℕ
 valuesOf (Misses n) = n ∷ []
 valuesOf (Refused n) = []
 
+-- before any window: k outside 1..1,000; an overload chain; a chain with gap 0; 0 for none of these
+unfoldable pub earlyOf : Row → ℕ → ℕ
+earlyOf b k =
+    13 when outside 1 maxRun k else
+    14 when not (eqb (b .overload) 0) else
+    15 when eqb (b .gap) 0 else
+    0
+
+-- refused with a number; where that is 0, what follows
+abbrev pub unless : ℕ → Answer → Answer
+unless zero rest = rest
+unless (suc n) rest = Refused (suc n)
+
 -- the misses of a chain b in a run of k activations, beside the chains of these views, whose overload chains are `os`
 module _ (b : Row) (views : List View) (os : List Overload) (k : ℕ) where
   -- the bad combinations, where the full analysis closes at `close`, its K
@@ -61,13 +74,9 @@ module _ (b : Row) (views : List View) (os : List Overload) (k : ℕ) where
   byBound (Figures close latency late margin) last = byFigures close latency late last
   byBound (Unbounded n) last = Refused n
 
-  -- k outside 1..1,000; an overload chain; a chain with gap 0; then the windows
+  -- what is refused before any window, or the windows decide
   unfoldable pub missesIn : Answer
-  missesIn =
-      Refused 13 when outside 1 maxRun k else
-      Refused 14 when not (eqb (b .overload) 0) else
-      Refused 15 when eqb (b .gap) 0 else
-      byBound (boundOf b views .answer) (boundOf b views .last)
+  missesIn = unless (earlyOf b k) (byBound (boundOf b views .answer) (boundOf b views .last))
 
 -- of the chain `at` of a table
 unfoldable pub missesAt : Table → ℕ → ℕ → Answer

@@ -21,13 +21,13 @@ fn wide(x: u32) -> u64
 }
 
 // The capacity of a chain's active segments in t, counted no further than past its limit.
-fn capacity(a: Row, t: u64) -> u64
+fn capacity(a: Row, t: u64) -> u8
     requires { ⌜ GoodRow a × (t ≤ longest) ⌝ }
     ensures { λ r. ⌜ r ≡ min (maxCapacity + 1) (η (distances a) t + 1) ⌝ }
 {
     let list = a.list;
     let listed = a.listed;
-    eta_up_to(&list[..listed], t, Table::CAPACITY) + 1
+    (eta_up_to(&list[..listed], t, Table::CAPACITY) + 1) as u8
 }
 
 impl Pieces {
@@ -41,12 +41,12 @@ impl Pieces {
             chain: [0usize; Table::OVERLOADS],
             segment: [0usize; Table::OVERLOADS],
             cost: [0u64; Table::OVERLOADS],
-            capacity: [0u64; Table::OVERLOADS],
+            capacity: [0u8; Table::OVERLOADS],
         }
     }
 
     // One active segment more; past six only the count grows.
-    fn with(mut self, segment: usize, cost: u64, capacity: u64) -> Self
+    fn with(mut self, segment: usize, cost: u64, capacity: u8) -> Self
         requires { ⌜ self .count < maxChains * maxTasks ⌝ }
         ensures { λ r. ⌜ r ≡ plus self segment cost capacity ⌝ }
     {

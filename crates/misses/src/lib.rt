@@ -1,8 +1,12 @@
 // Deadline misses (document 01, 'Misses'): combinations of overload active segments, the bad ones, and the miss query.
+mod asking;
 mod gathering;
 mod pricing;
 mod settling;
 
+pub use asking::misses;
+pub use asking::misses_in;
+pub use asking::misses_with;
 use table::Table;
 
 // What the miss query answers: how many deadlines are missed, or the refusal's number.
@@ -19,7 +23,7 @@ pub struct Pieces {
     pub chain: [usize; Table::OVERLOADS],
     pub segment: [usize; Table::OVERLOADS],
     pub cost: [u64; Table::OVERLOADS],
-    pub capacity: [u64; Table::OVERLOADS],
+    pub capacity: [u8; Table::OVERLOADS],
 }
 
 // Costs that are settled: none up to `good` is bad, each from `bad` on is.
@@ -28,10 +32,7 @@ pub struct Settled {
     pub bad: u64,
 }
 
-impl Pieces {
-    // One mask for each set of six.
-    pub const SETS: usize = 64;
-
+impl Settled {
     // More than any set costs.
     pub const BEYOND: u64 = Table::OVERLOADS as u64 * Table::TASKS as u64 * Table::COST as u64 + 1;
 }

@@ -1,5 +1,6 @@
 // What the combinations cost.
 use crate::Pieces;
+use packing::COMBINATIONS;
 use table::Table;
 ghost use mathlib.Core.Path.{_≡_};
 ghost use mathlib.Core.Bool.{true};
@@ -93,7 +94,7 @@ fn price(
 }
 
 // What each set costs, 0 where it is no combination.
-pub fn prices(p: Pieces) -> [u64; Pieces::SETS]
+pub fn prices(p: Pieces) -> [u64; COMBINATIONS]
     requires { ⌜ Few p ⌝ }
     ensures { λ r. ⌜ ((m : ℕ) → m < combinations → getD r m 0 ≡ priceOf (piecesIn p) m) ⌝ }
 {
@@ -101,9 +102,9 @@ pub fn prices(p: Pieces) -> [u64; Pieces::SETS]
     let segment = p.segment;
     let cost = p.cost;
     let n = p.count;
-    let mut out = [0u64; Pieces::SETS];
+    let mut out = [0u64; COMBINATIONS];
     let mut m: usize = 0;
-    while m < Pieces::SETS {
+    while m < COMBINATIONS {
         out[m] = price(&chain, &segment, &cost, n, m);
         m += 1;
     }

@@ -1,8 +1,8 @@
 // The lowest bad cost. A combination is bad by its cost alone, and costs only get worse, so each sum that is tried settles all
 // those below it or all those above it.
-use crate::Pieces;
 use crate::Settled;
 use arrivals::delta;
+use packing::COMBINATIONS;
 use windows::Load;
 use windows::Window;
 use windows::climb;
@@ -66,12 +66,12 @@ fn larger(a: usize, b: usize) -> usize
 }
 
 // How many costs lie between two.
-fn between(costs: &[u64; Pieces::SETS], low: u64, high: u64) -> usize
+fn between(costs: &[u64; COMBINATIONS], low: u64, high: u64) -> usize
     ensures { λ r. ⌜ r ≤ combinations ⌝ }
 {
     let mut found: usize = 0;
     let mut m: usize = 0;
-    while m < Pieces::SETS {
+    while m < COMBINATIONS {
         let c = costs[m];
         m += 1;
         if low < c && c < high {
@@ -82,26 +82,26 @@ fn between(costs: &[u64; Pieces::SETS], low: u64, high: u64) -> usize
 }
 
 // How many costs can be open still once c is settled, at worst; more than there are where c is not open.
-fn left(costs: &[u64; Pieces::SETS], s: Settled, c: u64) -> usize
+fn left(costs: &[u64; COMBINATIONS], s: Settled, c: u64) -> usize
     ensures { λ r. ⌜ Leaves s c r ⌝ }
 {
     if c <= s.good {
-        return Pieces::SETS + 1;
+        return COMBINATIONS + 1;
     }
     if s.bad <= c {
-        return Pieces::SETS + 1;
+        return COMBINATIONS + 1;
     }
     larger(between(costs, s.good, c), between(costs, c, s.bad))
 }
 
 // The open cost that leaves the fewest open, 0 if none is open.
-fn pick(costs: &[u64; Pieces::SETS], s: Settled) -> u64
+fn pick(costs: &[u64; COMBINATIONS], s: Settled) -> u64
     ensures { λ r. ⌜ Picks s (now (costs .entry)) r ⌝ }
 {
     let mut best: u64 = 0;
-    let mut least: usize = Pieces::SETS + 1;
+    let mut least: usize = COMBINATIONS + 1;
     let mut m: usize = 0;
-    while m < Pieces::SETS {
+    while m < COMBINATIONS {
         let c = costs[m];
         let n = left(costs, s, c);
         m += 1;
@@ -114,13 +114,13 @@ fn pick(costs: &[u64; Pieces::SETS], s: Settled) -> u64
 }
 
 // The cost from which on sets are bad, where the empty set is not.
-pub fn lowest_bad(l: Load, deadline: u32, k: u32, costs: &[u64; Pieces::SETS]) -> u64
-    requires { ⌜ Sound l × (deadline ≤ maxDeadline) × (k ≤ maxActivations) × (l .once + beyond ≤ most) × (overOf (demandIn l) (ownOf l) deadline k 0 ≡ false) × ((m : ℕ) → getD (now costs) m 0 < beyond) ⌝ }
+pub fn lowest_bad(l: Load, deadline: u32, k: u32, costs: &[u64; COMBINATIONS]) -> u64
+    requires { ⌜ Sound l × (deadline ≤ maxDeadline) × (k ≤ maxActivations) × (l .once + beyond ≤ most) × (overOf (demandIn l) (ownOf l) deadline k 0 ≡ false) × ((m : ℕ) → m < combinations → getD (now costs) m 0 < beyond) ⌝ }
     ensures { λ r. ⌜ Tells (overOf (demandIn l) (ownOf l) deadline k) (now (costs .entry)) r ⌝ }
 {
     let mut s = Settled {
         good: 0,
-        bad: Pieces::BEYOND,
+        bad: Settled::BEYOND,
     };
     let mut c = pick(costs, s);
     while c != 0 {

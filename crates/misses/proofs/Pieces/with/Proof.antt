@@ -31,9 +31,6 @@ mul-self-3 c = search needs
 element-write-self-3 : tie.Need-element-write-self-3
 element-write-self-3 c = search needs
 
-mul-self-4 : tie.Need-mul-self-4
-mul-self-4 c = search needs
-
 element-write-self-4 : tie.Need-element-write-self-4
 element-write-self-4 c = search needs
 
@@ -66,7 +63,6 @@ with-spec =
     element-write-self-2
     mul-self-3
     element-write-self-3
-    mul-self-4
     element-write-self-4
     returns
     returns-2)

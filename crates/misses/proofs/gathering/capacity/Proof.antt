@@ -18,6 +18,9 @@ eta-up-to-requires c κs = (good-distances (c .before .before .pre .0), c .befor
 add-result : tie.Need-add-result
 add-result c = search needs
 
+cast-result : tie.Need-cast-result
+cast-result c = omega (arith, c .eta-up-to .ensures)
+
 returns : tie.Need-returns
 returns c = search needs
 
@@ -29,4 +32,5 @@ capacity-spec =
     slice-aggregate-eta-up-to
     eta-up-to-requires
     add-result
+    cast-result
     returns)

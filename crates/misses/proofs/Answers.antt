@@ -1,0 +1,121 @@
+-- What the miss query answers, case by case, in the order of 01. Assumes nothing.
+use Prim.Native.Nat.{ℕ, zero, suc, _+_, _*_, _≤_, _<_}
+use mathlib.Core.Path.{_≡_, refl, ap, sym, _∙_}
+use mathlib.Core.Bool.{Bool, true, false, not, _||_}
+use mathlib.Core.List.{List}
+use native.Mathlib.Omega.{arith}
+use lib.Dec.{eqb, ltb}
+use lib.ListN.{length, getD}
+use borrow.Author.Tests.{lt-ltb, le-ltb, eq-eqb, ne-eqb}
+use Rattle.search.specs.Choice.{_when_else_}
+use Rattle.search.proofs.Choice.{when-yes, when-no}
+use Rattle.table.specs.Limits.{maxRun, maxOverloads, maxCapacity}
+use Rattle.table.specs.Fault.{outside}
+use Rattle.table.specs.Find.{rowOf, findOf}
+use Rattle.table.specs.Read.{readTable}
+use Rattle.table.specs.declared.Row.{Row}
+use Rattle.table.specs.declared.Table.{Table}
+use Rattle.table.specs.declared.Verdict.the-variants.{Accepted, Refused as Faulty}
+use Rattle.arrivals.specs.Arrivals.{η}
+use Rattle.segments.specs.View.{View}
+use Rattle.windows.specs.Demand.{others, othersOf}
+use Rattle.windows.specs.Latency.{boundOf}
+use Rattle.packing.specs.Most.{mostUses}
+use Rattle.misses.specs.Tests.{some}
+use Rattle.misses.specs.Overloads.{Overload, overloads, piecesOf}
+use Rattle.misses.specs.Misses.{earlyOf, unless, badOf, roomOf, byFigures, byBound, missesIn, missesAt, chainOf, byVerdict, missesOf}
+use Rattle.misses.specs.declared.Answer.{Answer}
+use Rattle.misses.specs.declared.Answer.the-variants.{Misses, Refused}
+use Rattle.misses.proofs.Starts.{starts}
+
+-- the statement allows one answer
+pub misses-unique : (s : List ℕ) (id k : ℕ) (a b : Answer) → a ≡ missesOf s id k → b ≡ missesOf s id k → a ≡ b
+misses-unique s id k a b e f = e ∙ sym f
+
+module _ (b : Row) (views : List View) (os : List Overload) (k close latency late last : ℕ) where
+  abbrev answer : Answer
+  answer = byFigures b views os k close latency late last
+
+  pub none-late : late ≡ 0 → answer ≡ Misses 0
+  unfolding byFigures
+  none-late e = when-yes _ _ (eq-eqb late 0 e)
+
+  module _ (some-late : late ≡ 0 → ⊥) where
+    pub too-many : maxOverloads < length (piecesOf os) → answer ≡ Refused 18
+    unfolding byFigures
+    too-many h = when-no _ _ (ne-eqb late 0 some-late) ∙ when-yes _ _ (lt-ltb maxOverloads _ h)
+
+    module _ (few : length (piecesOf os) ≤ maxOverloads) where
+      pub starts-again : some (starts last) os ≡ true → answer ≡ Refused 19
+      unfolding byFigures
+      starts-again e = when-no _ _ (ne-eqb late 0 some-late) ∙ when-no _ _ (le-ltb maxOverloads _ few) ∙ when-yes _ _ e
+
+      module _ (once : some (starts last) os ≡ false) where
+        pub without : badOf b views os k close 0 ≡ true → answer ≡ Refused 20
+        unfolding byFigures
+        without e = when-no _ _ (ne-eqb late 0 some-late) ∙ when-no _ _ (le-ltb maxOverloads _ few) ∙ when-no _ _ once ∙ when-yes _ _ e
+
+        module _ (fine : badOf b views os k close 0 ≡ false) where
+          pub too-roomy : some (ltb maxCapacity) (roomOf b views os k latency) ≡ true → answer ≡ Refused 21
+          unfolding byFigures
+          too-roomy e =
+              when-no _ _ (ne-eqb late 0 some-late) ∙ when-no _ _ (le-ltb maxOverloads _ few) ∙ when-no _ _ once ∙ when-no _ _ fine ∙ when-yes _ _ e
+
+          pub packs : some (ltb maxCapacity) (roomOf b views os k latency) ≡ false
+              → answer ≡ Misses (late * mostUses (badOf b views os k close) (λ i. getD (roomOf b views os k latency) i 0))
+          unfolding byFigures
+          packs e =
+              when-no _ _ (ne-eqb late 0 some-late) ∙ when-no _ _ (le-ltb maxOverloads _ few) ∙ when-no _ _ once ∙ when-no _ _ fine ∙ when-no _ _ e
+
+-- before any window
+module _ (b : Row) (k : ℕ) where
+  pub early-run : outside 1 maxRun k ≡ true → earlyOf b k ≡ 13
+  unfolding earlyOf
+  early-run e = when-yes _ _ e
+
+  module _ (run : outside 1 maxRun k ≡ false) where
+    pub early-overload : (b .overload ≡ 0 → ⊥) → earlyOf b k ≡ 14
+    unfolding earlyOf
+    early-overload h = when-no _ _ run ∙ when-yes _ _ (ap not (ne-eqb (b .overload) 0 h))
+
+    module _ (typical : b .overload ≡ 0) where
+      pub early-gap : b .gap ≡ 0 → earlyOf b k ≡ 15
+      unfolding earlyOf
+      early-gap e = when-no _ _ run ∙ when-no _ _ (ap not (eq-eqb (b .overload) 0 typical)) ∙ when-yes _ _ (eq-eqb (b .gap) 0 e)
+
+      pub early-none : (b .gap ≡ 0 → ⊥) → earlyOf b k ≡ 0
+      unfolding earlyOf
+      early-none h = when-no _ _ run ∙ when-no _ _ (ap not (eq-eqb (b .overload) 0 typical)) ∙ when-no _ _ (ne-eqb (b .gap) 0 h)
+
+-- a number refuses, 0 does not
+unless-some : (n : ℕ) (rest : Answer) → (n ≡ 0 → ⊥) → unless n rest ≡ Refused n
+unless-some zero rest h = absurd (h refl)
+unless-some (suc n) rest h = refl
+
+module _ (t : Table) (at k : ℕ) where
+  pub at-early : (earlyOf (rowOf t at) k ≡ 0 → ⊥) → missesAt t at k ≡ Refused (earlyOf (rowOf t at) k)
+  unfolding missesAt missesIn
+  at-early h = unless-some (earlyOf (rowOf t at) k) _ h
+
+  pub at-bound : earlyOf (rowOf t at) k ≡ 0
+      → missesAt t at k ≡ byBound (rowOf t at) (othersOf t at) (overloads (rowOf t at) (others t at)) k (boundOf (rowOf t at) (othersOf t at) .answer) (boundOf (rowOf t at) (othersOf t at) .last)
+  unfolding missesAt missesIn
+  at-bound e = ap (λ n. unless n (byBound (rowOf t at) (othersOf t at) (overloads (rowOf t at) (others t at)) k (boundOf (rowOf t at) (othersOf t at) .answer) (boundOf (rowOf t at) (othersOf t at) .last))) e
+
+module _ (t : Table) (id k : ℕ) where
+  pub chain-none : findOf t id ≡ t .count → chainOf t id k ≡ Refused 12
+  unfolding chainOf
+  chain-none e = when-yes _ _ (eq-eqb _ _ e)
+
+  pub chain-found : (findOf t id ≡ t .count → ⊥) → chainOf t id k ≡ missesAt t (findOf t id) k
+  unfolding chainOf
+  chain-found h = when-no _ _ (ne-eqb _ _ h)
+
+module _ (s : List ℕ) (id k : ℕ) where
+  pub misses-refused : (n : ℕ) → readTable s .verdict ≡ Faulty n → missesOf s id k ≡ Refused n
+  unfolding missesOf
+  misses-refused n e = ap (λ v. byVerdict v (chainOf (readTable s .table) id k)) e
+
+  pub misses-accepted : readTable s .verdict ≡ Accepted → missesOf s id k ≡ chainOf (readTable s .table) id k
+  unfolding missesOf
+  misses-accepted e = ap (λ v. byVerdict v (chainOf (readTable s .table) id k)) e

@@ -1,0 +1,128 @@
+-- The figures judged test by test, each as the code works it out: every answer is the definition's. Assumes nothing.
+use Prim.Native.Nat.{ℕ, _+_, _*_, _-_, _≤_, _<_}
+use mathlib.Core.Path.{_≡_, refl, ap, ap₂, sym, fun-ext, _∙_}
+use mathlib.Core.Bool.{Bool, true, false}
+use mathlib.Core.List.{List}
+use native.Mathlib.Omega.{arith}
+use native.Mathlib.Nat.{mul-le-mul}
+use borrow.Author.Tests.{ltb-false}
+use lib.Dec.{ltb}
+use lib.ListN.{length, getD}
+use Rattle.table.specs.Limits.{maxActivations, maxOverloads, maxCapacity}
+use Rattle.table.specs.Find.{rowOf, rows}
+use Rattle.table.specs.Good.{GoodTable}
+use Rattle.table.specs.declared.Row.{Row}
+use Rattle.table.specs.declared.Table.{Table}
+use Rattle.arrivals.specs.Arrivals.{distances, largest}
+use Rattle.segments.specs.View.{View}
+use Rattle.windows.specs.Demand.{demandOf, typical, others, othersOf}
+use Rattle.windows.specs.Load.{most, ownOf, demandIn, counted, Loads}
+use Rattle.windows.specs.declared.Load.{Load}
+use Rattle.windows.proofs.Besides.{others-good}
+use Rattle.packing.specs.Most.{mostUses, capacity}
+use Rattle.packing.proofs.Laws.{most-same, most-bound}
+use Rattle.misses.specs.Tests.{some}
+use Rattle.misses.specs.Overloads.{Overload, overloads, piecesOf, capacitiesOf}
+use Rattle.misses.specs.Bad.{over, bad}
+use Rattle.misses.specs.Misses.{badOf, roomOf, byFigures}
+use Rattle.misses.specs.Held.{gathered, piecesIn, Few, Asked}
+use Rattle.misses.specs.Settling.{beyond}
+use Rattle.misses.specs.declared.Pieces.{Pieces}
+use Rattle.misses.specs.declared.Answer.{Answer}
+use Rattle.misses.specs.declared.Answer.the-variants.{Misses, Refused}
+use Rattle.misses.proofs.Bools.{some-at}
+use Rattle.misses.proofs.Packs.{bad-none}
+use Rattle.misses.proofs.Held.{beside-others, held-count, held-size, held-pieces, held-above, held-room, held-few}
+use Rattle.misses.proofs.Loading.{loads-over, loads-room}
+use Rattle.misses.proofs.Starts.{starts}
+use Rattle.misses.proofs.Answers.{none-late, too-many, starts-again, without, too-roomy, packs}
+
+module _ (t : Table) (good : GoodTable t) (at : ℕ) (there : at < t .count) (k close latency late last : ℕ) (asked : Asked (rowOf t at) k close latency late last) where
+  abbrev b : Row
+  b = rowOf t at
+
+  abbrev views : List View
+  views = othersOf t at
+
+  abbrev os : List Overload
+  os = overloads b (others t at)
+
+  abbrev answer : Answer
+  answer = byFigures b views os k close latency late last
+
+  beside : overloads b (rows t) ≡ os
+  beside = beside-others t good at there (asked .typical)
+
+  pub judged-late : late ≡ 0 → Misses 0 ≡ answer
+  judged-late e = sym (none-late b views os k close latency late last e)
+
+  module _ (some-late : late ≡ 0 → ⊥) (p : Pieces) (gathers : p ≡ gathered ((k - 1) * b .gap + latency) (overloads b (rows t))) where
+    is : p ≡ gathered (largest b k + latency) os
+    unfolding largest
+    is = gathers ∙ ap (gathered ((k - 1) * b .gap + latency)) beside
+
+    count : p .count ≡ length (piecesOf os)
+    count = held-count (largest b k + latency) os p is
+
+    pub judged-size : length (p .capacity) ≡ maxOverloads
+    judged-size = held-size (largest b k + latency) os p is
+
+    pub judged-many : maxOverloads < p .count → Refused 18 ≡ answer
+    judged-many h = sym (too-many b views os k close latency late last some-late (omega (arith, count)))
+
+    module _ (six : p .count ≤ maxOverloads) (again : Bool) (starting : again ≡ some (starts last) (overloads b (rows t))) where
+      few : length (piecesOf os) ≤ maxOverloads
+      few = omega (arith, count)
+
+      twice : again ≡ some (starts last) os
+      twice = starting ∙ ap (some (starts last)) beside
+
+      pub judged-few : Few p
+      judged-few = held-few (largest b k + latency) b (others t at) (others-good t good at) p is few
+
+      pub judged-again : again ≡ true → Refused 19 ≡ answer
+      judged-again e = sym (starts-again b views os k close latency late last some-late few (sym twice ∙ e))
+
+      module _ (once : again ≡ false) (l : Load) (loads : Loads b (counted false views) l) where
+        abbrev test : ℕ → Bool
+        test = over (demandIn l) (ownOf l) (b .deadline) close
+
+        same : test ≡ over (demandOf b (typical views)) (distances b) (b .deadline) close
+        same = fun-ext (λ c. loads-over loads (b .deadline) close c)
+
+        pub judged-room : l .once + beyond ≤ most
+        judged-room = loads-room t good at there l loads
+
+        module _ (o : Bool) (tested : o ≡ test 0) where
+          empty : badOf b views os k close 0 ≡ o
+          unfolding badOf
+          empty = bad-none _ (piecesOf os) ∙ ap (λ f. f 0) (sym same) ∙ sym tested
+
+          pub judged-without : o ≡ true → Refused 20 ≡ answer
+          judged-without e = sym (without b views os k close latency late last some-late few (sym twice ∙ once) (empty ∙ e))
+
+          module _ (fine : o ≡ false) (a : Bool) (found : a ≡ some (ltb maxCapacity) (p .capacity)) where
+            above : some (ltb maxCapacity) (roomOf b views os k latency) ≡ a
+            unfolding roomOf
+            above = sym (held-above (largest b k + latency) os p is few) ∙ sym found
+
+            pub judged-roomy : a ≡ true → Refused 21 ≡ answer
+            judged-roomy e = sym (too-roomy b views os k close latency late last some-late few (sym twice ∙ once) (empty ∙ fine) (above ∙ e))
+
+            module _ (within : a ≡ false) (uses : ℕ) (packed : uses ≡ mostUses (bad test (piecesIn p)) (capacity (p .capacity))) where
+              small : (i : ℕ) → i < maxOverloads → capacity (p .capacity) i ≤ maxCapacity
+              small i h = ltb-false maxCapacity _ (some-at (ltb maxCapacity) (p .capacity) i 0 (sym found ∙ within) (omega (arith, judged-size)))
+
+              pub judged-fits : late * uses ≤ maxActivations * (maxOverloads * maxCapacity)
+              judged-fits =
+                  let u : uses ≤ maxOverloads * maxCapacity = omega (arith, packed, most-bound (bad test (piecesIn p)) (capacity (p .capacity)) maxCapacity small) in
+                  mul-le-mul (asked .count) u
+
+              pub judged-misses : Misses (late * uses) ≡ answer
+              unfolding badOf roomOf
+              judged-misses =
+                  ap (λ n. Misses (late * n))
+                  (packed ∙ most-same (bad test (piecesIn p)) (badOf b views os k close) (capacity (p .capacity)) (λ i. getD (roomOf b views os k latency) i 0)
+                  (λ m s h. ap₂ (λ f ps. bad f ps m) same (held-pieces (largest b k + latency) os p is few))
+                  (held-room (largest b k + latency) os p is few (above ∙ within)))
+                  ∙ sym (packs b views os k close latency late last some-late few (sym twice ∙ once) (empty ∙ fine) (above ∙ within))

@@ -1,0 +1,51 @@
+-- The flags are those of the bad sets: each price is what its set costs, and the lowest bad cost tells which are bad.
+use mathlib.Core.Path.{_≡_, refl, _∙_}
+use native.Mathlib.Omega.{arith}
+use borrow.Author.Needs.{needs}
+use Rattle.packing.specs.Most.{flagged, capacity}
+use Rattle.packing.proofs.Laws.{most-same}
+use Rattle.windows.specs.Load.{ownOf, demandIn}
+use Rattle.misses.specs.Bad.{over, bad}
+use Rattle.misses.specs.Held.{piecesIn}
+use Rattle.misses.proofs.Packs.{price-within, flags-bad}
+use Rattle.misses.proofs.asking.packed.Statement.{statement}
+use Rattle.misses.proofs.asking.packed.Tie as tie
+
+prices-requires : tie.Need-prices-requires
+prices-requires c κs = search needs
+
+lowest-bad-requires : tie.Need-lowest-bad-requires
+lowest-bad-requires c κs =
+    let s = c .before .before .before in
+    let p = s .args .p in (
+      s .pre .0,
+      s .pre .1,
+      s .pre .2,
+      s .pre .3,
+      s .pre .4,
+      λ m h. omega (arith, c .before .prices .ensures m h, price-within (p .chain) (p .segment) (p .cost) (p .count) m (s .pre .5 .cheap) (s .pre .5 .few)),
+    )
+
+flags-requires : tie.Need-flags-requires
+flags-requires c κs = search needs
+
+most-uses-requires : tie.Need-most-uses-requires
+most-uses-requires c κs = search needs
+
+returns : tie.Need-returns
+returns c =
+    let s = c .before .before .before .before .before .before .before .before .before in
+    let a = s .args in
+    let test = over (demandIn (a .l)) (ownOf (a .l)) (a .deadline) (a .k) in
+    let flags = c .before .before .before .flags in
+    let lowest = c .before .before .before .before .before .lowest-bad in
+    let prices = c .before .before .before .before .before .before .before .prices in
+    c .most-uses .ensures
+    ∙ most-same (flagged (flags .result)) (bad test (piecesIn (a .p))) (capacity (a .p .capacity)) (capacity (a .p .capacity))
+    (λ m some h. flags-bad test (piecesIn (a .p)) (s .pre .4) (prices .result) (flags .result) (lowest .result) (prices .ensures) (lowest .ensures) (flags .ensures) m h)
+    (λ i h. refl)
+
+pub packed-spec : {M : Type 1} → statement M
+packed-spec =
+    tie.close
+    (tie.spec prices-requires lowest-bad-requires flags-requires most-uses-requires returns)
