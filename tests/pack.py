@@ -10,6 +10,7 @@ table's length (2 bytes), the table. The kinds and their six numbers, 0 where on
   0 reading   none; the number is 0 for an accepted table, else its refusal
   1 segment   chain, against, number, offset, length
   2 latency   id, K, latency, late, margin + 10,000,000
+  3 misses    id, k, misses
 
 Each different table of any file gives a case of kind 0. Its verdict is worked out here, by a reader written from document 01,
 and held against what the case says. Cases of refusal 27 speak of the answer buffer, which these queries do not have. After
@@ -202,11 +203,21 @@ def latencies(folder):
             for table, ident, number, k, latency, late, margin in figures + LATENCIES]
 
 
+# (table, id, k, misses): the sample's and the case study's
+MISSES = [(SAMPLE, 1, 1, 3), (SAMPLE, 1, 10, 3), (SAMPLE, 1, 11, 4), (STUDY, 3, 3, 3)]
+
+
+def misses(folder):
+    return ([packed(3, case["rc"], [case["id"], case["k"]] + after(case)[:1], bytes.fromhex(case["table"]))
+             for case in cases(folder, "misses") if case["rc"] != 27]
+            + [packed(3, 0, [ident, k, missed], table) for table, ident, k, missed in MISSES])
+
+
 def main():
     if len(sys.argv) != 3:
         sys.exit(__doc__)
     folder = sys.argv[2]
-    everything = readings(folder) + segments(folder) + latencies(folder)
+    everything = readings(folder) + segments(folder) + latencies(folder) + misses(folder)
     with open(sys.argv[1], "wb") as out:
         out.write(b"".join(everything))
     print(f"{len(everything)} cases")

@@ -3,6 +3,7 @@
 ghost use mathlib.Core.Path.{_≡_};
 ghost use lib.IntN.{ℤ};
 ghost use Rattle.windows.specs.Latency as latency;
+ghost use Rattle.misses.specs.Misses as miss;
 ghost use Rattle.segments.specs.Query as segment;
 ghost use Rattle.saving.specs.Save as save;
 ghost use Rattle.editor.specs.Entry.{unsigned as unsignedOf, latencyFigures, Answered, Stored};
@@ -42,6 +43,23 @@ pub extern "C" fn mishtodran_latency(table: &[u8], id: u32, answer: &mut [u8]) -
             0
         }
         windows::Answer::Refused(n) => n,
+    }
+}
+
+// How many deadlines a chain misses at most in a run of k activations.
+#[no_mangle]
+pub extern "C" fn mishtodran_misses(table: &[u8], id: u32, k: u32, answer: &mut [u8]) -> u32
+    ensures { λ r. ⌜ Answered 1 (miss.numberOf (miss.missesOf (now (table .entry)) id k)) (miss.valuesOf (miss.missesOf (now (table .entry)) id k)) (now (answer .entry)) (now (answer .exit)) r ⌝ }
+{
+    if answer.len() < 4 {
+        return 27;
+    }
+    match misses::misses(table, id, k) {
+        misses::Answer::Misses(n) => {
+            put_u32(answer, 0, n);
+            0
+        }
+        misses::Answer::Refused(n) => n,
     }
 }
 

@@ -106,12 +106,22 @@ fn latency_right(s: &[u8], c: Case) -> bool {
     }
 }
 
+// The misses of the chain `values[0]` in a run of `values[1]` activations.
+fn misses_right(s: &[u8], c: Case) -> bool {
+    let answer = misses::misses(s, c.values[0], c.values[1]);
+    match answer {
+        misses::Answer::Misses(n) => c.number == 0 && n == c.values[2],
+        misses::Answer::Refused(n) => n == c.number,
+    }
+}
+
 fn right(s: &[u8], c: Case) -> bool {
     let kind = c.kind;
     match kind {
         0 => reading_right(s, c),
         1 => segment_right(s, c),
         2 => latency_right(s, c),
+        3 => misses_right(s, c),
         _ => false,
     }
 }
