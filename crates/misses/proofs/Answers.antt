@@ -1,13 +1,11 @@
 -- What the miss query answers, case by case, in the order of 01. Assumes nothing.
-use Prim.Native.Nat.{ℕ, zero, suc, _+_, _*_, _≤_, _<_}
+use Prim.Native.Nat.{ℕ, zero, suc, _*_, _≤_, _<_}
 use mathlib.Core.Path.{_≡_, refl, ap, sym, _∙_}
-use mathlib.Core.Bool.{Bool, true, false, not, _||_}
+use mathlib.Core.Bool.{true, false, not}
 use mathlib.Core.List.{List}
-use native.Mathlib.Omega.{arith}
-use lib.Dec.{eqb, ltb}
+use lib.Dec.{ltb}
 use lib.ListN.{length, getD}
 use borrow.Author.Tests.{lt-ltb, le-ltb, eq-eqb, ne-eqb}
-use Rattle.search.specs.Choice.{_when_else_}
 use Rattle.search.proofs.Choice.{when-yes, when-no}
 use Rattle.table.specs.Limits.{maxRun, maxOverloads, maxCapacity}
 use Rattle.table.specs.Fault.{outside}
@@ -16,7 +14,6 @@ use Rattle.table.specs.Read.{readTable}
 use Rattle.table.specs.declared.Row.{Row}
 use Rattle.table.specs.declared.Table.{Table}
 use Rattle.table.specs.declared.Verdict.the-variants.{Accepted, Refused as Faulty}
-use Rattle.arrivals.specs.Arrivals.{η}
 use Rattle.segments.specs.View.{View}
 use Rattle.windows.specs.Demand.{others, othersOf}
 use Rattle.windows.specs.Latency.{boundOf}
@@ -51,18 +48,18 @@ module _ (b : Row) (views : List View) (os : List Overload) (k close latency lat
       starts-again e = when-no _ _ (ne-eqb late 0 some-late) ∙ when-no _ _ (le-ltb maxOverloads _ few) ∙ when-yes _ _ e
 
       module _ (once : some (starts last) os ≡ false) where
-        pub without : badOf b views os k close 0 ≡ true → answer ≡ Refused 20
+        pub without : badOf b views os close 0 ≡ true → answer ≡ Refused 20
         unfolding byFigures
         without e = when-no _ _ (ne-eqb late 0 some-late) ∙ when-no _ _ (le-ltb maxOverloads _ few) ∙ when-no _ _ once ∙ when-yes _ _ e
 
-        module _ (fine : badOf b views os k close 0 ≡ false) where
-          pub too-roomy : some (ltb maxCapacity) (roomOf b views os k latency) ≡ true → answer ≡ Refused 21
+        module _ (fine : badOf b views os close 0 ≡ false) where
+          pub too-roomy : some (ltb maxCapacity) (roomOf b os k latency) ≡ true → answer ≡ Refused 21
           unfolding byFigures
           too-roomy e =
               when-no _ _ (ne-eqb late 0 some-late) ∙ when-no _ _ (le-ltb maxOverloads _ few) ∙ when-no _ _ once ∙ when-no _ _ fine ∙ when-yes _ _ e
 
-          pub packs : some (ltb maxCapacity) (roomOf b views os k latency) ≡ false
-              → answer ≡ Misses (late * mostUses (badOf b views os k close) (λ i. getD (roomOf b views os k latency) i 0))
+          pub packs : some (ltb maxCapacity) (roomOf b os k latency) ≡ false
+              → answer ≡ Misses (late * mostUses (badOf b views os close) (λ i. getD (roomOf b os k latency) i 0))
           unfolding byFigures
           packs e =
               when-no _ _ (ne-eqb late 0 some-late) ∙ when-no _ _ (le-ltb maxOverloads _ few) ∙ when-no _ _ once ∙ when-no _ _ fine ∙ when-no _ _ e

@@ -1,6 +1,6 @@
 -- A combination costs no more than the overload chains' terms add in any t from 1 on: of each chain it has active segments of one
 -- segment, and that costs no more than the dearest. Assumes nothing.
-use Prim.Native.Nat.{ℕ, zero, suc, _+_, _*_, _/_, _%_, _^_, _≤_, _<_, max}
+use Prim.Native.Nat.{ℕ, suc, _+_, _/_, _%_, _^_, _≤_, _<_}
 use mathlib.Core.Path.{_≡_, refl, ap, ap₂, sym, subst, _∙_}
 use mathlib.Core.Bool.{Bool, true, false, _&&_}
 use mathlib.Core.List.{List, [], _∷_, _++_, map}
@@ -13,22 +13,22 @@ use lib.Pow.{shr-shr}
 use borrow.Author.Tests.{eq-eqb, ne-eqb, eqb-true}
 use Rattle.search.specs.Choice.{_when_else_}
 use Rattle.search.specs.Lists.{sumOf, mostOf, All}
-use Rattle.search.proofs.Choice.{when-yes, when-no, when-cases, true-not-false}
-use Rattle.search.proofs.Lists.{sum-append, sum-ext, perm-sum}
+use Rattle.search.proofs.Choice.{when-yes, when-no, when-cases}
+use Rattle.search.proofs.Lists.{sum-append, perm-sum}
 use Rattle.table.specs.Good.{GoodRow}
 use Rattle.table.specs.declared.Row.{Row}
-use Rattle.arrivals.specs.Arrivals.{GoodDistances, η}
+use Rattle.arrivals.specs.Arrivals.{GoodDistances}
 use Rattle.arrivals.proofs.Counts.{η-some}
 use Rattle.arrivals.proofs.Rows.{good-distances}
 use Rattle.segments.specs.Combination.{Item, item, itemsOf}
 use Rattle.segments.specs.View.{View, viewOf, sum, allOf, dearestOf}
 use Rattle.segments.proofs.Lists.{sum-map, most-sum}
 use Rattle.segments.proofs.Order.{items}
-use Rattle.segments.proofs.Renaming.{rename, Renamed, to-view}
+use Rattle.segments.proofs.Renaming.{rename, to-view}
 use Rattle.segments.proofs.Views.{view-list, view-overload}
 use Rattle.windows.specs.Demand.{asynchronous, termOf, typical}
 use Rattle.misses.specs.Tests.{every}
-use Rattle.misses.specs.Overloads.{Overload, overload, overloads, Piece, piece, piecesFrom, piecesOf}
+use Rattle.misses.specs.Overloads.{Overload, overload, overloads, Piece, piece, piecesFrom}
 use Rattle.misses.specs.Sets.{members, agree, together, costOf}
 use Rattle.misses.proofs.Bools.{and-left, and-right}
 

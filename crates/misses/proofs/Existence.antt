@@ -1,35 +1,33 @@
 -- Where 16 and 17 have passed: every window up to K is there, and so is that of every combination, and it is no longer. Assumes nothing.
-use Prim.Native.Nat.{ℕ, zero, suc, _+_, _-_, _≤_, _<_}
+use Prim.Native.Nat.{ℕ, zero, suc, _+_, _≤_}
 use mathlib.Core.Path.{_≡_, refl, ap, sym, subst, _∙_}
-use mathlib.Core.Bool.{Bool, true, false, _&&_}
+use mathlib.Core.Bool.{true, false}
 use mathlib.Core.List.{List, map}
 use mathlib.Core.Logic.{⊎-elim}
 use native.Mathlib.Omega.{arith}
-use native.Mathlib.Nat.{eq-or-lt-of-le, le-refl, le-trans, le-of-eq, max-le}
+use native.Mathlib.Nat.{eq-or-lt-of-le, le-refl, le-trans, le-of-eq}
 use lib.Dec.{ltb}
 use lib.IntN.{ℤ}
 use borrow.Author.Tests.{ltb-false}
-use Rattle.search.specs.Choice.{_when_else_}
-use Rattle.search.specs.Find.{first}
 use Rattle.search.specs.Lists.{sumOf, mostOf, All}
-use Rattle.search.proofs.Choice.{when-no, when-cases, true-not-false, lt-or-le}
+use Rattle.search.proofs.Choice.{when-cases, true-not-false}
 use Rattle.search.proofs.Find.{first-ge, first-miss}
 use Rattle.table.specs.Limits.{horizon, maxActivations}
 use Rattle.table.specs.Good.{GoodRow}
 use Rattle.table.specs.declared.Row.{Row}
-use Rattle.arrivals.specs.Arrivals.{distances, δ}
+use Rattle.arrivals.specs.Arrivals.{δ}
 use Rattle.segments.specs.View.{View, viewOf}
 use Rattle.windows.specs.Window.{windowOf}
-use Rattle.windows.specs.Demand.{termOf, demandOf, typical}
+use Rattle.windows.specs.Demand.{demandOf, typical}
 use Rattle.windows.specs.Latency.{long, ends, closeOf, latencyAt, upTo, latencyTo, lateTo, marginOf, refusal, endsWith, windowsOf}
 use Rattle.windows.specs.declared.Window.{Window}
 use Rattle.windows.specs.declared.Window.the-variants.{At, Nothing}
 use Rattle.windows.specs.declared.Windows.{Windows}
 use Rattle.windows.specs.declared.Answer.the-variants.{Figures, Refused}
 use Rattle.windows.proofs.Least.{window-at, window-fits}
-use Rattle.windows.proofs.Growth.{Growing, Paced, demand-growing}
+use Rattle.windows.proofs.Growth.{Paced, demand-growing}
 use Rattle.misses.specs.Overloads.{overloads, piecesOf}
-use Rattle.misses.specs.Sets.{members, together, allowed, costOf}
+use Rattle.misses.specs.Sets.{members, allowed, costOf}
 use Rattle.misses.specs.Bad.{withCost}
 use Rattle.misses.proofs.Sweeps.{cost-growing}
 use Rattle.misses.proofs.Prices.{allowed-together}

@@ -1,9 +1,8 @@
 -- What nothing refused before the figures says of them: they are within their limits. Assumes nothing.
-use Prim.Native.Nat.{ℕ, _≤_}
+use Prim.Native.Nat.{ℕ}
 use mathlib.Core.Path.{_≡_, ap, sym, _∙_}
 use mathlib.Core.List.{List}
 use native.Mathlib.Omega.{arith}
-use native.Mathlib.Nat.{le-trans}
 use borrow.Author.Tests.{eqb-true, not-false, ltb-false}
 use lib.IntN.{ℤ}
 use Rattle.table.specs.Limits.{maxRun}

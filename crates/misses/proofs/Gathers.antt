@@ -1,5 +1,5 @@
 -- The active segments of the overload chains, gathered one by one and chain by chain. Assumes nothing.
-use Prim.Native.Nat.{ℕ, zero, suc, _+_, _*_, _≤_, _<_, min}
+use Prim.Native.Nat.{ℕ, suc, _+_, _*_, _≤_, _<_, min}
 use mathlib.Core.Path.{_≡_, refl, ap, ap₂, sym, _∙_}
 use mathlib.Core.List.{List, [], _∷_, _++_, append-assoc, append-nil, map, map-append, map-map}
 use mathlib.Core.Bool.{Bool, true, false}
@@ -11,15 +11,15 @@ use lib.ListN.{length, getD, take, set, length-append, length-map}
 use lib.Seq.{take-suc, take-all, getD-take, take-take, length-take-le}
 use Rattle.search.specs.Choice.{_when_else_}
 use Rattle.search.proofs.Choice.{when-yes, when-no}
-use Rattle.table.specs.Limits.{maxTasks, maxOverloads, maxCapacity}
+use Rattle.table.specs.Limits.{maxTasks, maxCapacity}
 use Rattle.table.specs.Find.{none, rowOf, rows}
-use Rattle.table.specs.Good.{GoodRow, GoodTable}
+use Rattle.table.specs.Good.{GoodTable}
 use Rattle.table.specs.declared.Row.{Row}
 use Rattle.table.specs.declared.Table.{Table}
 use Rattle.arrivals.specs.Arrivals.{distances, η}
 use Rattle.segments.specs.Actives.{Active, nothing, activesOf}
 use Rattle.segments.specs.Held.{arraysOf}
-use Rattle.segments.specs.Combination.{Item, itemOf, itemsOf}
+use Rattle.segments.specs.Combination.{itemOf, itemsOf}
 use Rattle.segments.specs.declared.Actives.{Actives}
 use Rattle.segments.proofs.Standing.{array-at}
 use Rattle.segments.proofs.Bounds.{actives-few}

@@ -1,8 +1,8 @@
 -- The active segments gathered, where there are six or fewer: they are all held, with their capacities. Assumes nothing.
-use Prim.Native.Nat.{ℕ, zero, suc, _+_, _*_, _-_, _≤_, _<_, min}
-use mathlib.Core.Path.{_≡_, refl, ap, ap₂, sym, subst, _∙_}
-use mathlib.Core.Bool.{Bool, true, false, _||_, or-false}
-use mathlib.Core.List.{List, [], _∷_, _++_, map, map-map}
+use Prim.Native.Nat.{ℕ, zero, suc, _+_, _-_, _≤_, _<_, min}
+use mathlib.Core.Path.{_≡_, refl, ap, ap₂, sym, _∙_}
+use mathlib.Core.Bool.{false, _||_, or-false}
+use mathlib.Core.List.{List, [], _∷_, _++_, map}
 use mathlib.Core.Logic.{⊎-elim}
 use native.Mathlib.Omega.{arith}
 use native.Mathlib.Nat.{le-trans}
@@ -20,11 +20,11 @@ use Rattle.table.specs.Good.{GoodRow, GoodTable}
 use Rattle.table.specs.declared.Row.{Row}
 use Rattle.table.specs.declared.Table.{Table}
 use Rattle.segments.specs.Actives.{Active, activesOf}
-use Rattle.segments.specs.Combination.{Item, itemOf, itemsOf}
+use Rattle.segments.specs.Combination.{itemOf, itemsOf}
 use Rattle.segments.proofs.Bounds.{actives-each, all-max}
 use Rattle.windows.specs.Demand.{others}
 use Rattle.misses.specs.Tests.{some}
-use Rattle.misses.specs.Overloads.{Overload, overload, overloads, Piece, piece, piecesFrom, piecesOf, capacitiesOf}
+use Rattle.misses.specs.Overloads.{Overload, overloads, Piece, piece, piecesFrom, piecesOf, capacitiesOf}
 use Rattle.misses.specs.Held.{six, gathered, pieceAt, piecesAt, piecesIn, dearest, Few}
 use Rattle.misses.specs.declared.Pieces.{Pieces}
 use Rattle.misses.proofs.Bools.{some-append, some-at}

@@ -1,6 +1,6 @@
 -- The figures judged test by test, each as the code works it out: every answer is the definition's. Assumes nothing.
 use Prim.Native.Nat.{ℕ, _+_, _*_, _-_, _≤_, _<_}
-use mathlib.Core.Path.{_≡_, refl, ap, ap₂, sym, fun-ext, _∙_}
+use mathlib.Core.Path.{_≡_, ap, ap₂, sym, fun-ext, _∙_}
 use mathlib.Core.Bool.{Bool, true, false}
 use mathlib.Core.List.{List}
 use native.Mathlib.Omega.{arith}
@@ -22,7 +22,7 @@ use Rattle.windows.proofs.Besides.{others-good}
 use Rattle.packing.specs.Most.{mostUses, capacity}
 use Rattle.packing.proofs.Laws.{most-same, most-bound}
 use Rattle.misses.specs.Tests.{some}
-use Rattle.misses.specs.Overloads.{Overload, overloads, piecesOf, capacitiesOf}
+use Rattle.misses.specs.Overloads.{Overload, overloads, piecesOf}
 use Rattle.misses.specs.Bad.{over, bad}
 use Rattle.misses.specs.Misses.{badOf, roomOf, byFigures}
 use Rattle.misses.specs.Held.{gathered, piecesIn, Few, Asked}
@@ -94,7 +94,7 @@ module _ (t : Table) (good : GoodTable t) (at : ℕ) (there : at < t .count) (k 
         judged-room = loads-room t good at there l loads
 
         module _ (o : Bool) (tested : o ≡ test 0) where
-          empty : badOf b views os k close 0 ≡ o
+          empty : badOf b views os close 0 ≡ o
           unfolding badOf
           empty = bad-none _ (piecesOf os) ∙ ap (λ f. f 0) (sym same) ∙ sym tested
 
@@ -102,7 +102,7 @@ module _ (t : Table) (good : GoodTable t) (at : ℕ) (there : at < t .count) (k 
           judged-without e = sym (without b views os k close latency late last some-late few (sym twice ∙ once) (empty ∙ e))
 
           module _ (fine : o ≡ false) (a : Bool) (found : a ≡ some (ltb maxCapacity) (p .capacity)) where
-            above : some (ltb maxCapacity) (roomOf b views os k latency) ≡ a
+            above : some (ltb maxCapacity) (roomOf b os k latency) ≡ a
             unfolding roomOf
             above = sym (held-above (largest b k + latency) os p is few) ∙ sym found
 
@@ -122,7 +122,7 @@ module _ (t : Table) (good : GoodTable t) (at : ℕ) (there : at < t .count) (k 
               unfolding badOf roomOf
               judged-misses =
                   ap (λ n. Misses (late * n))
-                  (packed ∙ most-same (bad test (piecesIn p)) (badOf b views os k close) (capacity (p .capacity)) (λ i. getD (roomOf b views os k latency) i 0)
+                  (packed ∙ most-same (bad test (piecesIn p)) (badOf b views os close) (capacity (p .capacity)) (λ i. getD (roomOf b os k latency) i 0)
                   (λ m s h. ap₂ (λ f ps. bad f ps m) same (held-pieces (largest b k + latency) os p is few))
                   (held-room (largest b k + latency) os p is few (above ∙ within)))
                   ∙ sym (packs b views os k close latency late last some-late few (sym twice ∙ once) (empty ∙ fine) (above ∙ within))

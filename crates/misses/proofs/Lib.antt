@@ -14,4 +14,5 @@ pub mod Loading
 pub mod Answers
 pub mod Judging
 pub mod Figures
+pub mod Starred
 pub mod Existence

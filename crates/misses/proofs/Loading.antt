@@ -1,8 +1,8 @@
 -- The load of a chain beside those without overload mark: it gives the demand that a combination's costs are added to. Assumes nothing.
-use Prim.Native.Nat.{ℕ, _+_, _*_, _-_, _≤_, _<_}
-use mathlib.Core.Path.{_≡_, ap, ap₂, sym, fun-ext, _∙_}
-use mathlib.Core.Bool.{Bool, false}
-use mathlib.Core.List.{List, _++_}
+use Prim.Native.Nat.{ℕ, _+_, _≤_, _<_}
+use mathlib.Core.Path.{_≡_, ap, ap₂, fun-ext}
+use mathlib.Core.Bool.{false}
+use mathlib.Core.List.{List}
 use native.Mathlib.Omega.{arith}
 use lib.ListN.{length, length-append}
 use Rattle.table.specs.Find.{rowOf}
@@ -11,7 +11,7 @@ use Rattle.table.specs.declared.Row.{Row}
 use Rattle.table.specs.declared.Table.{Table}
 use Rattle.arrivals.specs.Arrivals.{distances}
 use Rattle.segments.specs.View.{View}
-use Rattle.windows.specs.Demand.{demandOf, typical, othersOf}
+use Rattle.windows.specs.Demand.{demandOf, othersOf}
 use Rattle.windows.specs.Load.{most, ownOf, demandIn, counted, Loads}
 use Rattle.windows.specs.declared.Load.{Load}
 use Rattle.windows.proofs.Besides.{viewsFrom, views-length, views-others}

@@ -1,5 +1,5 @@
 -- The flags that the packing goes by: a set is bad exactly where its price is, once the empty set is not. Assumes nothing.
-use Prim.Native.Nat.{ℕ, zero, suc, _+_, _*_, _^_, _≤_, _<_}
+use Prim.Native.Nat.{ℕ, zero, suc, _+_, _*_, _≤_, _<_}
 use mathlib.Core.Path.{_≡_, refl, ap, sym, _∙_}
 use mathlib.Core.Bool.{Bool, true, false, _&&_}
 use mathlib.Core.List.{List, [], _∷_}
@@ -18,7 +18,7 @@ use Rattle.misses.specs.Sets.{members, together, allowed, costOf}
 use Rattle.misses.specs.Bad.{bad}
 use Rattle.misses.specs.Held.{piecesAt, priceOf, dearest}
 use Rattle.misses.specs.Settling.{beyond, Tells}
-use Rattle.misses.proofs.Prices.{cost-cons, allowed-below, price-allowed, price-none}
+use Rattle.misses.proofs.Prices.{allowed-below, price-allowed, price-none}
 use Rattle.misses.proofs.Covers.{members-sum}
 
 -- no set costs more than six chains can

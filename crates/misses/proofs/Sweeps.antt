@@ -1,15 +1,14 @@
 -- Bad goes by cost: a set that costs more has no shorter windows, so costs only get worse. And the windows of one cost, taken for
 -- q = 1, 2, .. until one is too long. Both go by what a demand has to be. Assumes nothing.
 use Prim.Native.Nat.{ℕ, zero, suc, _+_, _≤_, _<_}
-use mathlib.Core.Path.{_≡_, refl, ap, sym, subst, fun-ext, _∙_}
+use mathlib.Core.Path.{_≡_, refl, ap, sym, fun-ext, _∙_}
 use mathlib.Core.Bool.{Bool, true, false, _||_, or-true}
-use mathlib.Core.List.{List, []}
+use mathlib.Core.List.{List}
 use mathlib.Core.Logic.{⊎-elim}
 use native.Mathlib.Omega.{arith}
 use native.Mathlib.Numerals.{add-one}
 use native.Mathlib.Nat.{eq-or-lt-of-le, le-of-suc-le-suc}
 use borrow.Author.Tests.{lt-ltb, le-ltb, ltb-true}
-use Rattle.search.proofs.Choice.{true-not-false}
 use Rattle.arrivals.specs.Arrivals.{δ}
 use Rattle.windows.specs.Window.{windowOf, Under}
 use Rattle.windows.specs.Latency.{upTo}
@@ -17,7 +16,7 @@ use Rattle.windows.specs.Load.{demandIn, plus}
 use Rattle.windows.specs.declared.Load.{Load}
 use Rattle.windows.specs.declared.Window.{Window}
 use Rattle.windows.specs.declared.Window.the-variants.{At, Nothing}
-use Rattle.windows.proofs.Least.{Grows, under-one, under-lift, window-under, window-less}
+use Rattle.windows.proofs.Least.{under-one, under-lift, window-under, window-less}
 use Rattle.windows.proofs.Growth.{Growing}
 use Rattle.windows.proofs.Joining.{plus-demand}
 use Rattle.misses.specs.Tests.{some}

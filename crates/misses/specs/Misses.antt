@@ -48,16 +48,17 @@ abbrev pub unless : ℕ → Answer → Answer
 unless zero rest = rest
 unless (suc n) rest = Refused (suc n)
 
--- the misses of a chain b in a run of k activations, beside the chains of these views, whose overload chains are `os`
+-- the bad combinations of a chain b beside the chains of these views, whose overload chains are `os`, for q up to `close`, which is
+-- the K of the full analysis
+unfoldable pub badOf : Row → List View → List Overload → ℕ → ℕ → Bool
+badOf b views os close m = bad (over (demandOf b (typical views)) (distances b) (b .deadline) close) (piecesOf os) m
+
+-- capacity of each active segment of a: η_a((k − 1) times b's gap + latency) + 1
+unfoldable pub roomOf : Row → List Overload → ℕ → ℕ → List ℕ
+roomOf b os k latency = capacitiesOf (largest b k + latency) os
+
+-- the misses of b in a run of k activations
 module _ (b : Row) (views : List View) (os : List Overload) (k : ℕ) where
-  -- the bad combinations, where the full analysis closes at `close`, its K
-  unfoldable pub badOf : ℕ → ℕ → Bool
-  badOf close m = bad (over (demandOf b (typical views)) (distances b) (b .deadline) close) (piecesOf os) m
-
-  -- capacity of each active segment of a: η_a((k − 1) times b's gap + latency) + 1
-  unfoldable pub roomOf : ℕ → List ℕ
-  roomOf latency = capacitiesOf (largest b k + latency) os
-
   -- zero late activations answers 0; over 6 overload active segments; any overload chain, with segments or none, may start more
   -- than once in the last window; a miss without any overload; a capacity above 40; else late times the most uses any packing has
   unfoldable pub byFigures : ℕ → ℕ → ℕ → ℕ → Answer
@@ -65,9 +66,9 @@ module _ (b : Row) (views : List View) (os : List Overload) (k : ℕ) where
       Misses 0 when eqb late 0 else
       Refused 18 when ltb maxOverloads (length (piecesOf os)) else
       Refused 19 when some (λ o. ltb 1 (η (o .list) last)) os else
-      Refused 20 when badOf close 0 else
-      Refused 21 when some (ltb maxCapacity) (roomOf latency) else
-      Misses (late * mostUses (badOf close) (λ i. getD (roomOf latency) i 0))
+      Refused 20 when badOf b views os close 0 else
+      Refused 21 when some (ltb maxCapacity) (roomOf b os k latency) else
+      Misses (late * mostUses (badOf b views os close) (λ i. getD (roomOf b os k latency) i 0))
 
   -- 16 or 17, or the figures of the full analysis beside its last window
   abbrev pub byBound : Bound → ℕ → Answer

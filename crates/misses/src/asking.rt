@@ -23,7 +23,7 @@ ghost use Prim.Native.Nat.{ℕ, _+_, _≤_, _<_};
 ghost use lib.Dec.{ltb, leb};
 ghost use lib.ListN.{length, getD};
 ghost use Rattle.search.specs.Choice.{_when_else_};
-ghost use Rattle.table.specs.Limits.{horizon, maxActivations, maxDeadline, maxRun, maxOverloads, maxCapacity};
+ghost use Rattle.table.specs.Limits.{horizon, maxActivations, maxDeadline, maxOverloads, maxCapacity};
 ghost use Rattle.table.specs.Find.{rowOf, rows};
 ghost use Rattle.table.specs.Good.{GoodRow, GoodTable};
 ghost use Rattle.table.specs.declared.Row.{Row};

@@ -1,7 +1,6 @@
 -- η is counted up to 2, which tells whether it is above 1.
-use mathlib.Core.Path.{_≡_, ap, sym, _∙_}
+use mathlib.Core.Path.{sym, _∙_}
 use native.Mathlib.Omega.{arith}
-use Rattle.arrivals.specs.Arrivals.{distances}
 use Rattle.arrivals.proofs.Rows.{listed-fits, distances-length, good-distances}
 use Rattle.misses.proofs.Starts.{above-one, again-none, again-one}
 use Rattle.misses.proofs.asking.again.Statement.{statement}

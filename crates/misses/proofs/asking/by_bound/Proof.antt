@@ -1,5 +1,5 @@
 -- A refusal of the windows refuses the query; figures are judged.
-use mathlib.Core.Path.{_≡_, refl, ap, sym, _∙_}
+use mathlib.Core.Path.{ap, sym, _∙_}
 use borrow.Author.Needs.{needs}
 use Rattle.table.specs.Find.{rowOf}
 use Rattle.windows.specs.Demand.{others, othersOf}

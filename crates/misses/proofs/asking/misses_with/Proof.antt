@@ -1,5 +1,5 @@
 -- What is refused before any window, or what the windows give.
-use mathlib.Core.Path.{_≡_, ap, sym, _∙_}
+use mathlib.Core.Path.{ap, sym, _∙_}
 use native.Mathlib.Omega.{arith}
 use Rattle.table.specs.Find.{rowOf}
 use Rattle.windows.specs.Demand.{others, othersOf}

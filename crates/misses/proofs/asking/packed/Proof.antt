@@ -1,5 +1,5 @@
 -- The flags are those of the bad sets: each price is what its set costs, and the lowest bad cost tells which are bad.
-use mathlib.Core.Path.{_≡_, refl, _∙_}
+use mathlib.Core.Path.{refl, _∙_}
 use native.Mathlib.Omega.{arith}
 use borrow.Author.Needs.{needs}
 use Rattle.packing.specs.Most.{flagged, capacity}

@@ -1,7 +1,6 @@
 -- The loop's invariant: which costs are settled (`Settles`), and an open one, 0 where none is. Each round leaves less room between.
-use Prim.Native.Nat.{ℕ, _-_, _<_}
+use Prim.Native.Nat.{_-_}
 use mathlib.Core.Path.{_≡_, subst}
-use mathlib.Core.Bool.{Bool}
 use native.Mathlib.Omega.{arith}
 use Rattle.windows.specs.Load.{ownOf, demandIn}
 use Rattle.windows.proofs.Growth.{load-growing}

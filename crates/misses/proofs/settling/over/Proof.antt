@@ -1,12 +1,12 @@
 -- The loop's invariant (`Swept`): the windows taken so far are not too long, and the next is not under its start.
-use Prim.Native.Nat.{ℕ, _+_, _-_, _≤_}
+use Prim.Native.Nat.{_+_, _-_, _≤_}
 use mathlib.Core.Path.{_≡_, ap, sym, subst, _∙_}
 use mathlib.Core.Bool.{false}
 use native.Mathlib.Omega.{arith}
 use borrow.Author.Needs.{needs}
 use lib.ListN.{length, take, length-map}
 use lib.Seq.{length-take-le}
-use Rattle.table.specs.Limits.{maxActivations, maxDistances, maxDeadline}
+use Rattle.table.specs.Limits.{maxDistances}
 use Rattle.arrivals.proofs.Distances.{δ-near}
 use Rattle.windows.specs.Window.{windowOf}
 use Rattle.windows.specs.Load.{ownOf, demandIn, Sound}

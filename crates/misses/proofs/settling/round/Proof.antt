@@ -1,9 +1,8 @@
 -- Costs only get worse, so the cost tried settles those on one side of it.
 use Prim.Native.Nat.{ℕ}
-use mathlib.Core.Path.{_≡_, sym, _∙_}
+use mathlib.Core.Path.{sym, _∙_}
 use mathlib.Core.Bool.{Bool}
 use native.Mathlib.Omega.{arith}
-use borrow.Author.Needs.{needs}
 use Rattle.windows.specs.Load.{ownOf, demandIn}
 use Rattle.windows.proofs.Growth.{load-growing}
 use Rattle.misses.specs.Bad.{over}
