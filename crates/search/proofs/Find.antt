@@ -1,6 +1,6 @@
 -- Laws of the two searches, and that there is one greatest and one least. Assumes nothing.
 use Prim.Native.Nat.{ℕ, zero, suc, _+_, _≤_, _<_}
-use mathlib.Core.Path.{_≡_, sym, ap, _∙_}
+use mathlib.Core.Path.{_≡_, refl, sym, ap, _∙_}
 use mathlib.Core.Bool.{Bool, true, false}
 use mathlib.Core.Logic.{⊎-elim}
 use native.Mathlib.Omega.{arith}
@@ -80,3 +80,9 @@ module _ (p : ℕ → Bool) where
   first-none s n none =
       let u : ¬ (first p s n < s + n) = λ h. none (first p s n) (first-ge s n) h (first-hit s n h) in
       omega (arith, first-le s n)
+
+-- tests that agree on all n of them stop at the same
+pub first-same : (p q : ℕ → Bool) (s n : ℕ) → ((k : ℕ) → s ≤ k → k < s + n → p k ≡ q k) → first p s n ≡ first q s n
+unfolding first
+first-same p q s zero h = refl
+first-same p q s (suc n) h = rw (h s (omega arith) (omega arith), first-same p q (suc s) n (λ k a b. h k (omega arith) (omega arith)))

@@ -7,3 +7,4 @@ pub mod Steps
 pub mod Standing
 pub mod Accepted
 pub mod Finds
+pub mod Before

@@ -4,16 +4,17 @@ use crate::Table;
 use crate::bytes::count_at;
 use crate::bytes::u16_at;
 use crate::bytes::u32_at;
-use crate::places::find;
 ghost use mathlib.Core.Path.{_≡_};
 ghost use mathlib.Core.Bool.{_||_};
-ghost use Prim.Native.Nat.{_+_, _*_, _≤_, _<_};
-ghost use lib.ListN.{length};
+ghost use Prim.Native.Nat.{ℕ, _+_, _*_, _≤_, _<_};
+ghost use lib.ListN.{length, getD};
 ghost use lib.Dec.{eqb, ltb};
 ghost use Rattle.table.specs.Limits.{maxChains, maxTasks, maxAllTasks, maxCost};
 ghost use Rattle.table.specs.Bytes.{word};
 ghost use Rattle.table.specs.Record.{every};
-ghost use Rattle.table.specs.Find.{used};
+ghost use Rattle.search.specs.Find.{first};
+ghost use Rattle.table.specs.Find.{used, Before};
+ghost use Rattle.table.specs.declared.Table.{Table};
 ghost use Rattle.table.specs.Fault.{outside as outsideOf, markOf, isTask, headFault, falls as fallsOf, gapShort, listFault, taskFault, tasksFault, chainFault, endFault};
 
 // The mark as a number: `CH`, `TK`, `EN`.
@@ -46,12 +47,27 @@ fn outside(low: u32, high: u32, x: u32) -> bool
     x < low || high < x
 }
 
-// Whether the id is 0 or used earlier.
-fn id_wrong(t: Table, id: u16) -> bool
-    requires { ⌜ t .count ≤ maxChains ⌝ }
-    ensures { λ r. ⌜ r ≡ (eqb id 0 || used t id) ⌝ }
+// The number of the first of `count` ids that is this one, their count if none is.
+fn same_id(ids: &[u16; Table::CHAINS], count: usize, id: u16) -> usize
+    requires { ⌜ count ≤ maxChains ⌝ }
+    ensures { λ r. ⌜ r ≡ first (λ k. eqb (getD (now (ids .entry)) k 0) id) 0 count ⌝ }
 {
-    id == 0 || find(t, id as u32) < t.count
+    let mut k: usize = 0;
+    while k < count {
+        if ids[k] == id {
+            return k;
+        }
+        k += 1;
+    }
+    k
+}
+
+// Whether the id is 0 or used earlier.
+fn id_wrong(ids: &[u16; Table::CHAINS], count: usize, id: u16) -> bool
+    requires { ⌜ count ≤ maxChains ⌝ }
+    ensures { λ r. ⌜ ((t : Table) (tasks : ℕ) → Before t (now (ids .entry)) count tasks → r ≡ (eqb id 0 || used t id)) ⌝ }
+{
+    id == 0 || same_id(ids, count, id) < count
 }
 
 // Whether the kind or the overload byte is above 1.
@@ -69,12 +85,12 @@ fn tasks_wrong(tasks: usize, before: usize) -> bool
     outside(1, Table::TASKS as u32, tasks as u32) || Table::ALL_TASKS < before + tasks
 }
 
-// 4 to 9: the fixed part of the chain record at `at`, after the rows of t.
-fn head_fault(s: &[u8], at: usize, t: Table) -> u32
-    requires { ⌜ (at + 16 ≤ length (now s)) × (t .count ≤ maxChains) × (t .tasks ≤ maxAllTasks) ⌝ }
-    ensures { λ r. ⌜ r ≡ headFault (now (s .entry)) at t ⌝ }
+// 4 to 9: the fixed part of the chain record at `at`, after chains with these ids and so many tasks.
+fn head_fault(s: &[u8], at: usize, ids: &[u16; Table::CHAINS], count: usize, tasks: usize) -> u32
+    requires { ⌜ (at + 16 ≤ length (now s)) × (count ≤ maxChains) × (tasks ≤ maxAllTasks) ⌝ }
+    ensures { λ r. ⌜ ((t : Table) → Before t (now (ids .entry)) count tasks → r ≡ headFault (now (s .entry)) at t) ⌝ }
 {
-    if id_wrong(t, u16_at(s, at + 2)) {
+    if id_wrong(ids, count, u16_at(s, at + 2)) {
         return 4;
     }
     if bytes_wrong(s[at + 4], s[at + 5]) {
@@ -89,7 +105,7 @@ fn head_fault(s: &[u8], at: usize, t: Table) -> u32
     if outside(1, Table::DISTANCES as u32, count_at(s, at + 14) as u32) {
         return 8;
     }
-    if tasks_wrong(count_at(s, at + 15), t.tasks) {
+    if tasks_wrong(count_at(s, at + 15), tasks) {
         return 9;
     }
     0
@@ -192,15 +208,21 @@ fn tasks_fault(s: &[u8], at: usize, n: usize) -> u32
     0
 }
 
-// The first fault of the chain record at `at`, its mark known, after the rows of t.
-pub fn chain_fault(s: &[u8], at: usize, t: Table) -> u32
-    requires { ⌜ (at < 2048) × (t .count ≤ maxChains) × (t .tasks ≤ maxAllTasks) ⌝ }
-    ensures { λ r. ⌜ r ≡ chainFault (now (s .entry)) at t ⌝ }
+// The first fault of the chain record at `at`, its mark known, after chains with these ids and so many tasks.
+pub fn chain_fault(
+    s: &[u8],
+    at: usize,
+    ids: &[u16; Table::CHAINS],
+    count: usize,
+    tasks: usize,
+) -> u32
+    requires { ⌜ (at < 2048) × (count ≤ maxChains) × (tasks ≤ maxAllTasks) ⌝ }
+    ensures { λ r. ⌜ ((t : Table) → Before t (now (ids .entry)) count tasks → r ≡ chainFault (now (s .entry)) at t) ⌝ }
 {
     if s.len() < at + 16 {
         return 2;
     }
-    let head = head_fault(s, at, t);
+    let head = head_fault(s, at, ids, count, tasks);
     if head != 0 {
         return head;
     }
@@ -216,18 +238,18 @@ pub fn chain_fault(s: &[u8], at: usize, t: Table) -> u32
     tasks_fault(s, first, count_at(s, at + 15))
 }
 
-// The fault of the end record at `at`, its mark known, after the rows of t.
-pub fn end_fault(s: &[u8], at: usize, t: Table) -> u32
+// The fault of the end record at `at`, its mark known, after so many chains.
+pub fn end_fault(s: &[u8], at: usize, count: usize) -> u32
     requires { ⌜ at + 2 ≤ length (now s) ⌝ }
-    ensures { λ r. ⌜ r ≡ endFault (now (s .entry)) at t ⌝ }
+    ensures { λ r. ⌜ ((t : Table) → t .count ≡ count → r ≡ endFault (now (s .entry)) at t) ⌝ }
 {
     if s.len() < at + 4 {
         return 2;
     }
-    if t.count == 0 {
+    if count == 0 {
         return 11;
     }
-    if u16_at(s, at + 2) as usize != t.count {
+    if u16_at(s, at + 2) as usize != count {
         return 11;
     }
     if s.len() != at + 4 {

@@ -2,7 +2,7 @@
 ghost use mathlib.Core.Path.{_≡_};
 ghost use Prim.Native.Nat.{_+_, _≤_, _<_};
 ghost use Rattle.table.specs.Limits.{maxChains, maxTasks, maxAllTasks, maxDistances};
-ghost use Rattle.table.specs.Read.{plus};
+ghost use Rattle.table.specs.Read.{blank as blankRow, empty as emptyTable};
 ghost use Rattle.table.specs.Place.{size as sizeOf};
 
 mod bytes;
@@ -81,7 +81,7 @@ pub enum Mark {
 
 impl Row {
     pub fn blank() -> Self
-        ensures { λ r. ⌜ r ≡ Rattle.table.specs.Read.blank ⌝ }
+        ensures { λ r. ⌜ r ≡ blankRow ⌝ }
     {
         Row {
             id: 0,
@@ -162,7 +162,7 @@ impl Table {
 
     // The table without a chain.
     pub fn empty() -> Self
-        ensures { λ r. ⌜ r ≡ Rattle.table.specs.Read.empty ⌝ }
+        ensures { λ r. ⌜ r ≡ emptyTable ⌝ }
     {
         let blank = Row::blank();
         Table {
@@ -170,18 +170,5 @@ impl Table {
             tasks: 0,
             row: [blank; Table::CHAINS],
         }
-    }
-
-    // One row more.
-    pub fn with(mut self, r: Row) -> Self
-        requires { ⌜ (self .count < maxChains) × (self .tasks + r .tasks ≤ maxAllTasks) ⌝ }
-        ensures { λ t. ⌜ t ≡ plus self r ⌝ }
-    {
-        let at = self.count;
-        let more = r.tasks;
-        self.row[at] = r;
-        self.count = at + 1;
-        self.tasks = self.tasks + more;
-        self
     }
 }

@@ -33,6 +33,7 @@ pub fn read(s: &[u8]) -> Reading
     ensures { λ r. ⌜ r ≡ readTable (now (s .entry)) ⌝ }
 {
     let mut t = Table::empty();
+    let mut ids = [0u16; Table::CHAINS];
     if s.len() == 0 || Table::BYTES < s.len() {
         return concluded(1, t);
     }
@@ -40,19 +41,23 @@ pub fn read(s: &[u8]) -> Reading
     while at + 2 <= s.len() {
         match mark_of(u16_at(s, at)) {
             Mark::Chain => {
-                if t.count == Table::CHAINS {
+                let n = t.count;
+                if n == Table::CHAINS {
                     return concluded(11, t);
                 }
-                let fault = chain_fault(s, at, t);
+                let fault = chain_fault(s, at, &ids, n, t.tasks);
                 if fault != 0 {
                     return concluded(fault, t);
                 }
                 let r = row_at(s, at);
                 at = at + record_length(s, at);
-                t = t.with(r);
+                ids[n] = r.id;
+                t.tasks = t.tasks + r.tasks;
+                t.count = n + 1;
+                t.row[n] = r;
             }
             Mark::End => {
-                return concluded(end_fault(s, at, t), t);
+                return concluded(end_fault(s, at, t.count), t);
             }
             Mark::Task => {
                 return concluded(3, t);

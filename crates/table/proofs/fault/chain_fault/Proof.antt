@@ -5,6 +5,7 @@ use borrow.Author.Tests.{lt-ltb, le-ltb}
 use Rattle.search.specs.Choice.{_when_else_}
 use Rattle.table.specs.Fault.{_then_, chainFault}
 use Rattle.table.proofs.Firsts.{then-stop}
+use Rattle.table.proofs.Before.{tableBefore, table-before}
 use Rattle.table.proofs.Faultless.{head-right}
 use borrow.Author.Needs.{needs}
 use native.Mathlib.Omega.{arith}
@@ -16,14 +17,14 @@ add-if1 c = search needs
 
 returns : tie.Need-returns
 unfolding chainFault _when_else_ _then_
-returns c = rw (lt-ltb _ _ (c .if1 .taken))
+returns c t before = rw (lt-ltb _ _ (c .if1 .taken))
 
 head-fault-requires : tie.Need-head-fault-requires
 head-fault-requires c κs = search needs
 
 returns-2 : tie.Need-returns-2
 unfolding chainFault _when_else_ _then_
-returns-2 c = rw (le-ltb _ _ (c .before .before .if1 .left), ← c .before .head-fault .ensures) (sym (then-stop _ _ (c .if2 .taken)))
+returns-2 c t before = rw (le-ltb _ _ (c .before .before .if1 .left), ← c .before .head-fault .ensures t before) (sym (then-stop _ _ (c .if2 .taken)))
 
 add-count-at : tie.Need-add-count-at
 add-count-at c = search needs
@@ -42,7 +43,7 @@ add-first-2 c = search needs
 
 returns-3 : tie.Need-returns-3
 unfolding chainFault _when_else_ _then_
-returns-3 c = rw (le-ltb _ _ (c .before .before .before .before .if1 .left), ← c .before .before .before .head-fault .ensures, c .before .before .if2 .left, ← c .before .count-at .ensures .0, lt-ltb _ _ (c .if3 .taken))
+returns-3 c t before = rw (le-ltb _ _ (c .before .before .before .before .if1 .left), ← c .before .before .before .head-fault .ensures t before, c .before .before .if2 .left, ← c .before .count-at .ensures .0, lt-ltb _ _ (c .if3 .taken))
 
 add-list-fault : tie.Need-add-list-fault
 add-list-fault c = search needs
@@ -54,12 +55,14 @@ u32-at-requires : tie.Need-u32-at-requires
 u32-at-requires c κs = search needs
 
 list-fault-requires : tie.Need-list-fault-requires
-list-fault-requires c κs = let h = head-right (now (c .before .before .before .before .before .before .before .args .s)) (c .before .before .before .before .before .before .before .args .at) (c .before .before .before .before .before .before .before .args .t) (sym (c .before .before .before .before .head-fault .ensures) ∙ c .before .before .before .if2 .left) in
+list-fault-requires c κs = let a = c .before .before .before .before .before .before .before .args in
+    let h = head-right (now (a .s)) (a .at) (tableBefore (now (a .ids)) (a .count) (a .tasks))
+    (sym (c .before .before .before .before .head-fault .ensures _ (table-before _ _ _)) ∙ c .before .before .before .if2 .left) in
     (omega (arith, h .listed .0, c .before .before .count-at .ensures .0), search needs, search needs)
 
 returns-4 : tie.Need-returns-4
 unfolding chainFault _when_else_ _then_
-returns-4 c = rw (le-ltb _ _ (c .before .before .before .before .before .before .before .if1 .left), ← c .before .before .before .before .before .before .head-fault .ensures, c .before .before .before .before .before .if2 .left, ← c .before .before .before .before .count-at .ensures .0, le-ltb _ _ (c .before .before .before .if3 .left), ← c .before .before .u32-at .ensures, ← c .before .list-fault .ensures) (sym (then-stop _ _ (c .if4 .taken)))
+returns-4 c t before = rw (le-ltb _ _ (c .before .before .before .before .before .before .before .if1 .left), ← c .before .before .before .before .before .before .head-fault .ensures t before, c .before .before .before .before .before .if2 .left, ← c .before .before .before .before .count-at .ensures .0, le-ltb _ _ (c .before .before .before .if3 .left), ← c .before .before .u32-at .ensures, ← c .before .list-fault .ensures) (sym (then-stop _ _ (c .if4 .taken)))
 
 add-count-at-2 : tie.Need-add-count-at-2
 add-count-at-2 c = search needs
@@ -72,7 +75,7 @@ tasks-fault-requires c κs = search needs
 
 returns-5 : tie.Need-returns-5
 unfolding chainFault _when_else_ _then_
-returns-5 c = rw (le-ltb _ _ (c .before .before .before .before .before .before .before .before .before .if1 .left), ← c .before .before .before .before .before .before .before .before .head-fault .ensures, c .before .before .before .before .before .before .before .if2 .left, ← c .before .before .before .before .before .before .count-at .ensures .0, le-ltb _ _ (c .before .before .before .before .before .if3 .left), ← c .before .before .before .before .u32-at .ensures, ← c .before .before .before .list-fault .ensures, c .before .before .if4 .left, ← c .before .count-at2 .ensures .0, ← c .tasks-fault .ensures)
+returns-5 c t before = rw (le-ltb _ _ (c .before .before .before .before .before .before .before .before .before .if1 .left), ← c .before .before .before .before .before .before .before .before .head-fault .ensures t before, c .before .before .before .before .before .before .before .if2 .left, ← c .before .before .before .before .before .before .count-at .ensures .0, le-ltb _ _ (c .before .before .before .before .before .if3 .left), ← c .before .before .before .before .u32-at .ensures, ← c .before .before .before .list-fault .ensures, c .before .before .if4 .left, ← c .before .count-at2 .ensures .0, ← c .tasks-fault .ensures)
 
 pub chain-fault-spec : {M : Type 1} → statement M
 chain-fault-spec =

@@ -11,11 +11,11 @@ add-if1 c = search needs
 
 returns : tie.Need-returns
 unfolding endFault _when_else_
-returns c = rw (lt-ltb _ _ (c .if1 .taken))
+returns c t e = rw (e, lt-ltb _ _ (c .if1 .taken))
 
 returns-2 : tie.Need-returns-2
 unfolding endFault _when_else_
-returns-2 c = rw (le-ltb _ _ (c .before .before .if1 .left), eq-eqb _ _ (c .if2 .taken))
+returns-2 c t e = rw (e, le-ltb _ _ (c .before .if1 .left), eq-eqb _ _ (c .if2 .taken))
 
 add-u16-at : tie.Need-add-u16-at
 add-u16-at c = search needs
@@ -28,18 +28,18 @@ cast-if3 c = search needs
 
 returns-3 : tie.Need-returns-3
 unfolding endFault _when_else_
-returns-3 c = rw (le-ltb _ _ (c .before .before .before .before .before .if1 .left), ne-eqb _ _ (c .before .before .before .if2 .left), ← c .before .before .u16-at .ensures, ne-eqb _ _ (c .if3 .taken))
+returns-3 c t e = rw (e, le-ltb _ _ (c .before .before .before .if1 .left), ne-eqb _ _ (c .before .before .if2 .left), ← c .before .u16-at .ensures, ne-eqb _ _ (c .if3 .taken))
 
 add-if4 : tie.Need-add-if4
 add-if4 c = search needs
 
 returns-4 : tie.Need-returns-4
 unfolding endFault _when_else_
-returns-4 c = rw (le-ltb _ _ (c .before .before .before .before .before .before .if1 .left), ne-eqb _ _ (c .before .before .before .before .if2 .left), ← c .before .before .before .u16-at .ensures, eq-eqb _ _ (c .before .if3 .left), ne-eqb _ _ (c .if4 .taken))
+returns-4 c t e = rw (e, le-ltb _ _ (c .before .before .before .before .if1 .left), ne-eqb _ _ (c .before .before .before .if2 .left), ← c .before .before .u16-at .ensures, eq-eqb _ _ (c .before .if3 .left), ne-eqb _ _ (c .if4 .taken))
 
 returns-5 : tie.Need-returns-5
 unfolding endFault _when_else_
-returns-5 c = rw (le-ltb _ _ (c .before .before .before .before .before .before .if1 .left), ne-eqb _ _ (c .before .before .before .before .if2 .left), ← c .before .before .before .u16-at .ensures, eq-eqb _ _ (c .before .if3 .left), eq-eqb _ _ (c .if4 .left))
+returns-5 c t e = rw (e, le-ltb _ _ (c .before .before .before .before .if1 .left), ne-eqb _ _ (c .before .before .before .if2 .left), ← c .before .before .u16-at .ensures, eq-eqb _ _ (c .before .if3 .left), eq-eqb _ _ (c .if4 .left))
 
 pub end-fault-spec : {M : Type 1} → statement M
 end-fault-spec =

@@ -17,7 +17,7 @@ id-wrong-requires c κs = search needs
 
 returns : tie.Need-returns
 unfolding headFault _when_else_
-returns c = rw (← c .before .before .u16-at .ensures, ← c .before .id-wrong .ensures, c .if1 .taken)
+returns c t before = rw (← c .before .before .u16-at .ensures, ← c .before .id-wrong .ensures t _ before, c .if1 .taken)
 
 add-bytes-wrong : tie.Need-add-bytes-wrong
 add-bytes-wrong c = search needs
@@ -36,7 +36,7 @@ bytes-wrong-requires c κs = search needs
 
 returns-2 : tie.Need-returns-2
 unfolding headFault _when_else_
-returns-2 c = rw (← c .before .before .before .before .before .before .u16-at .ensures, ← c .before .before .before .before .before .id-wrong .ensures, c .before .before .before .before .if1 .left, ← c .before .bytes-wrong .ensures, c .if2 .taken)
+returns-2 c t before = rw (← c .before .before .before .before .before .before .u16-at .ensures, ← c .before .before .before .before .before .id-wrong .ensures t _ before, c .before .before .before .before .if1 .left, ← c .before .bytes-wrong .ensures, c .if2 .taken)
 
 add-u32-at : tie.Need-add-u32-at
 add-u32-at c = search needs
@@ -49,7 +49,7 @@ outside-requires c κs = search needs
 
 returns-3 : tie.Need-returns-3
 unfolding headFault _when_else_
-returns-3 c = rw (← c .before .before .before .before .before .before .before .before .before .u16-at .ensures, ← c .before .before .before .before .before .before .before .before .id-wrong .ensures, c .before .before .before .before .before .before .before .if1 .left, ← c .before .before .before .before .bytes-wrong .ensures, c .before .before .before .if2 .left, ← c .before .before .u32-at .ensures, ← c .before .outside .ensures, c .if3 .taken)
+returns-3 c t before = rw (← c .before .before .before .before .before .before .before .before .before .u16-at .ensures, ← c .before .before .before .before .before .before .before .before .id-wrong .ensures t _ before, c .before .before .before .before .before .before .before .if1 .left, ← c .before .before .before .before .bytes-wrong .ensures, c .before .before .before .if2 .left, ← c .before .before .u32-at .ensures, ← c .before .outside .ensures, c .if3 .taken)
 
 add-u32-at-2 : tie.Need-add-u32-at-2
 add-u32-at-2 c = search needs
@@ -59,7 +59,7 @@ u32-at-requires-2 c κs = search needs
 
 returns-4 : tie.Need-returns-4
 unfolding headFault _when_else_
-returns-4 c = rw (← c .before .before .before .before .before .before .before .before .before .before .before .u16-at .ensures, ← c .before .before .before .before .before .before .before .before .before .before .id-wrong .ensures, c .before .before .before .before .before .before .before .before .before .if1 .left, ← c .before .before .before .before .before .before .bytes-wrong .ensures, c .before .before .before .before .before .if2 .left, ← c .before .before .before .before .u32-at .ensures, ← c .before .before .before .outside .ensures, c .before .before .if3 .left, ← c .before .u32-at2 .ensures, lt-ltb _ _ (c .if4 .taken))
+returns-4 c t before = rw (← c .before .before .before .before .before .before .before .before .before .before .before .u16-at .ensures, ← c .before .before .before .before .before .before .before .before .before .before .id-wrong .ensures t _ before, c .before .before .before .before .before .before .before .before .before .if1 .left, ← c .before .before .before .before .before .before .bytes-wrong .ensures, c .before .before .before .before .before .if2 .left, ← c .before .before .before .before .u32-at .ensures, ← c .before .before .before .outside .ensures, c .before .before .if3 .left, ← c .before .u32-at2 .ensures, lt-ltb _ _ (c .if4 .taken))
 
 cast-outside : tie.Need-cast-outside
 cast-outside c = search needs
@@ -78,7 +78,7 @@ outside-requires-2 c κs = search needs
 
 returns-5 : tie.Need-returns-5
 unfolding headFault _when_else_
-returns-5 c = rw (← c .before .before .before .before .before .before .before .before .before .before .before .before .before .before .u16-at .ensures, ← c .before .before .before .before .before .before .before .before .before .before .before .before .before .id-wrong .ensures, c .before .before .before .before .before .before .before .before .before .before .before .before .if1 .left, ← c .before .before .before .before .before .before .before .before .before .bytes-wrong .ensures, c .before .before .before .before .before .before .before .before .if2 .left, ← c .before .before .before .before .before .before .before .u32-at .ensures, ← c .before .before .before .before .before .before .outside .ensures, c .before .before .before .before .before .if3 .left, ← c .before .before .before .before .u32-at2 .ensures, le-ltb _ _ (c .before .before .before .if4 .left), ← c .before .before .count-at .ensures .0, ← c .before .outside2 .ensures, c .if5 .taken)
+returns-5 c t before = rw (← c .before .before .before .before .before .before .before .before .before .before .before .before .before .before .u16-at .ensures, ← c .before .before .before .before .before .before .before .before .before .before .before .before .before .id-wrong .ensures t _ before, c .before .before .before .before .before .before .before .before .before .before .before .before .if1 .left, ← c .before .before .before .before .before .before .before .before .before .bytes-wrong .ensures, c .before .before .before .before .before .before .before .before .if2 .left, ← c .before .before .before .before .before .before .before .u32-at .ensures, ← c .before .before .before .before .before .before .outside .ensures, c .before .before .before .before .before .if3 .left, ← c .before .before .before .before .u32-at2 .ensures, le-ltb _ _ (c .before .before .before .if4 .left), ← c .before .before .count-at .ensures .0, ← c .before .outside2 .ensures, c .if5 .taken)
 
 add-count-at-2 : tie.Need-add-count-at-2
 add-count-at-2 c = search needs
@@ -91,11 +91,11 @@ tasks-wrong-requires c κs = search needs
 
 returns-6 : tie.Need-returns-6
 unfolding headFault _when_else_
-returns-6 c = rw (← c .before .before .before .before .before .before .before .before .before .before .before .before .before .before .before .before .before .u16-at .ensures, ← c .before .before .before .before .before .before .before .before .before .before .before .before .before .before .before .before .id-wrong .ensures, c .before .before .before .before .before .before .before .before .before .before .before .before .before .before .before .if1 .left, ← c .before .before .before .before .before .before .before .before .before .before .before .before .bytes-wrong .ensures, c .before .before .before .before .before .before .before .before .before .before .before .if2 .left, ← c .before .before .before .before .before .before .before .before .before .before .u32-at .ensures, ← c .before .before .before .before .before .before .before .before .before .outside .ensures, c .before .before .before .before .before .before .before .before .if3 .left, ← c .before .before .before .before .before .before .before .u32-at2 .ensures, le-ltb _ _ (c .before .before .before .before .before .before .if4 .left), ← c .before .before .before .before .before .count-at .ensures .0, ← c .before .before .before .before .outside2 .ensures, c .before .before .before .if5 .left, ← c .before .before .count-at2 .ensures .0, ← c .before .tasks-wrong .ensures, c .if6 .taken)
+returns-6 c t before = rw (← c .before .before .before .before .before .before .before .before .before .before .before .before .before .before .before .before .before .u16-at .ensures, ← c .before .before .before .before .before .before .before .before .before .before .before .before .before .before .before .before .id-wrong .ensures t _ before, c .before .before .before .before .before .before .before .before .before .before .before .before .before .before .before .if1 .left, ← c .before .before .before .before .before .before .before .before .before .before .before .before .bytes-wrong .ensures, c .before .before .before .before .before .before .before .before .before .before .before .if2 .left, ← c .before .before .before .before .before .before .before .before .before .before .u32-at .ensures, ← c .before .before .before .before .before .before .before .before .before .outside .ensures, c .before .before .before .before .before .before .before .before .if3 .left, ← c .before .before .before .before .before .before .before .u32-at2 .ensures, le-ltb _ _ (c .before .before .before .before .before .before .if4 .left), ← c .before .before .before .before .before .count-at .ensures .0, ← c .before .before .before .before .outside2 .ensures, c .before .before .before .if5 .left, ← c .before .before .count-at2 .ensures .0, before .total, ← c .before .tasks-wrong .ensures, c .if6 .taken)
 
 returns-7 : tie.Need-returns-7
 unfolding headFault _when_else_
-returns-7 c = rw (← c .before .before .before .before .before .before .before .before .before .before .before .before .before .before .before .before .before .u16-at .ensures, ← c .before .before .before .before .before .before .before .before .before .before .before .before .before .before .before .before .id-wrong .ensures, c .before .before .before .before .before .before .before .before .before .before .before .before .before .before .before .if1 .left, ← c .before .before .before .before .before .before .before .before .before .before .before .before .bytes-wrong .ensures, c .before .before .before .before .before .before .before .before .before .before .before .if2 .left, ← c .before .before .before .before .before .before .before .before .before .before .u32-at .ensures, ← c .before .before .before .before .before .before .before .before .before .outside .ensures, c .before .before .before .before .before .before .before .before .if3 .left, ← c .before .before .before .before .before .before .before .u32-at2 .ensures, le-ltb _ _ (c .before .before .before .before .before .before .if4 .left), ← c .before .before .before .before .before .count-at .ensures .0, ← c .before .before .before .before .outside2 .ensures, c .before .before .before .if5 .left, ← c .before .before .count-at2 .ensures .0, ← c .before .tasks-wrong .ensures, c .if6 .left)
+returns-7 c t before = rw (← c .before .before .before .before .before .before .before .before .before .before .before .before .before .before .before .before .before .u16-at .ensures, ← c .before .before .before .before .before .before .before .before .before .before .before .before .before .before .before .before .id-wrong .ensures t _ before, c .before .before .before .before .before .before .before .before .before .before .before .before .before .before .before .if1 .left, ← c .before .before .before .before .before .before .before .before .before .before .before .before .bytes-wrong .ensures, c .before .before .before .before .before .before .before .before .before .before .before .if2 .left, ← c .before .before .before .before .before .before .before .before .before .before .u32-at .ensures, ← c .before .before .before .before .before .before .before .before .before .outside .ensures, c .before .before .before .before .before .before .before .before .if3 .left, ← c .before .before .before .before .before .before .before .u32-at2 .ensures, le-ltb _ _ (c .before .before .before .before .before .before .if4 .left), ← c .before .before .before .before .before .count-at .ensures .0, ← c .before .before .before .before .outside2 .ensures, c .before .before .before .if5 .left, ← c .before .before .count-at2 .ensures .0, before .total, ← c .before .tasks-wrong .ensures, c .if6 .left)
 
 pub head-fault-spec : {M : Type 1} → statement M
 head-fault-spec =
