@@ -37,6 +37,10 @@ unfoldable pub η : List ℕ → ℕ → ℕ
 abbrev pub longest : ℕ
 longest = 20000000000
 
+-- and δ is asked for no more activations than fit into the longest, and one
+abbrev pub farthest : ℕ
+farthest = maxDistances * longest + 1
+
 -- the largest distance of k activations: (k − 1) times the gap
 unfoldable pub largest : Row → ℕ → ℕ
 largest r k = (k - 1) * r .gap

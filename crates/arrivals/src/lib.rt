@@ -2,8 +2,7 @@
 ghost use mathlib.Core.Path.{_≡_};
 ghost use Prim.Native.Nat.{_+_, _≤_, min};
 ghost use lib.ListN.{length};
-ghost use Rattle.table.specs.Limits.{maxActivations};
-ghost use Rattle.arrivals.specs.Arrivals.{GoodDistances, asListed, δ, η, longest};
+ghost use Rattle.arrivals.specs.Arrivals.{GoodDistances, asListed, δ, η, longest, farthest};
 
 // The distance of 1 + j activations as listed.
 fn as_listed(list: &[u32], j: usize) -> u64
@@ -18,7 +17,7 @@ fn as_listed(list: &[u32], j: usize) -> u64
 
 // δ(n): whole turns of the list, and a place in it.
 pub fn delta(list: &[u32], n: u64) -> u64
-    requires { ⌜ GoodDistances (now list) × (1 ≤ n) × (n ≤ maxActivations + 1) ⌝ }
+    requires { ⌜ GoodDistances (now list) × (1 ≤ n) × (n ≤ farthest) ⌝ }
     ensures { λ r. ⌜ r ≡ δ (now (list .entry)) n ⌝ }
 {
     let listed = list.len();
@@ -49,10 +48,18 @@ pub fn eta_up_to(list: &[u32], t: u64, most: u64) -> u64
     n
 }
 
-// η(t), which is at most L·t.
-pub fn eta(list: &[u32], t: u64) -> u64
-    requires { ⌜ GoodDistances (now list) × (t ≤ longest) ⌝ }
+// η(t) where it is known to be no less than `from`: counted on from there.
+pub fn eta_from(list: &[u32], t: u64, from: u64) -> u64
+    requires { ⌜ GoodDistances (now list) × (t ≤ longest) × (from ≤ η (now list) t) ⌝ }
     ensures { λ r. ⌜ r ≡ η (now (list .entry)) t ⌝ }
 {
-    eta_up_to(list, t, list.len() as u64 * t)
+    let most = list.len() as u64 * t;
+    let mut n = from;
+    while n < most {
+        if t <= delta(list, n + 1) {
+            return n;
+        }
+        n += 1;
+    }
+    n
 }

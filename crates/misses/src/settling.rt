@@ -24,11 +24,12 @@ pub fn over(l: Load, deadline: u32, k: u32, cost: u64) -> bool
     let listed = l.listed;
     let list = l.list;
     let dearer = l.plus(cost);
+    let mut counts = [0u64; Load::COUNTS];
     let mut start: u64 = 1;
     let mut done: u32 = 0;
     while done < k {
         let q = done as u64 + 1;
-        let w = climb(dearer, q, start);
+        let w = climb(dearer, q, start, &mut counts);
         let Window::At(t) = w else {
             return true;
         };

@@ -2,6 +2,7 @@ pub mod Least
 pub mod Growth
 pub mod Views
 pub mod Bounds
+pub mod Counting
 pub mod Terms
 pub mod Lists
 pub mod Joining

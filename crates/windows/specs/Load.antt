@@ -35,6 +35,12 @@ pub record Held (rates lengths lists : List ℕ) (n : ℕ) : Type 0 where
   pub good : (i : ℕ) → i < n → GoodDistances (heldAt lengths lists i)
   pub cheap : (i : ℕ) → i < n → getD rates i 0 ≤ dearest
 
+-- of the first i chains held all arrivals in t are counted, and of the others, up to n, no more than there are
+pub record Behind (lengths lists : List ℕ) (i n t : ℕ) (counts : List ℕ) : Type 0 where
+  pub size : length counts ≡ maxChains + 1
+  pub all : (j : ℕ) → j < i → getD counts j 0 ≡ η (heldAt lengths lists j) t
+  pub rest : (j : ℕ) → j < n → getD counts j 0 ≤ η (heldAt lengths lists j) t
+
 -- the chain's own distances
 abbrev pub ownOf : Load → List ℕ
 ownOf l = take (l .listed) (l .list)
@@ -42,6 +48,11 @@ ownOf l = take (l .listed) (l .list)
 -- the demand for q activations in t
 unfoldable pub demandIn : Load → ℕ → ℕ → ℕ
 demandIn l q t = q * l .cost + (η (ownOf l) t - q) * l .part + l .once + heldOf (l .rates) (l .lengths) (l .lists) (l .count) t
+
+-- and of the chain's own, at last, no more than there are
+pub record Counted (l : Load) (t : ℕ) (counts : List ℕ) : Type 0 where
+  pub own : getD counts maxChains 0 ≤ η (ownOf l) t
+  pub held : Behind (l .lengths) (l .lists) 0 (l .count) t counts
 
 pub record Sound (l : Load) : Type 0 where
   pub short : l .listed ≤ maxDistances

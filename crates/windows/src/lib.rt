@@ -55,4 +55,7 @@ pub struct Load {
 
 impl Load {
     pub const PLACES: usize = Table::CHAINS * Table::DISTANCES;
+
+    // How many counts of arrivals a climb keeps: of each chain held, and of the chain itself at last.
+    pub const COUNTS: usize = Table::CHAINS + 1;
 }

@@ -42,13 +42,14 @@ fn refused(n: u32) -> Windows
     }
 }
 
-// Takes q = 1, 2, ..: each window's climb starts where the window before ended.
+// Takes q = 1, 2, ..: each window's climb, and its count of arrivals, starts where the window before ended.
 pub fn walk(l: Load, deadline: u32) -> Windows
     requires { ⌜ Sound l × (deadline ≤ maxDeadline) ⌝ }
     ensures { λ r. ⌜ r ≡ windowsOf (demandIn l) (ownOf l) deadline ⌝ }
 {
     let listed = l.listed;
     let list = l.list;
+    let mut counts = [0u64; Load::COUNTS];
     let mut done: u32 = 0;
     let mut start: u64 = 1;
     let mut behind: u64 = 0;
@@ -56,7 +57,7 @@ pub fn walk(l: Load, deadline: u32) -> Windows
     let mut late: u32 = 0;
     while done < Table::ACTIVATIONS {
         let q = done + 1;
-        let w = climb(l, q as u64, start);
+        let w = climb(l, q as u64, start, &mut counts);
         let Window::At(t) = w else {
             return refused(16);
         };

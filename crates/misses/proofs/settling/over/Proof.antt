@@ -9,10 +9,11 @@ use lib.Seq.{length-take-le}
 use Rattle.table.specs.Limits.{maxDistances}
 use Rattle.arrivals.proofs.Distances.{δ-near}
 use Rattle.windows.specs.Window.{windowOf}
-use Rattle.windows.specs.Load.{ownOf, demandIn, Sound}
+use Rattle.windows.specs.Load.{ownOf, demandIn, Counted, Sound}
 use Rattle.windows.specs.declared.Window.the-variants.{At}
 use Rattle.windows.proofs.Growth.{load-growing}
 use Rattle.windows.proofs.Joining.{plus-sound}
+use Rattle.windows.proofs.Counting.{counted-none}
 use Rattle.windows.specs.Latency.{upTo}
 use Rattle.misses.specs.Tests.{some}
 use Rattle.misses.specs.Bad.{over}
@@ -21,17 +22,18 @@ use Rattle.misses.proofs.settling.over.Statement.{statement}
 use Rattle.misses.proofs.settling.over.Tie as tie
 
 abbrev Inv-loop : tie.InvT-loop
-Inv-loop deadline k cost listed list dearer start₀ done₀ start done = (done ≤ k) × Swept (demandIn dearer) (take listed list) deadline done start
+Inv-loop deadline k cost listed list dearer counts₀ start₀ done₀ counts start done =
+    (done ≤ k) × Swept (demandIn dearer) (take listed list) deadline done start × Counted dearer start counts
 
 abbrev μ-loop : tie.MeasureT-loop
-μ-loop deadline k cost listed list dearer start₀ done₀ start done = k - done
+μ-loop deadline k cost listed list dearer counts₀ start₀ done₀ counts start done = k - done
 
 -- the places that the answers speak of
 abbrev entry : tie.At-loop Inv-loop μ-loop → tie.Start Inv-loop μ-loop
 entry c = c .before .before .before
 
 abbrev head : tie.After-known-told Inv-loop μ-loop → tie.At-loop Inv-loop μ-loop
-head c = c .before .before .before .before .before
+head c = c .before .before .before .before .before .before
 
 sound : (c : tie.At-loop Inv-loop μ-loop) → Sound (c .before .plus .result)
 sound c =
@@ -43,7 +45,7 @@ list-fits c = let e : length (c .args .l .list) ≡ maxDistances = simp length-m
 
 -- the window that was found
 at : (c : tie.After-known-told Inv-loop μ-loop) → windowOf (demandIn (head c .before .plus .result) (head c .loop .done + 1)) ≡ At (c .before .w .given .0 .0)
-at c = sym (c .before .before .before .climb .ensures) ∙ c .before .w .given .1
+at c = sym (c .before .before .before .climb .ensures .0) ∙ c .before .w .given .1
 
 -- what the windows taken say of the cost
 told : (c : tie.At-loop Inv-loop μ-loop)
@@ -57,7 +59,9 @@ plus-requires : tie.Need-plus-requires Inv-loop μ-loop
 plus-requires c κs = c .before .pre .3
 
 loop-holds : tie.Need-loop-holds Inv-loop μ-loop
-loop-holds c = (omega arith, swept-start _ _ _)
+loop-holds c =
+    let s = c .before .before in
+    (omega arith, swept-start _ _ _, counted-none _ 1 (subst Sound (sym (c .plus .ensures)) (plus-sound (s .args .l) (s .args .cost) (s .pre .0) (s .pre .3))))
 
 cast-q : tie.Need-cast-q Inv-loop μ-loop
 cast-q c = search needs
@@ -66,7 +70,7 @@ add-q : tie.Need-add-q Inv-loop μ-loop
 add-q c = omega (arith, entry (c .before) .pre .2)
 
 climb-requires : tie.Need-climb-requires Inv-loop μ-loop
-climb-requires c κs = (sound (c .before), omega arith, omega (arith, entry (c .before) .pre .2), c .before .loop .inv .1 .under)
+climb-requires c κs = let h = c .before .before in (sound h, omega arith, omega (arith, entry h .pre .2), h .loop .inv .1 .under, h .loop .inv .2)
 
 enum-known-w : tie.Need-enum-known-w Inv-loop μ-loop
 enum-known-w c = search needs
@@ -76,10 +80,10 @@ enum-told c = search needs
 
 returns : tie.Need-returns Inv-loop μ-loop
 returns c =
-    let h = c .before .before .before .before in
+    let h = c .before .before .before .before .before in
     let a = entry h .args in
-    sym (swept-none (demandIn (h .before .plus .result)) (ownOf (a .l)) (a .deadline) (a .k) (h .loop .done) (c .before .before .before .loop-test .taken)
-    (sym (c .before .before .climb .ensures) ∙ c .enum-told .given .1)) ∙ told h
+    sym (swept-none (demandIn (h .before .plus .result)) (ownOf (a .l)) (a .deadline) (a .k) (h .loop .done) (c .before .before .before .before .loop-test .taken)
+    (sym (c .before .before .climb .ensures .0) ∙ c .enum-told .given .1)) ∙ told h
 
 array-share-prefix-list : tie.Need-array-share-prefix-list Inv-loop μ-loop
 array-share-prefix-list c = list-fits (entry (head c))
@@ -101,7 +105,7 @@ returns-2 c =
     let f = c .before .before .before in
     let h = head f in
     let a = entry h .args in
-    sym (swept-past (demandIn (h .before .plus .result)) (ownOf (a .l)) (a .deadline) (a .k) (h .loop .done) (f .before .before .before .before .loop-test .taken) _ (at f)
+    sym (swept-past (demandIn (h .before .plus .result)) (ownOf (a .l)) (a .deadline) (a .k) (h .loop .done) (f .before .before .before .before .before .loop-test .taken) _ (at f)
     (omega (arith, c .before .delta .ensures, c .if1 .taken))) ∙ told h
 
 add-done : tie.Need-add-done Inv-loop μ-loop
@@ -116,8 +120,9 @@ loop-again c =
     let h = head f in
     let a = entry h .args in (
       omega arith,
-      swept-on (demandIn (h .before .plus .result)) (ownOf (a .l)) (a .deadline) (a .k) (h .loop .done) (f .before .before .before .before .loop-test .taken) _ (at f)
+      swept-on (demandIn (h .before .plus .result)) (ownOf (a .l)) (a .deadline) (a .k) (h .loop .done) (f .before .before .before .before .before .loop-test .taken) _ (at f)
           (load-growing (h .before .plus .result) (sound h)) (h .loop .start) (h .loop .inv .1) (omega (arith, c .before .delta .ensures, c .if1 .left)),
+      f .before .before .before .climb .ensures .1 _ (f .before .w .given .1),
     )
 
 returns-3 : tie.Need-returns-3 Inv-loop μ-loop
