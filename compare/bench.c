@@ -1,11 +1,13 @@
 /* How long the entries of mishtodran.h and the plain analyzer take on the same calls, in one process.
    Usage: bench [SEED]
 
-   A line for each case: microseconds a call, the best of several runs, and how many times as long the plain one takes. */
+   A line for each case: microseconds a call, the best of several runs, and how many times as long the plain one takes.
+   Built with WITH_GLPK and packing_glpk.c, also what GLPK takes for the packing of the six-segment cases. */
 #define _POSIX_C_SOURCE 200809L
 #include "../include/mishtodran.h"
 #include "analyzer.h"
 #include "generate.h"
+#include "packing.h"
 
 #include <stdio.h>
 #include <stdlib.h>
@@ -120,8 +122,9 @@ static bool agree(const struct bench_case *what)
     return true;
 }
 
-/* Both in turn, so that neither has the quieter moments. What takes long is run once more only. */
-static void measure(const struct bench_case *what)
+/* Both in turn, so that neither has the quieter moments. What takes long is run once more only. Gives back the
+   microseconds of one call to an entry of mishtodran.h. */
+static double measure(const struct bench_case *what)
 {
     unsigned long times[2] = {times_needed(&proved, what), times_needed(&plain, what)};
     double best[2] = {1e9, 1e9}; /* seconds a run */
@@ -134,6 +137,7 @@ static void measure(const struct bench_case *what)
     printf("%-44s %14.2f %14.2f %10.2f%s\n", what->name, by_proved, by_plain, by_plain / by_proved,
            agree(what) ? "" : "  the answers differ");
     fflush(stdout);
+    return by_proved;
 }
 
 /* ---- Cases ---- */
@@ -148,13 +152,13 @@ static struct stored *keep(struct made_table table)
     return stored;
 }
 
-static void measure_one(const char *name, unsigned entry, struct stored *table, uint32_t first, uint32_t second,
-                        uint32_t third)
+static double measure_one(const char *name, unsigned entry, struct stored *table, uint32_t first, uint32_t second,
+                          uint32_t third)
 {
     static struct bench_case what;
     what = (struct bench_case){.name = name, .calls = 1};
     what.call[0] = (struct call){.entry = entry, .table = table, .number = {first, second, third}};
-    measure(&what);
+    return measure(&what);
 }
 
 /* Every chain of several tables. */
@@ -245,6 +249,34 @@ static struct made_table shaped(const struct shape *shape)
     return table;
 }
 
+#ifdef WITH_GLPK
+/* The packing of a shape alone, by GLPK, beside the whole query that took so many microseconds. */
+static void measure_glpk(const struct shape *shape, double query)
+{
+    bool bad[64] = {0};
+    for (unsigned m = 1; m < 64; m++) {
+        uint32_t cost = 0;
+        for (unsigned i = 0; i < 6; i++)
+            cost += m >> i & 1 ? shape->cost[i] : 0;
+        bad[m] = cost > shape->threshold;
+    }
+    double best = 1e9;
+    unsigned most = 0;
+    for (unsigned i = 0; i < ROUNDS; i++) {
+        double start = now();
+        most = glpk_most_uses(bad, shape->capacity);
+        best = least(best, now() - start);
+    }
+    printf("  its packing alone, by GLPK: %-16u %14s %14.2f %10.2f\n", most, "", best * 1e6, best * 1e6 / query);
+}
+#else
+static void measure_glpk(const struct shape *shape, double query)
+{
+    (void)shape;
+    (void)query;
+}
+#endif
+
 static void slow_cases(void)
 {
     static const struct shape shapes[] = {
@@ -269,7 +301,7 @@ static void slow_cases(void)
     for (unsigned i = 0; i < sizeof shapes / sizeof shapes[0]; i++) {
         char name[64];
         snprintf(name, sizeof name, "misses, six segments, shape %u, k 1,000", i + 1);
-        measure_one(name, MISSES, keep(shaped(&shapes[i])), 1, 1000, 0);
+        measure_glpk(&shapes[i], measure_one(name, MISSES, keep(shaped(&shapes[i])), 1, 1000, 0));
     }
 }
 
