@@ -305,11 +305,59 @@ static void slow_cases(void)
     }
 }
 
+/* ---- Growth ---- */
+
+/* So many chains with so many tasks and listed distances each; the first has the lowest priority. */
+static struct made_table alike(unsigned chains, unsigned tasks, unsigned listed)
+{
+    struct made_table table = {0};
+    for (unsigned i = 0; i < chains; i++) {
+        struct made_chain *chain = add_chain(&table, 100000, 0, 2000);
+        chain->listed = listed;
+        for (unsigned n = 0; n < listed; n++)
+            chain->distance[n] = 2000 * (n + 1);
+        for (unsigned n = 0; n < tasks; n++)
+            add_task(chain, 1 + i, 100 / tasks);
+    }
+    return table;
+}
+
+/* A backlog that closes at activation k. */
+static struct made_table closing_at(uint32_t k)
+{
+    struct made_table table = {0};
+    add_task(add_chain(&table, 1000000, 0, 1000), 1, 500);
+    add_task(add_chain(&table, 1000000, 0, 10000000), 2, 500 * k);
+    return table;
+}
+
+static void measure_growth(const char *what, unsigned size, struct made_table table)
+{
+    char name[64];
+    snprintf(name, sizeof name, "latency, %s %u", what, size);
+    tables_used = 0;
+    measure_one(name, LATENCY, keep(table), 1, 0, 0);
+}
+
+static void growth_cases(void)
+{
+    static const unsigned activations[] = {1, 10, 100, 1000};
+    for (unsigned n = 2; n <= 16; n *= 2)
+        measure_growth("chains:", n, alike(n, 1, 1));
+    for (unsigned n = 1; n <= 16; n *= 4)
+        measure_growth("4 chains, tasks each:", n, alike(4, n, 1));
+    for (unsigned n = 1; n <= 8; n *= 2)
+        measure_growth("4 chains, distances each:", n, alike(4, 1, n));
+    for (unsigned n = 0; n < 4; n++)
+        measure_growth("K:", activations[n], closing_at(activations[n]));
+}
+
 int main(int count, char **words)
 {
     struct source source = {count > 1 ? strtoull(words[1], NULL, 10) : 1};
     printf("%-44s %14s %14s %10s\n", "microseconds a call", "mishtodran", "plain", "ratio");
     usual_cases(&source);
     slow_cases();
+    growth_cases();
     return 0;
 }
