@@ -10,7 +10,7 @@ use borrow.Author.Count.{below-more}
 use lib.ListN.{getD}
 use Rattle.search.proofs.Choice.{true-not-false, lt-or-le}
 use Rattle.packing.specs.Packing.{combinations}
-use Rattle.misses.specs.Settling.{beyond, Settles, Open, Leaves, Picks, Tells}
+use Rattle.misses.specs.Settling.{beyond, Settles, Open, Inside, Picks, Tells}
 use Rattle.misses.specs.declared.Settled.{Settled}
 
 -- a test that never turns false again as its number grows
@@ -61,41 +61,37 @@ settles-tell over s costs is p few m h =
     low : getD costs m 0 < s .bad → getD costs m 0 ≤ s .good
     low l = ⊎-elim (λ g. absurd (p .none refl m h (record { low = g; high = l }))) (λ g. g) (lt-or-le (s .good) (getD costs m 0))
 
--- the loop of `pick`: the costs before m are gone through, `least` the fewest that one of them leaves open
-pub record Picking (s : Settled) (costs : List ℕ) (best least m : ℕ) : Type 0 where
+-- the loop of `pick`: the costs before m are gone through, `most` how far the best of them is inside
+pub record Picking (s : Settled) (costs : List ℕ) (best most m : ℕ) : Type 0 where
   pub inside : m ≤ combinations
-  pub limit : least ≤ combinations + 1
-  pub found : least ≤ combinations → Open s best
-  pub lost : combinations < least → (best ≡ 0) × ((j : ℕ) → j < m → Open s (getD costs j 0) → ⊥)
+  pub found : 0 < most → Open s best
+  pub lost : most ≡ 0 → (best ≡ 0) × ((j : ℕ) → j < m → Open s (getD costs j 0) → ⊥)
 
-pub picking-none : (s : Settled) (costs : List ℕ) → Picking s costs 0 (combinations + 1) 0
+pub picking-none : (s : Settled) (costs : List ℕ) → Picking s costs 0 0 0
 picking-none s costs = record {
   inside = omega arith;
-  limit = omega arith;
-  found = λ h. absurd (omega arith);
-  lost = λ h. (refl, λ j l. absurd (omega arith));
+  found = λ h. absurd (omega (arith, h));
+  lost = λ h. (refl, λ j l. absurd (omega (arith, l)));
 }
 
-module _ (s : Settled) (costs : List ℕ) (best least m n : ℕ) (at : Picking s costs best least m) (more : m < combinations) (leaves : Leaves s (getD costs m 0) n) where
-  pub picking-better : n < least → Picking s costs (getD costs m 0) n (m + 1)
+module _ (s : Settled) (costs : List ℕ) (best most m n : ℕ) (at : Picking s costs best most m) (more : m < combinations) (lies : Inside s (getD costs m 0) n) where
+  pub picking-better : most < n → Picking s costs (getD costs m 0) n (m + 1)
   picking-better h = record {
     inside = omega arith;
-    limit = omega (arith, at .limit);
-    found = leaves .is;
-    lost = λ l. absurd (omega (arith, at .limit));
+    found = lies .is;
+    lost = λ l. absurd (omega (arith, l));
   }
 
-  pub picking-worse : least ≤ n → Picking s costs best least (m + 1)
+  pub picking-worse : n ≤ most → Picking s costs best most (m + 1)
   picking-worse h = record {
     inside = omega arith;
-    limit = at .limit;
     found = at .found;
-    lost = λ l. (at .lost l .0, below-more (λ j. Open s (getD costs j 0) → ⊥) m (at .lost l .1) (λ o. omega (arith, leaves .few o)));
+    lost = λ l. (at .lost l .0, below-more (λ j. Open s (getD costs j 0) → ⊥) m (at .lost l .1) (λ o. omega (arith, l, lies .some o)));
   }
 
-pub picking-done : (s : Settled) (costs : List ℕ) (best least m : ℕ) → Picking s costs best least m → combinations ≤ m → Picks s costs best
-picking-done s costs best least m at h =
+pub picking-done : (s : Settled) (costs : List ℕ) (best most m : ℕ) → Picking s costs best most m → combinations ≤ m → Picks s costs best
+picking-done s costs best most m at h =
     ⊎-elim
-    (λ l. record { none = λ e j k. at .lost l .1 j (omega arith); one = λ b. absurd (omega (arith, at .lost l .0)) })
     (λ l. record { none = λ e. absurd (omega (arith, at .found l .low)); one = λ b. at .found l })
-    (lt-or-le combinations least)
+    (λ l. let z : most ≡ 0 = omega arith in record { none = λ e j k. at .lost z .1 j (omega arith); one = λ b. absurd (omega (arith, at .lost z .0)) })
+    (lt-or-le 0 most)

@@ -26,10 +26,10 @@ pub record Open (s : Settled) (c : ℕ) : Type 0 where
   pub low : s .good < c
   pub high : c < s .bad
 
--- r is the number of sets or less where c is open, and more where it is not
-pub record Leaves (s : Settled) (c r : ℕ) : Type 0 where
-  pub few : Open s c → r ≤ combinations
-  pub is : r ≤ combinations → Open s c
+-- r is above 0 exactly where c is open
+pub record Inside (s : Settled) (c r : ℕ) : Type 0 where
+  pub some : Open s c → 0 < r
+  pub is : 0 < r → Open s c
 
 -- an open one of the costs, or 0 where none is
 pub record Picks (s : Settled) (costs : List ℕ) (r : ℕ) : Type 0 where

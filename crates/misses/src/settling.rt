@@ -8,13 +8,13 @@ use windows::Window;
 use windows::climb;
 ghost use mathlib.Core.Path.{_≡_};
 ghost use mathlib.Core.Bool.{false};
-ghost use Prim.Native.Nat.{ℕ, _+_, _-_, _≤_, _<_, max};
+ghost use Prim.Native.Nat.{ℕ, _+_, _-_, _≤_, _<_, min};
 ghost use lib.ListN.{getD};
 ghost use Rattle.table.specs.Limits.{maxActivations, maxDeadline};
 ghost use Rattle.packing.specs.Packing.{combinations};
 ghost use Rattle.windows.specs.Load.{most, ownOf, demandIn, Sound};
 ghost use Rattle.misses.specs.Bad.{over as overOf};
-ghost use Rattle.misses.specs.Settling.{beyond, Settles, Open, Picks, Tells, Leaves};
+ghost use Rattle.misses.specs.Settling.{beyond, Settles, Open, Inside, Picks, Tells};
 
 // Whether a set that costs so much is bad. The climb to each window starts where the one before ended.
 pub fn over(l: Load, deadline: u32, k: u32, cost: u64) -> bool
@@ -60,55 +60,39 @@ fn round(l: Load, deadline: u32, k: u32, s: Settled, c: u64) -> Settled
     }
 }
 
-fn larger(a: usize, b: usize) -> usize
-    ensures { λ r. ⌜ r ≡ max a b ⌝ }
+fn smaller(a: u64, b: u64) -> u64
+    ensures { λ r. ⌜ r ≡ min a b ⌝ }
 {
-    if a < b { b } else { a }
+    if a < b { a } else { b }
 }
 
-// How many costs lie between two.
-fn between(costs: &[u64; COMBINATIONS], low: u64, high: u64) -> usize
-    ensures { λ r. ⌜ r ≤ combinations ⌝ }
-{
-    let mut found: usize = 0;
-    let mut m: usize = 0;
-    while m < COMBINATIONS {
-        let c = costs[m];
-        m += 1;
-        if low < c && c < high {
-            found += 1;
-        }
-    }
-    found
-}
-
-// How many costs can be open still once c is settled, at worst; more than there are where c is not open.
-fn left(costs: &[u64; COMBINATIONS], s: Settled, c: u64) -> usize
-    ensures { λ r. ⌜ Leaves s c r ⌝ }
+// How far c is from the nearer of the two ends that are settled, 0 where c is not open.
+fn inside(s: Settled, c: u64) -> u64
+    ensures { λ r. ⌜ Inside s c r ⌝ }
 {
     if c <= s.good {
-        return COMBINATIONS + 1;
+        return 0;
     }
     if s.bad <= c {
-        return COMBINATIONS + 1;
+        return 0;
     }
-    larger(between(costs, s.good, c), between(costs, c, s.bad))
+    smaller(c - s.good, s.bad - c)
 }
 
-// The open cost that leaves the fewest open, 0 if none is open.
+// The open cost that is farthest inside, 0 if none is open.
 fn pick(costs: &[u64; COMBINATIONS], s: Settled) -> u64
     ensures { λ r. ⌜ Picks s (now (costs .entry)) r ⌝ }
 {
     let mut best: u64 = 0;
-    let mut least: usize = COMBINATIONS + 1;
+    let mut most: u64 = 0;
     let mut m: usize = 0;
     while m < COMBINATIONS {
         let c = costs[m];
-        let n = left(costs, s, c);
+        let n = inside(s, c);
         m += 1;
-        if n < least {
+        if most < n {
             best = c;
-            least = n;
+            most = n;
         }
     }
     best

@@ -6,13 +6,10 @@ use Rattle.misses.proofs.settling.pick.Statement.{statement}
 use Rattle.misses.proofs.settling.pick.Tie as tie
 
 abbrev Inv-loop : tie.InvT-loop
-Inv-loop costs s best₀ least₀ m₀ best least m = Picking s costs best least m
+Inv-loop costs s best₀ most₀ m₀ best most m = Picking s costs best most m
 
 abbrev μ-loop : tie.MeasureT-loop
-μ-loop costs s best₀ least₀ m₀ best least m = 64 - m
-
-add-least : tie.Need-add-least Inv-loop μ-loop
-add-least c = omega arith
+μ-loop costs s best₀ most₀ m₀ best most m = 64 - m
 
 loop-holds : tie.Need-loop-holds Inv-loop μ-loop
 loop-holds c = picking-none _ _
@@ -23,8 +20,8 @@ mul-c c = omega arith
 element-copy-out-c : tie.Need-element-copy-out-c Inv-loop μ-loop
 element-copy-out-c c = omega arith
 
-left-requires : tie.Need-left-requires Inv-loop μ-loop
-left-requires c κs = tt
+inside-requires : tie.Need-inside-requires Inv-loop μ-loop
+inside-requires c κs = tt
 
 add-m : tie.Need-add-m Inv-loop μ-loop
 add-m c = omega arith
@@ -36,7 +33,7 @@ loop-again : tie.Need-loop-again Inv-loop μ-loop
 loop-again c =
     let l = c .before .before .before .before in
     let a = l .before .args in
-    picking-better (a .s) (a .costs .now) (l .loop .best) (l .loop .least) (l .loop .m) (c .before .left .result) (l .loop .inv) (c .before .before .before .loop-test .taken) (c .before .left .ensures) (c .if1 .taken)
+    picking-better (a .s) (a .costs .now) (l .loop .best) (l .loop .most) (l .loop .m) (c .before .inside .result) (l .loop .inv) (c .before .before .before .loop-test .taken) (c .before .inside .ensures) (c .if1 .taken)
 
 loop-less-2 : tie.Need-loop-less-2 Inv-loop μ-loop
 loop-less-2 c = omega arith
@@ -45,13 +42,13 @@ loop-again-2 : tie.Need-loop-again-2 Inv-loop μ-loop
 loop-again-2 c =
     let l = c .before .before .before .before in
     let a = l .before .args in
-    picking-worse (a .s) (a .costs .now) (l .loop .best) (l .loop .least) (l .loop .m) (c .before .left .result) (l .loop .inv) (c .before .before .before .loop-test .taken) (c .before .left .ensures) (c .if1 .left)
+    picking-worse (a .s) (a .costs .now) (l .loop .best) (l .loop .most) (l .loop .m) (c .before .inside .result) (l .loop .inv) (c .before .before .before .loop-test .taken) (c .before .inside .ensures) (c .if1 .left)
 
 returns : tie.Need-returns Inv-loop μ-loop
 returns c =
     let l = c .before .loop in
     let a = c .before .before .args in
-    picking-done (a .s) (a .costs .now) (l .best) (l .least) (l .m) (l .inv) (omega arith)
+    picking-done (a .s) (a .costs .now) (l .best) (l .most) (l .m) (l .inv) (omega arith)
 
 pub pick-spec : {M : Type 1} → statement M
 pick-spec =
@@ -59,11 +56,10 @@ pick-spec =
     (tie.spec
     Inv-loop
     μ-loop
-    add-least
     loop-holds
     mul-c
     element-copy-out-c
-    left-requires
+    inside-requires
     add-m
     loop-less
     loop-again
