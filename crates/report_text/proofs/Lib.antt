@@ -1,0 +1,5 @@
+pub mod Answers
+pub mod Decimals
+pub mod Refusals
+pub mod Signs
+pub mod Writes
