@@ -4,8 +4,8 @@ use native.Mathlib.Omega.{arith}
 use native.Mathlib.Numerals.{add-one}
 use mathlib.Core.Path.{_≡_, refl, ap, ap₂, sym, _∙_}
 use mathlib.Core.List.{List, [], _∷_, _++_, append-assoc, append-nil, flatMap}
-use lib.ListN.{length, take, getD}
-use lib.Seq.{take-suc}
+use lib.ListN.{length, take, drop, length-append}
+use lib.Seq.{take-suc, take-at}
 use Rattle.table.specs.Bytes.{Bytes}
 use Rattle.table.specs.Find.{none, rowOf, rows, findOf}
 use Rattle.table.specs.Good.{GoodTable}
@@ -88,3 +88,14 @@ pub wrote-report : (s : List ℕ) {text before after : List ℕ} {r : ℕ} → r
 wrote-report s {text} e l w =
     let z : 0 + length text ≡ length text = omega arith in
     record { answers = rw e (w .ends ∙ z); fits = omega (arith, w .ends, w .fits, l); leaves = rw (e, ← z) (w .holds) }
+
+-- as many bytes of the buffer as are answered are the report
+module _ {s before after : List ℕ} {r : ℕ} (h : Reported s before after r) where
+  pub reported-within : r ≤ length after
+  reported-within = omega (arith, h .answers, ap length (h .leaves) ∙ length-append (reportOf s) (drop (length (reportOf s)) before))
+
+  pub reported-text : take r after ≡ reportOf s
+  reported-text = rw (h .leaves) (take-at (reportOf s) (drop (length (reportOf s)) before) r (sym (h .answers)))
+
+  pub reported-count : r ≡ length (take r after)
+  reported-count = h .answers ∙ ap length (sym reported-text)

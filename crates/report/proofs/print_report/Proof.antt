@@ -1,30 +1,17 @@
--- The text's length is within the buffer.
-use Prim.Native.Nat.{_≤_}
-use native.Mathlib.Omega.{arith}
-use mathlib.Core.Path.{ap, sym, _∙_}
-use denote.Ref.{now}
-use lib.ListN.{length, drop, length-append}
-use lib.Seq.{length-take-le}
-use Rattle.report_text.specs.Report.{reportOf}
+-- As many bytes are written as the report has.
+use Rattle.report_text.proofs.Answers.{reported-within, reported-count}
 use borrow.Author.Needs.{needs}
 use Rattle.report.proofs.print_report.Statement.{statement}
 use Rattle.report.proofs.print_report.Tie as tie
-
--- the text is within the buffer
-within : (c : tie.After-report) → c .report .result ≤ length (c .report .last .1 .0)
-within c =
-    let s = now (c .before .before .before .args .stored) in
-    let e = c .report .ensures in
-    omega (arith, e .answers, ap length (e .leaves) ∙ length-append (reportOf s) (drop (length (reportOf s)) _))
 
 report-requires : tie.Need-report-requires
 report-requires c κs = search needs
 
 array-share-prefix-text : tie.Need-array-share-prefix-text
-array-share-prefix-text c = within c
+array-share-prefix-text c = reported-within (c .report .ensures)
 
 slice-aggregate-write-all : tie.Need-slice-aggregate-write-all
-slice-aggregate-write-all c = sym (length-take-le (c .before .report .result) (c .before .report .last .1 .0) (within (c .before)))
+slice-aggregate-write-all c = reported-count (c .before .report .ensures)
 
 write-all-requires : tie.Need-write-all-requires
 write-all-requires c κs = search needs
