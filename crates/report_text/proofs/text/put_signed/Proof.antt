@@ -2,27 +2,24 @@
 use mathlib.Core.Path.{ap, sym, subst, _∙_}
 use mathlib.Core.List.{_∷_}
 use denote.Ref.{now}
-use lib.IntN.{pos, natAbs}
-use lib.Signed.{leZ}
+use lib.IntN.{natAbs}
 use mir.Facts.{toZ-ofZ}
 use native.Mathlib.Omega.{arith}
-use Rattle.report_text.specs.Numbers.{decimal}
+use Rattle.windows.proofs.Signs.{Upper, upper, Lower, lower}
+use Rattle.report_text.specs.Numbers.{decimal, signed}
 use Rattle.report_text.specs.Report.{after}
 use Rattle.report_text.specs.Writing.{Wrote}
 use Rattle.report_text.proofs.Decimals.{decimal-fits}
-use Rattle.report_text.proofs.Signs.{Upper, upper, Lower, lower}
 use Rattle.report_text.proofs.Writes.{wrote-on}
 use borrow.Author.Needs.{needs}
 use Rattle.report_text.proofs.text.put_signed.Statement.{statement}
 use Rattle.report_text.proofs.text.put_signed.Tie as tie
 
 up : (c : tie.Then1) → Upper (c .before .before .args .x)
-up c = let s = c .before .before in
-    upper (s .args .x) (s .fits .x) (ap (λ x. leZ (pos 0) x) (sym (toZ-ofZ (s .fits .x))) ∙ c .if1 .taken)
+up c = let s = c .before .before in upper (s .args .x) (s .fits .x) (c .if1 .taken)
 
 down : (c : tie.Else1) → Lower (c .before .before .args .x)
-down c = let s = c .before .before in
-    lower (s .args .x) (s .fits .x) (ap (λ x. leZ (pos 0) x) (sym (toZ-ofZ (s .fits .x))) ∙ c .if1 .left)
+down c = let s = c .before .before in lower (s .args .x) (s .fits .x) (c .if1 .left)
 
 magnitude-requires : tie.Need-magnitude-requires
 magnitude-requires c κs = search needs
@@ -38,7 +35,7 @@ returns c =
     let s = c .before .before .before .before .before .before .before in
     let m = c .before .before .before .magnitude in
     let d = c .before .before .put-number in (
-      subst (λ l. Wrote (now (s .args .out)) (s .args .at) (after l) (d .last .0) (d .result)) (ap decimal (m .ensures ∙ ap natAbs (toZ-ofZ (s .fits .x))) ∙ sym (up (c .before .before .before .before .before) .text)) (d .ensures .0),
+      subst (λ l. Wrote (now (s .args .out)) (s .args .at) (after l) (d .last .0) (d .result)) (ap decimal (m .ensures ∙ ap natAbs (toZ-ofZ (s .fits .x))) ∙ sym (ap signed (up (c .before .before .before .before .before) .is))) (d .ensures .0),
       omega (arith, d .ensures .1),
     )
 
@@ -64,8 +61,9 @@ returns-2 c =
     let s = c .before .before .before .before .before .before .before .before .before .before .before .before in
     let m = c .before .before .before .magnitude2 in
     let w = c .before .before .before .before .before .before .before .put-text .ensures in
-    let d = c .before .before .put-decimal in (
-      subst (λ l. Wrote (now (s .args .out)) (s .args .at) (after l) (d .last .0) (d .result)) (ap (λ n. 45 ∷ decimal n) (m .ensures ∙ ap natAbs (toZ-ofZ (s .fits .x))) ∙ sym (down (c .before .before .before .before .before .before .before .before .before .before) .text)) (wrote-on w (d .ensures)),
+    let d = c .before .before .put-decimal in
+    let x = down (c .before .before .before .before .before .before .before .before .before .before) .is in (
+      subst (λ l. Wrote (now (s .args .out)) (s .args .at) (after l) (d .last .0) (d .result)) (ap (λ n. 45 ∷ decimal n) (m .ensures ∙ ap natAbs (toZ-ofZ (s .fits .x) ∙ x)) ∙ sym (ap signed x)) (wrote-on w (d .ensures)),
       omega (arith, w .ends, d .ensures .ends, decimal-fits (m .result) (m .ok)),
     )
 
