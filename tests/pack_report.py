@@ -11,6 +11,8 @@ import json
 import struct
 import sys
 
+sys.dont_write_bytecode = True
+
 from pack import EDGE, PAST, SAMPLE, STUDY, backlog
 
 HEADER = "chain K latency late margin miss10\n"

@@ -68,12 +68,12 @@ byVerdict (Faulty n) text = refusedWord ++ decimal n ++ feed
 unfoldable pub reportOf : List ℕ → List ℕ
 reportOf s = byVerdict (readTable s .verdict) (header ++ flatMap (lineOf s) (rows (readTable s .table)))
 
--- bytes that a report never exceeds: the header's 35, and 68 a line
+-- more bytes no report has: 35 in the header, and 68 in a line of six numbers of 32 bits, one with a sign and one after `r`
 abbrev pub longest : ℕ
 longest = 35 + maxChains * 68
 
--- r is answered, and the buffer that held `before` holds `after`: the text's length, which the longest report's buffer has room
--- for, and the text, with the rest as it was
+-- r is answered, and the buffer that held `before` holds `after`: the text's length, never above the longest, and the text,
+-- then the rest as it was
 pub record Reported (s before after : List ℕ) (r : ℕ) : Type 0 where
   pub answers : r ≡ length (reportOf s)
   pub fits : r ≤ longest

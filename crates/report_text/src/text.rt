@@ -1,4 +1,5 @@
-// Text in a lent buffer: each function writes a piece from a place on, and answers the place after it.
+// Text in a lent buffer: each function writes a piece from a place on, and answers the place after it. A number of 32 bits has
+// at most 10 digits, which bounds every piece.
 ghost use mathlib.Core.Path.{_≡_};
 ghost use mathlib.Core.List.{[], _∷_};
 ghost use Prim.Native.Nat.{_+_, _%_, _≤_};
