@@ -2,6 +2,7 @@
 # A C compiler for x86-64, for which the static library is made, and what runs its programs here. To be sourced.
 #
 #   c_tools                     find or install both, once; fails with one line where it cannot
+#   c_runner                    the same for what runs programs alone
 #   c_build OUT ARGUMENTS..     compile and link a static program
 #   c_run PROGRAM ARGUMENTS..   run one
 #   c_run_proved PROGRAM ..     run one that rt has linked, with the toolchain's C library
@@ -79,6 +80,10 @@ c_tools() {
     if [ -z "$c_compiler" ]; then
         c_compiler=$(c_find_compiler) || c_fail "no C compiler for x86-64 is here, and none could be installed" || return 1
     fi
+    c_runner
+}
+
+c_runner() {
     if [ -z "$c_emulator" ] && ! c_is_x86_64; then
         c_emulator=$(c_find_emulator) || c_fail "no emulator for x86-64 is here, and none could be installed" || return 1
     fi

@@ -11,5 +11,6 @@ pub mod Latencies
 pub mod Walks
 pub mod Closing
 pub mod Margins
+pub mod Signs
 pub mod Answers
 pub mod Starred

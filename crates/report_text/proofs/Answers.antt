@@ -1,0 +1,101 @@
+-- The lines of a table that was read are what the two queries answer, chain by chain. Assumes nothing.
+use Prim.Native.Nat.{ℕ, zero, suc, _+_, _≤_, _<_}
+use native.Mathlib.Omega.{arith}
+use native.Mathlib.Numerals.{add-one}
+use mathlib.Core.Path.{_≡_, refl, ap, ap₂, sym, _∙_}
+use mathlib.Core.List.{List, [], _∷_, _++_, append-assoc, append-nil, flatMap}
+use lib.ListN.{length, take, drop, length-append}
+use lib.Seq.{take-suc, take-at}
+use Rattle.table.specs.Bytes.{Bytes}
+use Rattle.table.specs.Find.{none, rowOf, rows, findOf}
+use Rattle.table.specs.Good.{GoodTable}
+use Rattle.table.specs.Read.{readTable}
+use Rattle.table.specs.declared.Row.{Row}
+use Rattle.table.specs.declared.Table.{Table}
+use Rattle.table.specs.declared.Verdict.the-variants.{Accepted, Refused as Faulty}
+use Rattle.table.proofs.Accepted.{accepted-good}
+use Rattle.table.proofs.Finds.{find-is}
+use Rattle.windows.specs.Demand.{othersOf}
+use Rattle.windows.specs.Latency.{boundOf, latencyOf}
+use Rattle.windows.proofs.Answers.{latency-accepted}
+use Rattle.windows.proofs.Answers.{chain-found as latency-found}
+use Rattle.misses.specs.Misses.{missesAt, missesOf}
+use Rattle.misses.proofs.Answers.{misses-accepted}
+use Rattle.misses.proofs.Answers.{chain-found as misses-found}
+use Rattle.report_text.specs.Numbers.{decimal}
+use Rattle.report_text.specs.Report.{header, refusedWord, feed, missRun, lineText, lineOf, byVerdict, reportOf, longest, Reported}
+use Rattle.report_text.specs.Writing.{Wrote, lineIn, linesIn}
+use Rattle.report_text.proofs.Writes.{wrote-none}
+
+flatMap-more : {A : Type 0} (f : A → List ℕ) (l : List A) (a : A) → flatMap f (l ++ (a ∷ [])) ≡ flatMap f l ++ f a
+unfolding flatMap
+flatMap-more f [] a = append-nil (f a)
+flatMap-more f (x ∷ l) a = ap (λ m. f x ++ m) (flatMap-more f l a) ∙ sym (append-assoc (f x) (flatMap f l) (f a))
+
+pub lines-none : (t : Table) (before : List ℕ) (at : ℕ) → at ≤ length before → Wrote before at (linesIn t 0) before at
+unfolding linesIn
+lines-none t before at h = wrote-none before at h
+
+pub lines-on : (t : Table) (n : ℕ) → linesIn t (n + 1) ≡ linesIn t n ++ lineIn t n
+unfolding linesIn
+lines-on t n = rw add-one
+
+module _ (s : List ℕ) (bytes : Bytes s) (yes : readTable s .verdict ≡ Accepted) where
+  abbrev t : Table
+  t = readTable s .table
+
+  good : GoodTable t
+  good = accepted-good s bytes yes
+
+  module _ (k : ℕ) (h : k < t .count) where
+    found : findOf t (rowOf t k .id) ≡ k
+    found = find-is t good k h
+
+    latency-is : latencyOf s (rowOf t k .id) ≡ boundOf (rowOf t k) (othersOf t k) .answer
+    latency-is =
+        latency-accepted s (rowOf t k .id) yes ∙ latency-found t (rowOf t k .id) (λ e. omega (arith, e, found, h))
+        ∙ ap (λ j. boundOf (rowOf t j) (othersOf t j) .answer) found
+
+    misses-is : missesOf s (rowOf t k .id) missRun ≡ missesAt t k missRun
+    misses-is =
+        misses-accepted s (rowOf t k .id) missRun yes ∙ misses-found t (rowOf t k .id) missRun (λ e. omega (arith, e, found, h))
+        ∙ ap (λ j. missesAt t j missRun) found
+
+    line-is : lineOf s (rowOf t k) ≡ lineIn t k
+    line-is = ap₂ (lineText (rowOf t k .id)) latency-is misses-is
+
+  lines-are : (n : ℕ) → n ≤ t .count → flatMap (lineOf s) (take n (t .row)) ≡ linesIn t n
+  unfolding flatMap linesIn
+  lines-are zero h = refl
+  lines-are (suc n) h =
+      let l : n < length (t .row) = omega (arith, h, good .size, good .few) in
+      ap (flatMap (lineOf s)) (take-suc (t .row) n none l) ∙ flatMap-more (lineOf s) (take n (t .row)) (rowOf t n)
+      ∙ ap₂ (λ a b. a ++ b) (lines-are n (omega arith)) (line-is n (omega arith))
+
+  -- the report of an accepted table
+  pub report-accepted : reportOf s ≡ header ++ linesIn t (t .count)
+  unfolding reportOf
+  report-accepted = ap (λ v. byVerdict v (header ++ flatMap (lineOf s) (rows t))) yes ∙ ap (λ l. header ++ l) (lines-are (t .count) (omega arith))
+
+-- the report of a refused one
+pub report-refused : (s : List ℕ) (n : ℕ) → readTable s .verdict ≡ Faulty n → reportOf s ≡ refusedWord ++ decimal n ++ feed
+unfolding reportOf
+report-refused s n e = ap (λ v. byVerdict v (header ++ flatMap (lineOf s) (rows (readTable s .table)))) e
+
+-- the report stands first in the buffer
+pub wrote-report : (s : List ℕ) {text before after : List ℕ} {r : ℕ} → reportOf s ≡ text → length before ≡ longest → Wrote before 0 text after r
+    → Reported s before after r
+wrote-report s {text} e l w =
+    let z : 0 + length text ≡ length text = omega arith in
+    record { answers = rw e (w .ends ∙ z); fits = omega (arith, w .ends, w .fits, l); leaves = rw (e, ← z) (w .holds) }
+
+-- as many bytes of the buffer as are answered are the report
+module _ {s before after : List ℕ} {r : ℕ} (h : Reported s before after r) where
+  pub reported-within : r ≤ length after
+  reported-within = omega (arith, h .answers, ap length (h .leaves) ∙ length-append (reportOf s) (drop (length (reportOf s)) before))
+
+  pub reported-text : take r after ≡ reportOf s
+  reported-text = rw (h .leaves) (take-at (reportOf s) (drop (length (reportOf s)) before) r (sym (h .answers)))
+
+  pub reported-count : r ≡ length (take r after)
+  reported-count = h .answers ∙ ap length (sym reported-text)

@@ -1,0 +1,4 @@
+pub mod Answers
+pub mod Decimals
+pub mod Refusals
+pub mod Writes

@@ -1,0 +1,45 @@
+-- A chain's windows are refused with 16 or 17 only, and the text of these. Assumes nothing.
+use Prim.Native.Nat.{ℕ}
+use native.Mathlib.Omega.{arith}
+use mathlib.Core.Path.{_≡_, refl}
+use mathlib.Core.List.{List, [], _∷_}
+use mathlib.Core.Logic.{inl, inr}
+use lib.Dec.{ltb}
+use Rattle.search.specs.Choice.{_when_else_}
+use Rattle.search.proofs.Choice.{when-cases}
+use Rattle.table.specs.Limits.{maxActivations}
+use Rattle.windows.specs.Latency.{closeOf, endsWith, windowsOf, boundOf}
+use Rattle.windows.specs.Window.{windowOf}
+use Rattle.windows.specs.declared.Window.{Window}
+use Rattle.windows.specs.declared.Window.the-variants.{At, Nothing}
+use Rattle.windows.specs.declared.Windows.{Windows}
+use Rattle.windows.specs.declared.Answer.the-variants.{Refused}
+use Rattle.table.specs.declared.Row.{Row}
+use Rattle.segments.specs.View.{View}
+use Rattle.report_text.specs.Numbers.{decimal, digits}
+use Rattle.report_text.specs.Report.{after, refusal}
+use Rattle.report_text.specs.Writing.{Bounded}
+
+windows-bounded : (demand : ℕ → ℕ → ℕ) (ds : List ℕ) (deadline : ℕ) → Bounded (windowsOf demand ds deadline .answer)
+unfolding windowsOf
+windows-bounded demand ds deadline =
+    when-cases (λ (w : Windows). Bounded (w .answer)) (ltb maxActivations (closeOf demand ds))
+    (λ e. record { refused = λ n r. inr (cc) })
+    (λ e. by (windowOf (demand (closeOf demand ds))))
+  where
+    by : (w : Window) → Bounded (endsWith demand ds deadline (closeOf demand ds) w .answer)
+    by (At t) = record { refused = λ n r. absurd (let z : _≡_ {A = ℕ} 0 1 = cc in omega arith) }
+    by Nothing = record { refused = λ n r. inl (cc) }
+
+pub bounded : (b : Row) (others : List View) → Bounded (boundOf b others .answer)
+unfolding boundOf
+bounded b others = windows-bounded _ _ _
+
+-- ` r16` and ` r17`
+pub text-16 : after (refusal 16) ≡ 32 ∷ 114 ∷ 49 ∷ 54 ∷ []
+unfolding decimal digits _when_else_
+text-16 = refl
+
+pub text-17 : after (refusal 17) ≡ 32 ∷ 114 ∷ 49 ∷ 55 ∷ []
+unfolding decimal digits _when_else_
+text-17 = refl

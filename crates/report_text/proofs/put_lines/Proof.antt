@@ -1,0 +1,77 @@
+-- After the header, the lines of the chains up to i.
+use Prim.Native.Nat.{_+_, _*_, _-_, _≤_}
+use native.Mathlib.Omega.{arith}
+use mathlib.Core.Path.{_≡_, subst, _∙_}
+use mathlib.Core.List.{_++_}
+use denote.Ref.{now}
+use borrow.Author.Needs.{needs}
+use Rattle.report_text.specs.Report.{header}
+use Rattle.report_text.specs.Writing.{Wrote, linesIn}
+use Rattle.report_text.proofs.Answers.{lines-none, lines-on}
+use Rattle.report_text.proofs.Writes.{wrote-on}
+use Rattle.report_text.proofs.put_lines.Statement.{statement}
+use Rattle.report_text.proofs.put_lines.Tie as tie
+
+abbrev Inv-loop : tie.InvT-loop
+Inv-loop out₀ t at₀ i₀ out at i = (i ≤ t .count) × (at ≤ at₀ + 68 * i) × Wrote out₀ at₀ (linesIn t i) out at
+
+abbrev μ-loop : tie.MeasureT-loop
+μ-loop out₀ t at₀ i₀ out at i = t .count - i
+
+slice-aggregate-put-text : tie.Need-slice-aggregate-put-text Inv-loop μ-loop
+slice-aggregate-put-text c = search needs
+
+put-text-requires : tie.Need-put-text-requires Inv-loop μ-loop
+put-text-requires c κs = omega (arith, c .before .before .before .pre .0)
+
+loop-holds : tie.Need-loop-holds Inv-loop μ-loop
+loop-holds c =
+    let s = c .before .before .before .before .before .before in
+    let h = c .before .before .put-text in
+    let e = h .ensures .ends in
+    (omega arith, omega arith, lines-none (s .args .t) (h .last .0) (h .result) (omega (arith, e, h .ensures .long, s .pre .0)))
+
+put-line-requires : tie.Need-put-line-requires Inv-loop μ-loop
+put-line-requires c κs =
+    let s = c .before .before .before .before .before .before .before .before .before .before in
+    let h = c .before .before .before .before .before .before .put-text .ensures in
+    let l = c .before .before .before .loop in
+    (omega (arith, l .inv .1, l .inv .2 .long, h .ends, h .long, s .pre .0, s .pre .1 .few, c .before .if1 .taken), s .pre .1, c .before .if1 .taken)
+
+add-i : tie.Need-add-i Inv-loop μ-loop
+add-i c = omega (arith, c .before .before .before .before .before .before .before .before .before .before .before .before .before .pre .1 .few, c .before .before .before .before .if1 .taken)
+
+loop-less : tie.Need-loop-less Inv-loop μ-loop
+loop-less c = omega (arith, c .before .before .before .before .if1 .taken)
+
+loop-again : tie.Need-loop-again Inv-loop μ-loop
+loop-again c =
+    let l = c .before .before .before .before .before .before .loop in
+    let w = c .before .before .put-line .ensures in
+    (omega (arith, c .before .before .before .before .if1 .taken), omega (arith, l .inv .1, w .1), rw (lines-on) (wrote-on (l .inv .2) (w .0)))
+
+same-length : tie.Need-same-length Inv-loop μ-loop
+same-length c = c .before .before .loop .inv .2 .long ∙ c .before .before .before .before .before .put-text .ensures .long
+
+returns : tie.Need-returns Inv-loop μ-loop
+returns c =
+    let l = c .before .before .loop in
+    let s = c .before .before .before .before .before .before .before .before .before in
+    let e : l .i ≡ s .args .t .count = omega (arith, c .if1 .left, l .inv .0) in
+    subst (λ n. Wrote (now (s .args .out)) 0 (header ++ linesIn (s .args .t) n) (l .out) (l .at)) e (wrote-on (c .before .before .before .before .before .put-text .ensures) (l .inv .2))
+
+pub put-lines-spec : {M : Type 1} → statement M
+put-lines-spec =
+    tie.close
+    (tie.spec
+    Inv-loop
+    μ-loop
+    slice-aggregate-put-text
+    put-text-requires
+    loop-holds
+    put-line-requires
+    add-i
+    loop-less
+    loop-again
+    same-length
+    returns)

@@ -1,0 +1,80 @@
+-- The report (01, 'The C editor and the report'): its text, in ASCII, over the bytes of a stored table.
+use Prim.Native.Nat.{ℕ, _+_, _*_, _≤_}
+use mathlib.Core.Path.{_≡_}
+use mathlib.Core.List.{List, [], _∷_, _++_, flatMap}
+use lib.ListN.{length, drop}
+use Rattle.table.specs.Find.{rows}
+use Rattle.table.specs.Limits.{maxChains}
+use Rattle.table.specs.Read.{readTable}
+use Rattle.table.specs.declared.Row.{Row}
+use Rattle.table.specs.declared.Verdict.{Verdict}
+use Rattle.table.specs.declared.Verdict.the-variants.{Accepted, Refused as Faulty}
+use Rattle.windows.specs.Latency.{latencyOf}
+use Rattle.windows.specs.declared.Answer.{Answer as Latency}
+use Rattle.windows.specs.declared.Answer.the-variants.{Figures, Refused as Unbounded}
+use Rattle.misses.specs.Misses.{missesOf}
+use Rattle.misses.specs.declared.Answer.{Answer as Missed}
+use Rattle.misses.specs.declared.Answer.the-variants.{Misses, Refused}
+use Rattle.report_text.specs.Numbers.{decimal, signed}
+
+-- `chain K latency late margin miss10`, and a line feed
+abbrev pub header : List ℕ
+header = 99 ∷ 104 ∷ 97 ∷ 105 ∷ 110 ∷ 32 ∷ 75 ∷ 32 ∷ 108 ∷ 97 ∷ 116 ∷ 101 ∷ 110 ∷ 99 ∷ 121 ∷ 32 ∷ 108 ∷ 97 ∷ 116 ∷ 101 ∷ 32 ∷ 109 ∷ 97 ∷ 114 ∷ 103 ∷ 105 ∷ 110 ∷ 32 ∷ 109 ∷ 105 ∷ 115 ∷ 115 ∷ 49 ∷ 48 ∷ 10 ∷ []
+
+-- `refused` and a space
+abbrev pub refusedWord : List ℕ
+refusedWord = 114 ∷ 101 ∷ 102 ∷ 117 ∷ 115 ∷ 101 ∷ 100 ∷ 32 ∷ []
+
+-- the end of a line, and a word after a space
+abbrev pub feed : List ℕ
+feed = 10 ∷ []
+
+abbrev pub after : List ℕ → List ℕ
+after word = 32 ∷ word
+
+-- `r` and a number
+abbrev pub refusal : ℕ → List ℕ
+refusal n = 114 ∷ decimal n
+
+-- the misses are those for k = 10
+abbrev pub missRun : ℕ
+missRun = 10
+
+-- `r` and a number if refused
+abbrev pub missedText : Missed → List ℕ
+missedText (Misses n) = decimal n
+missedText (Refused n) = refusal n
+
+-- K, latency, late, margin, misses; a latency refusal stands alone
+abbrev pub answersText : Latency → Missed → List ℕ
+answersText (Figures k latency late margin) missed =
+    after (decimal k) ++ after (decimal latency) ++ after (decimal late) ++ after (signed margin) ++ after (missedText missed)
+answersText (Unbounded n) missed = after (refusal n)
+
+-- a line: the id, and the two answers
+abbrev pub lineText : ℕ → Latency → Missed → List ℕ
+lineText id latency missed = decimal id ++ answersText latency missed ++ feed
+
+-- the line of a chain: what the latency query and the miss query answer for its id
+abbrev pub lineOf : List ℕ → Row → List ℕ
+lineOf s r = lineText (r .id) (latencyOf s (r .id)) (missesOf s (r .id) missRun)
+
+-- a refused table prints only one line, `refused` and the number, without the header
+abbrev pub byVerdict : Verdict → List ℕ → List ℕ
+byVerdict Accepted text = text
+byVerdict (Faulty n) text = refusedWord ++ decimal n ++ feed
+
+-- the whole text: header, then a line per chain in table order
+unfoldable pub reportOf : List ℕ → List ℕ
+reportOf s = byVerdict (readTable s .verdict) (header ++ flatMap (lineOf s) (rows (readTable s .table)))
+
+-- more bytes no report has: 35 in the header, and 68 in a line of six numbers of 32 bits, one with a sign and one after `r`
+abbrev pub longest : ℕ
+longest = 35 + maxChains * 68
+
+-- r is answered, and the buffer that held `before` holds `after`: the text's length, never above the longest, and the text,
+-- then the rest as it was
+pub record Reported (s before after : List ℕ) (r : ℕ) : Type 0 where
+  pub answers : r ≡ length (reportOf s)
+  pub fits : r ≤ longest
+  pub leaves : after ≡ reportOf s ++ drop (length (reportOf s)) before

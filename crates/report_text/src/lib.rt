@@ -1,0 +1,59 @@
+// The report's text (document 01, 'The C editor and the report'), written into a lent buffer.
+mod lines;
+mod text;
+
+use lines::put_line;
+use table::Table;
+use table::Verdict;
+use table::read;
+use text::put_byte;
+use text::put_decimal;
+use text::put_text;
+ghost use mathlib.Core.List.{_++_};
+ghost use Prim.Native.Nat.{_≤_};
+ghost use lib.ListN.{length};
+ghost use Rattle.table.specs.Good.{GoodTable};
+ghost use Rattle.report_text.specs.Numbers.{decimal};
+ghost use Rattle.report_text.specs.Report.{header, refusedWord, feed, longest, Reported};
+ghost use Rattle.report_text.specs.Writing.{Wrote, linesIn};
+
+// The longest line, and the longest report: the header and a line for each chain.
+const LINE: usize = 68;
+
+pub const LONGEST: usize = 35 + Table::CHAINS * LINE;
+
+// The only line of a refused table.
+fn put_refused(out: &mut [u8], n: u32) -> usize
+    requires { ⌜ longest ≤ length (now out) ⌝ }
+    ensures { λ r. ⌜ Wrote (now (out .entry)) 0 (refusedWord ++ decimal n ++ feed) (now (out .exit)) r ⌝ }
+{
+    let word = put_text(out, 0, b"refused ");
+    let number = put_decimal(out, word, n);
+    put_byte(out, number, b'\n')
+}
+
+// The header and a line for each chain.
+fn put_lines(out: &mut [u8], t: Table) -> usize
+    requires { ⌜ (longest ≤ length (now out)) × GoodTable t ⌝ }
+    ensures { λ r. ⌜ Wrote (now (out .entry)) 0 (header ++ linesIn t (t .count)) (now (out .exit)) r ⌝ }
+{
+    let mut at = put_text(out, 0, b"chain K latency late margin miss10\n");
+    let mut i: usize = 0;
+    while i < t.count {
+        at = put_line(out, at, t, i);
+        i += 1;
+    }
+    at
+}
+
+// The report of a stored table: its length, and the text at the start of the buffer.
+pub fn report(table: &[u8], out: &mut [u8; LONGEST]) -> usize
+    ensures { λ r. ⌜ Reported (now (table .entry)) (now (out .entry)) (now (out .exit)) r ⌝ }
+{
+    let reading = read(table);
+    let verdict = reading.verdict;
+    match verdict {
+        Verdict::Accepted => put_lines(out, reading.table),
+        Verdict::Refused(n) => put_refused(out, n),
+    }
+}

@@ -1,0 +1,63 @@
+#!/usr/bin/env bash
+# Tries the command `./mishtodran report`: what it prints, and what it does where reading or writing fails.
+# Usage: tests/report_command.sh
+set -u
+cd "$(dirname "${BASH_SOURCE[0]}")/.." || exit 1
+room=$(mktemp -d) || exit 1
+trap 'rm -rf "$room"' EXIT
+
+fail() {
+    echo "report_command: $1"
+    exit 1
+}
+
+# prints WHAT TEXT: the command on standard input prints the text, ends well, and says nothing else.
+prints() {
+    ./mishtodran report >"$room/out" 2>"$room/err" || fail "$1: it failed"
+    printf '%s\n' "$2" | cmp -s - "$room/out" || fail "$1: another text"
+    [ ! -s "$room/err" ] || fail "$1: it says something on standard error"
+}
+
+# fails WHAT: the last command failed, printed nothing, and said why.
+fails() {
+    [ "$status" -ne 0 ] || fail "$1: it ended well"
+    [ ! -s "$room/out" ] || fail "$1: it printed something"
+    [ -s "$room/err" ] || fail "$1: it says nothing on standard error"
+}
+
+header='chain K latency late margin miss10'
+sample="$header
+1 1 64 1 -24 3
+2 1 5 0 95 0
+3 1 62 0 438 r14
+4 1 39 0 261 r14"
+study="$header
+4 1 175 0 25 0
+3 2 331 1 -131 5
+2 1 111 0 889 r14
+1 1 137 0 863 r14"
+
+./mishtodran report examples/sample.table >"$room/out" || fail "the sample: it failed"
+printf '%s\n' "$sample" | cmp -s - "$room/out" || fail "the sample: another text"
+prints "the sample on standard input" "$sample" <examples/sample.table
+prints "the case study" "$study" <examples/case_study.table
+prints "no bytes" "refused 1" </dev/null
+prints "a cut table" "refused 2" < <(head -c 139 examples/sample.table)
+prints "a table in two parts" "$sample" < <(head -c 70 examples/sample.table && sleep 1 && tail -c +71 examples/sample.table)
+prints "too many bytes" "refused 1" < <(head -c 1285 /dev/zero)
+prints "far too many bytes" "refused 1" < <(head -c 100000 /dev/zero)
+
+./mishtodran report "$room" >"$room/out" 2>"$room/err"
+status=$?
+fails "a folder"
+./mishtodran report "$room/none" >"$room/out" 2>"$room/err"
+status=$?
+fails "no such file"
+./mishtodran report <&- >"$room/out" 2>"$room/err"
+status=$?
+fails "no standard input"
+: >"$room/out"
+./mishtodran report examples/sample.table >/dev/full 2>"$room/err"
+status=$?
+fails "a full disk"
+echo "report_command: as it should be"
