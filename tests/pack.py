@@ -11,6 +11,7 @@ table's length (2 bytes), the table. The kinds and their six numbers, 0 where on
   1 segment   chain, against, number, offset, length
   2 latency   id, K, latency, late, margin + 10,000,000
   3 misses    id, k, misses
+  4 report    length of the text, which follows the table
 
 Each different table of any file gives a case of kind 0. Its verdict is worked out here, by a reader written from document 01,
 and held against what the case says. Cases of refusal 27 speak of the answer buffer, which these queries do not have. After
@@ -213,11 +214,35 @@ def misses(folder):
             + [packed(3, 0, [ident, k, missed], table) for table, ident, k, missed in MISSES])
 
 
+HEADER = "chain K latency late margin miss10\n"
+
+# (table, text)
+REPORTS = [
+    (SAMPLE, HEADER + "1 1 64 1 -24 3\n2 1 5 0 95 0\n3 1 62 0 438 r14\n4 1 39 0 261 r14\n"),
+    (EDGE, HEADER + "1 1 10000000 0 0 r15\n"),
+    (PAST, HEADER + "1 r16\n2 1 1 0 0 r15\n"),
+    (backlog(1024), HEADER + "1 1024 1034 934 -934 r15\n2 1 1024 1 -924 r14\n"),
+    (backlog(1025), HEADER + "1 r17\n2 1 1025 1 -925 r14\n"),
+    (STUDY, HEADER + "4 1 175 0 25 0\n3 2 331 1 -131 5\n2 1 111 0 889 r14\n1 1 137 0 863 r14\n"),
+    (b"", "refused 1\n"),
+    (SAMPLE[:1], "refused 2\n"),
+    (SAMPLE[:-1], "refused 2\n"),
+    (SAMPLE + b"E", "refused 11\n"),
+    (bytes(1284), "refused 3\n"),
+    (bytes(1285), "refused 1\n"),
+]
+
+
+def reports(folder):
+    known = [(bytes.fromhex(case["table"]), case["text"]) for case in cases(folder, "report")]
+    return [packed(4, 0, [len(text)], table) + text.encode("ascii") for table, text in known + REPORTS]
+
+
 def main():
     if len(sys.argv) != 3:
         sys.exit(__doc__)
     folder = sys.argv[2]
-    everything = readings(folder) + segments(folder) + latencies(folder) + misses(folder)
+    everything = readings(folder) + segments(folder) + latencies(folder) + misses(folder) + reports(folder)
     with open(sys.argv[1], "wb") as out:
         out.write(b"".join(everything))
     print(f"{len(everything)} cases")

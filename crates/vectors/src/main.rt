@@ -1,5 +1,6 @@
 // Runs packed cases with known answers through the queries, and says of each whose answer is another.
-// A case is 28 bytes and a table: its kind, the number to be given back, six numbers, and the table's length.
+// A case is 28 bytes and a table: its kind, the number to be given back, six numbers, and the table's length. The text of a
+// report follows its table.
 use table::Verdict;
 ghost use Prim.Native.Nat.{_<_};
 
@@ -115,6 +116,22 @@ fn misses_right(s: &[u8], c: Case) -> bool {
     }
 }
 
+// The report's text, whose `values[0]` bytes come next on standard input.
+fn report_right(s: &[u8], c: Case) -> bool {
+    let mut body = io::buffer();
+    let length = c.values[0] as usize;
+    if body.len() < length {
+        return false;
+    }
+    let expected = &mut body[..length];
+    if io::read_full(libc::STDIN_FILENO, expected) < length {
+        return false;
+    }
+    let mut text = [0u8; report_text::LONGEST];
+    let n = report_text::report(s, &mut text);
+    check::same(&text[..n], expected)
+}
+
 fn right(s: &[u8], c: Case) -> bool {
     let kind = c.kind;
     match kind {
@@ -122,6 +139,7 @@ fn right(s: &[u8], c: Case) -> bool {
         1 => segment_right(s, c),
         2 => latency_right(s, c),
         3 => misses_right(s, c),
+        4 => report_right(s, c),
         _ => false,
     }
 }
