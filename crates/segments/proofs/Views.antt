@@ -2,13 +2,14 @@
 use Prim.Native.Nat.{ℕ, _+_, _<_}
 use native.Mathlib.Omega.{arith}
 use mathlib.Core.Path.{_≡_, refl, ap, ap₂, sym, _∙_}
-use mathlib.Core.List.{List, [], _∷_, _++_, map, map-map, map-id, flatten, List·Permᴰ, Permᴰ·symm, Permᴰ·refl}
+use mathlib.Core.List.{List, [], _∷_, _++_, map, map-map, flatten, List·Permᴰ, Permᴰ·symm, Permᴰ·refl}
 use mathlib.Core.Bool.{false, not}
 use borrow.Author.Tests.{not-true}
 use lib.Dec.{eqb}
 use lib.ListN.{length, take}
 use Rattle.search.specs.Lists.{sumOf, mostOf, All, Paired}
 use Rattle.search.proofs.Lists.{perm-sum, perm-most, all-map, paired-perm}
+use Rattle.search.proofs.Pairing.{paired-order}
 use Rattle.table.specs.declared.Row.{Row}
 use Rattle.segments.specs.Tasks.{Task, tasksOf, costOf, chainCost, floorOf, tailOf, below, deferred, firstCost}
 use Rattle.segments.specs.Segments.{onward, around, full, segments, segmentsOf, cutSegments, allCost, dearestCost}
@@ -153,19 +154,8 @@ alike-self v = record {
   list = refl;
   free = refl;
   first = refl;
-  segments =
-      let two : List ℕ → List ℕ × List ℕ = λ s. (s, s) in
-      record {
-        pairs = map two (v .segments);
-        firsts = rw (map-map (λ p. p .0) two (v .segments), map-id (v .segments)) (Permᴰ·refl (v .segments));
-        seconds = rw (map-map (λ p. p .1) two (v .segments), map-id (v .segments)) (Permᴰ·refl (v .segments));
-        related = each (v .segments);
-      };
+  segments = paired-order Permᴰ·refl (Permᴰ·refl (v .segments));
 }
-  where
-    each : (l : List (List ℕ)) → All {A = List ℕ × List ℕ} (λ p. List·Permᴰ (p .0) (p .1)) (map (λ s. (s, s)) l)
-    each [] = tt
-    each (s ∷ l) = (Permᴰ·refl s, each l)
 
 pub alike-turn : {v w : View} → Alike v w → Alike w v
 alike-turn s = record {
