@@ -9,8 +9,8 @@ use lib.ListN.{length, getD}
 use borrow.Author.Tests.{ltb-false}
 use Rattle.search.specs.Choice.{_when_else_}
 use Rattle.search.specs.Lists.{Paired}
-use Rattle.search.proofs.Lists.{all-map, paired-perm}
-use Rattle.search.proofs.Pairing.{keep, paired-keep, paired-map}
+use Rattle.search.proofs.Lists.{paired-perm}
+use Rattle.search.proofs.Pairing.{keep, paired-keep, paired-weaker, paired-map}
 use Rattle.table.specs.Limits.{maxOverloads, maxCapacity}
 use Rattle.table.specs.declared.Row.{Row}
 use Rattle.arrivals.specs.Arrivals.{distances, η, largest}
@@ -70,7 +70,7 @@ module _ (b : Row) {vs ws : List View} (views : Paired Alike vs ws) {os ps : Lis
     again =
         let test : List ℕ → Bool = λ ds. ltb 1 (η ds last) in
         sym (some-map (λ o. o .list) test os)
-        ∙ perm-some test (paired-perm (λ o. o .list) (λ o. o .list) (record { pairs = r .pairs; firsts = r .firsts; seconds = r .seconds; related = all-map (λ p h. h .list) (r .pairs) (r .related) }))
+        ∙ perm-some test (paired-perm (λ o. o .list) (λ o. o .list) (paired-weaker r (λ o p h. h .list)))
         ∙ some-map (λ o. o .list) test ps
 
     same-bad : (m : ℕ) → badOf b vs os close m ≡ bad (over (demandOf b (typical ws)) (distances b) (b .deadline) close) (piecesOf os) m

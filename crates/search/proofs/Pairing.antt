@@ -1,12 +1,15 @@
--- Lists paired off one to one stay so: those that pass a test, what the elements give, and a list beside itself in any order.
--- Assumes nothing.
-use mathlib.Core.Path.{_≡_, refl, ap, sym, _∙_}
-use mathlib.Core.List.{List, [], _∷_, map, map-map, map-id, List·Permᴰ, List·Permᴰ·nil, List·Permᴰ·cons, List·Permᴰ·swap, List·Permᴰ·trans, Permᴰ·refl, Permᴰ·map}
+-- Lists paired off one to one stay so: those that pass a test, what the elements give, one more, and a list beside itself in any order
+-- or with one element replaced. Assumes nothing.
+use Prim.Native.Nat.{ℕ, zero, suc}
+use mathlib.Core.Path.{_≡_, refl, ap, sym, subst, _∙_}
+use mathlib.Core.List.{List, [], _∷_, map, map-map, map-id, List·Permᴰ, List·Permᴰ·nil, List·Permᴰ·cons, List·Permᴰ·swap, List·Permᴰ·trans, Permᴰ·refl, Permᴰ·symm, Permᴰ·map}
 use mathlib.Core.Bool.{Bool, true, false}
+use native.Mathlib.Omega.{arith}
+use lib.ListN.{length, getD, set}
 use Rattle.search.specs.Choice.{_when_else_}
-use Rattle.search.specs.Lists.{All, Paired}
+use Rattle.search.specs.Lists.{sumOf, All, Paired}
 use Rattle.search.proofs.Choice.{when-cases}
-use Rattle.search.proofs.Lists.{all-map}
+use Rattle.search.proofs.Lists.{all-map, perm-sum, perm-all, paired-perm}
 
 -- those that pass a test, in order
 unfoldable pub keep : {A : Type 0} → (A → Bool) → List A → List A
@@ -65,6 +68,14 @@ module _ {A B : Type 0} {R : A → B → Type 0} {xs : List A} {ys : List B} (r 
         related = all-keep test (λ x. R (x .0) (x .1)) ps (r .related);
       }
 
+  -- related otherwise
+  pub paired-weaker : {S : A → B → Type 0} → ((a : A) (b : B) → R a b → S a b) → Paired S xs ys
+  paired-weaker f = record { pairs = r .pairs; firsts = r .firsts; seconds = r .seconds; related = all-map (λ x h. f (x .0) (x .1) h) (r .pairs) (r .related) }
+
+  -- one more in front
+  pub paired-cons : {a : A} {b : B} → R a b → Paired R (a ∷ xs) (b ∷ ys)
+  paired-cons {a} {b} h = record { pairs = (a, b) ∷ r .pairs; firsts = List·Permᴰ·cons refl (r .firsts); seconds = List·Permᴰ·cons refl (r .seconds); related = (h, r .related) }
+
   -- what the two of a pair give
   pub paired-map : {C D : Type 0} {S : C → D → Type 0} (f : A → C) (g : B → D) → ((a : A) (b : B) → R a b → S (f a) (g b)) → Paired S (map f xs) (map g ys)
   paired-map {C} {D} {S} f g give =
@@ -95,3 +106,29 @@ paired-order {A} {R} own {l} {k} p =
     each : (l : List A) → All {A = A × A} (λ x. R (x .0) (x .1)) (map (λ a. (a, a)) l)
     each [] = tt
     each (a ∷ l) = (own a, each l)
+
+-- and with one element replaced
+pub paired-set : {A : Type 0} {R : A → A → Type 0} → ((a : A) → R a a) → (l : List A) (k : ℕ) (z c : A) → R (getD l k z) c → Paired R l (set l k c)
+paired-set own [] k z c h = paired-order own (Permᴰ·refl [])
+paired-set own (a ∷ l) zero z c h = paired-cons (paired-order own (Permᴰ·refl l)) h
+paired-set own (a ∷ l) (suc k) z c h = paired-cons (paired-set own l k z c h) (own a)
+
+-- two lists that pair off are equally long
+pub paired-length : {A B : Type 0} {R : A → B → Type 0} {xs : List A} {ys : List B} → Paired R xs ys → length xs ≡ length ys
+unfolding sumOf
+paired-length {xs = xs} {ys = ys} r =
+    let p = paired-perm {C = ℕ} (λ a. 1) (λ b. 1) (paired-weaker r (λ a b h. refl)) in
+    ones xs ∙ perm-sum (λ n. n) p ∙ sym (ones ys)
+  where
+    ones : {A : Type 0} (l : List A) → length l ≡ sumOf (λ n. n) (map (λ a. 1) l)
+    ones [] = refl
+    ones (a ∷ l) = omega (arith, ones l)
+
+-- the only two are related
+pub paired-single : {A B : Type 0} {R : A → B → Type 0} {a : A} {b : B} → Paired R (a ∷ []) (b ∷ []) → R a b
+paired-single {A} {B} {R} {a} {b} r =
+    go (r .pairs) (paired-length (paired-order {R = λ x y. x ≡ y} (λ x. refl) (r .firsts))) (perm-all (λ x. x ≡ a) (r .firsts) (refl, tt)) (perm-all (λ y. y ≡ b) (Permᴰ·symm (r .seconds)) (refl, tt)) (r .related)
+  where
+    go : (ps : List (A × B)) → length (a ∷ []) ≡ length (map (λ p. p .0) ps) → All (λ x. x ≡ a) (map (λ p. p .0) ps) → All (λ y. y ≡ b) (map (λ p. p .1) ps) → All (λ p. R (p .0) (p .1)) ps → R a b
+    go [] e x y h = absurd (omega (arith, e))
+    go (p ∷ ps) e x y h = subst (λ c. R c b) (x .0) (subst (R (p .0)) (y .0) (h .0))

@@ -8,8 +8,8 @@ use borrow.Author.Tests.{not-true}
 use lib.Dec.{eqb}
 use lib.ListN.{length, take}
 use Rattle.search.specs.Lists.{sumOf, mostOf, All, Paired}
-use Rattle.search.proofs.Lists.{perm-sum, perm-most, all-map, paired-perm}
-use Rattle.search.proofs.Pairing.{paired-order}
+use Rattle.search.proofs.Lists.{perm-sum, perm-most, paired-perm}
+use Rattle.search.proofs.Pairing.{paired-weaker, paired-order}
 use Rattle.table.specs.declared.Row.{Row}
 use Rattle.segments.specs.Tasks.{Task, tasksOf, costOf, chainCost, floorOf, tailOf, below, deferred, firstCost}
 use Rattle.segments.specs.Segments.{onward, around, full, segments, segmentsOf, cutSegments, allCost, dearestCost}
@@ -106,14 +106,7 @@ seen-shows a b = record {
 -- what no order of a segment's active segments moves is the same, segment by segment, in views that are alike
 module _ {v w : View} (s : Alike v w) where
   alike-perm : (f : List ℕ → ℕ) → ((l r : List ℕ) → List·Permᴰ l r → f l ≡ f r) → List·Permᴰ (map f (v .segments)) (map f (w .segments))
-  alike-perm f same =
-      paired-perm f f
-      (record {
-        pairs = s .segments .pairs;
-        firsts = s .segments .firsts;
-        seconds = s .segments .seconds;
-        related = all-map (λ p h. same (p .0) (p .1) h) (s .segments .pairs) (s .segments .related);
-      })
+  alike-perm f same = paired-perm f f (paired-weaker (s .segments) same)
 
   alike-sum : (f : List ℕ → ℕ) → ((l r : List ℕ) → List·Permᴰ l r → f l ≡ f r) → sumOf f (v .segments) ≡ sumOf f (w .segments)
   alike-sum f same =

@@ -6,8 +6,8 @@ use lib.Dec.{eqb}
 use native.Mathlib.Omega.{arith}
 use Rattle.search.specs.Choice.{_when_else_}
 use Rattle.search.specs.Lists.{sumOf, Paired}
-use Rattle.search.proofs.Lists.{perm-sum, all-map, paired-perm}
-use Rattle.search.proofs.Pairing.{keep, paired-keep}
+use Rattle.search.proofs.Lists.{perm-sum, paired-perm}
+use Rattle.search.proofs.Pairing.{keep, paired-keep, paired-weaker}
 use Rattle.table.specs.declared.Row.{Row}
 use Rattle.arrivals.specs.Arrivals.{η}
 use Rattle.segments.specs.View.{View, allOf, dearestOf, Alike}
@@ -35,12 +35,7 @@ module _ {vs ws : List View} (p : Paired Alike vs ws) where
   alike-terms : (t : ℕ) → sumOf (λ v. termOf v t) vs ≡ sumOf (λ v. termOf v t) ws
   alike-terms t =
       let f : View → ℕ = λ v. termOf v t in
-      let e : List·Permᴰ (map f vs) (map f ws) = paired-perm f f (record {
-        pairs = p .pairs;
-        firsts = p .firsts;
-        seconds = p .seconds;
-        related = all-map (λ q h. alike-term h t) (p .pairs) (p .related);
-      }) in
+      let e : List·Permᴰ (map f vs) (map f ws) = paired-perm f f (paired-weaker p (λ v w h. alike-term h t)) in
       sym (sum-map f (λ n. n) vs) ∙ perm-sum (λ n. n) e ∙ sum-map f (λ n. n) ws
 
   pub alike-demand : (b : Row) → demandOf b vs ≡ demandOf b ws
