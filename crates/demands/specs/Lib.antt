@@ -1,0 +1,4 @@
+pub mod Stored
+pub mod Entries
+pub mod Others
+pub mod Figures
