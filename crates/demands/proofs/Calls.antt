@@ -15,8 +15,7 @@ use Rattle.misses.specs.Misses as misses
 use Rattle.editor.specs.Entry.{figureBytes, written, returned, leftBy, latencyFigures, Answered}
 use Rattle.editor.proofs.Writing.{length-figures}
 use Rattle.demands.specs.Entries.{OneAnswer}
-use Rattle.demands.specs.Others.{SameBesides, SameCall}
-use Rattle.demands.proofs.Others.{same-besides}
+use Rattle.demands.specs.Others.{Unmoved, SameCall}
 use Rattle.demands.proofs.Answers.{latency-one, misses-one}
 
 -- what was written: the figures, and the rest as it was
@@ -63,12 +62,12 @@ same-call {n} {number} {figures} {before} {after} {before′} {after′} {r} {q}
         by zero h = absurd (h refl)
         by (suc k) h = refl
 
--- demand 3 at the latency entry and at the miss entry
-module _ {s r : List ℕ} {id : ℕ} (h : SameBesides s r id) {before after before′ after′ : List ℕ} {n m : ℕ} (long : length before ≡ length before′) where
+-- demand 3 at the latency entry and at the miss entry: wherever the answers for an id are unmoved, so are the calls
+module _ {s r : List ℕ} {id : ℕ} (h : Unmoved s r id) {before after before′ after′ : List ℕ} {n m : ℕ} (long : length before ≡ length before′) where
   pub same-latency-call : Answered 4 (latency.numberOf (latency.latencyOf s id)) (latencyFigures (latency.latencyOf s id)) before after n
       → Answered 4 (latency.numberOf (latency.latencyOf r id)) (latencyFigures (latency.latencyOf r id)) before′ after′ m → SameCall 4 before after n before′ after′ m
-  same-latency-call x y = same-call (latency-one s id) long x (rw (same-besides h .latency) y)
+  same-latency-call x y = same-call (latency-one s id) long x (rw (h .latency) y)
 
   pub same-misses-call : (k : ℕ) → Answered 1 (misses.numberOf (misses.missesOf s id k)) (misses.valuesOf (misses.missesOf s id k)) before after n
       → Answered 1 (misses.numberOf (misses.missesOf r id k)) (misses.valuesOf (misses.missesOf r id k)) before′ after′ m → SameCall 1 before after n before′ after′ m
-  same-misses-call k x y = same-call (misses-one s id k) long x (rw (same-besides h .misses k) y)
+  same-misses-call k x y = same-call (misses-one s id k) long x (rw (h .misses k) y)

@@ -2,7 +2,7 @@
 use Prim.Native.Nat.{ℕ, zero, suc, _+_, _-_, _≤_, _<_}
 use mathlib.Core.Path.{_≡_, refl, ap, ap₂, sym, subst, _∙_}
 use mathlib.Core.Bool.{Bool, true, false}
-use mathlib.Core.List.{List, map}
+use mathlib.Core.List.{List}
 use mathlib.Core.Logic.{_⊎_, inl, inr, ⊎-elim}
 use native.Mathlib.Omega.{arith}
 use lib.Dec.{ltb}
@@ -13,11 +13,12 @@ use Rattle.search.specs.Find.{first, Greatest}
 use Rattle.search.specs.Lists.{sumOf}
 use Rattle.search.proofs.Choice.{true-not-false, lt-or-le}
 use Rattle.search.proofs.Find.{first-ge, first-hit, first-miss, greatest-unique}
+use Rattle.table.specs.Good.{GoodRow}
+use Rattle.table.specs.declared.Row.{Row}
 use Rattle.table.specs.Limits.{maxActivations}
 use Rattle.arrivals.specs.Arrivals.{GoodDistances, distances, δ}
 use Rattle.arrivals.proofs.Rows.{good-distances}
-use Rattle.segments.specs.View.{viewOf}
-use Rattle.windows.specs.Demand.{demandOf, othersOf}
+use Rattle.windows.specs.Demand.{othersOf}
 use Rattle.windows.specs.Window.{Solution, windowOf}
 use Rattle.windows.specs.Latency.{long, ends, latencyAt, upTo, latencyTo, overOf, lateTo, marginOf, endsWith, windowsOf, boundOf, latencyOf}
 use Rattle.windows.specs.declared.Window.{Window}
@@ -35,6 +36,7 @@ use Rattle.saving.specs.Save.{tableOf}
 use Rattle.demands.specs.Stored.{Has, at, chainOf}
 use Rattle.demands.specs.Stored as stored
 use Rattle.demands.specs.Figures.{count, OpenTo, NoWindow, NoClose, Closes, Means}
+use Rattle.demands.specs.Misses.{full}
 use Rattle.demands.proofs.Chains.{table-good, latency-is}
 
 module _ (demand : ℕ → ℕ → ℕ) (ds : List ℕ) where
@@ -64,13 +66,13 @@ module _ (demand : ℕ → ℕ → ℕ) (ds : List ℕ) where
     abbrev answer : Answer
     answer = windowsOf demand ds deadline .answer
 
-    no-window : NoWindow demand ds → answer ≡ Refused 16
+    pub no-window : NoWindow demand ds → answer ≡ Refused 16
     no-window n =
         let e : windowOf (demand (n .q)) ≡ Nothing = sym (window-only (demand (n .q)) Nothing (n .none)) in
         ap (λ (w : Windows). w .answer)
         (windows-end demand ds deadline (n .q) (n .low) (n .high) (ap (λ w. ends w (δ ds (n .q + 1))) e) (walked (n .q) (n .earlier)) ∙ ap (endsWith demand ds deadline (n .q)) e)
 
-    no-close : NoClose demand ds → answer ≡ Refused 17
+    pub no-close : NoClose demand ds → answer ≡ Refused 17
     no-close o = ap (λ (w : Windows). w .answer) (windows-open demand ds deadline (walked (maxActivations + 1) o))
 
     -- the figures of windows
@@ -105,26 +107,31 @@ module _ (demand : ℕ → ℕ → ℕ) (ds : List ℕ) where
       late-counts zero h = refl
       late-counts (suc j) h = ap₂ _+_ (late-one (suc j) (omega arith) h) (late-counts j (omega arith))
 
-    closes : (k latency late : ℕ) (margin : ℤ) → Closes demand ds deadline k latency late margin → answer ≡ Figures k latency late margin
-    closes k latency late margin c =
+    -- with the last window
+    pub closes-last : (k latency late : ℕ) (margin : ℤ) (c : Closes demand ds deadline k latency late margin)
+        → windowsOf demand ds deadline ≡ record { answer = Figures k latency late margin; last = c .B k }
+    closes-last k latency late margin c =
         let x : latencyTo demand ds k ≡ latency = greatest-unique (longest k (c .B) (c .windows) (c .behind) (c .low)) (c .greatest) in
         let y : lateTo demand ds deadline k ≡ late = late-counts k (c .B) (c .windows) (c .behind) k (omega arith) ∙ sym (c .counts) in
-        ap (λ (w : Windows). w .answer)
-        (closing.closes-answer demand ds deadline (record {
+        closing.closes-answer demand ds deadline (record {
           low = c .low;
           high = c .high;
           last = window-is k (c .B k) (c .windows k (c .low) (omega arith));
           shut = c .shut;
           reach = λ q l h. (c .B q, window-is q (c .B q) (c .windows q l (omega arith)), c .reach q l h);
-        }))
-        ∙ ap₂ (λ a b. Figures k a b (marginOf deadline a)) x y ∙ ap (Figures k latency late) (sym (c .rest))
+        })
+        ∙ ap₂ (λ a b. record { answer = Figures k a b (marginOf deadline a); last = c .B k }) x y
+        ∙ ap (λ m. record { answer = Figures k latency late m; last = c .B k }) (sym (c .rest))
+
+    closes : (k latency late : ℕ) (margin : ℤ) → Closes demand ds deadline k latency late margin → answer ≡ Figures k latency late margin
+    closes k latency late margin c = ap (λ (w : Windows). w .answer) (closes-last k latency late margin c)
 
     -- so there are three answers
     module _ (growing : Growing demand) (good : GoodDistances ds) where
-      abbrev Closed : Type 0
+      abbrev pub Closed : Type 0
       Closed = (k : ℕ) × (latency : ℕ) × (late : ℕ) × (margin : ℤ) × Closes demand ds deadline k latency late margin
 
-      three : NoWindow demand ds ⊎ (NoClose demand ds ⊎ Closed)
+      pub three : NoWindow demand ds ⊎ (NoClose demand ds ⊎ Closed)
       three = ⊎-elim
           (λ h. inr (inl (λ p l m. opened p (first-miss ends-at 1 maxActivations p l (omega (arith, h, m))))))
           (λ h. by h (windowOf (demand (first ends-at 1 maxActivations))) refl)
@@ -205,15 +212,35 @@ module _ (demand : ℕ → ℕ → ℕ) (ds : List ℕ) where
           other f g (inr (inl o)) = no-close o
           other f g (inr (inr (k, latency, late, margin, c))) = absurd (f k latency late margin (closes k latency late margin c))
 
--- the demand of a chain of a stored table
-abbrev pub demandFor : List ℕ → ℕ → ℕ → ℕ → ℕ
-demandFor s id = demandOf (chainOf s id) (map (λ a. viewOf a (chainOf s id)) (stored.othersOf s id))
+      -- and no other answer meets the words
+      pub means-one : (a : Answer) → Means demand ds deadline a → a ≡ answer
+      means-one a m = go three
+        where
+          go : NoWindow demand ds ⊎ (NoClose demand ds ⊎ Closed) → a ≡ answer
+          go (inl n) = m .none .1 n ∙ sym (no-window n)
+          go (inr (inl o)) = m .unclosed .1 o ∙ sym (no-close o)
+          go (inr (inr (k, latency, late, margin, c))) = m .figures k latency late margin .1 c ∙ sym (closes k latency late margin c)
 
--- demand 2: the answer of the latency query for a chain of an accepted table
-pub latency-means : {s : List ℕ} {id : ℕ} → Has s id → Means (demandFor s id) (distances (chainOf s id)) (chainOf s id .deadline) (latencyOf s id)
-unfolding boundOf othersOf
-latency-means {s} {id} h =
-    let good = table-good (h .table) in
-    rw (latency-is h) (answer-means (demandFor s id) (distances (chainOf s id)) (chainOf s id .deadline)
-    (demand-growing (chainOf s id) _ (good .row (at s id) (h .there)) (others-paced (tableOf s) good (at s id)))
-    (good-distances (good .row (at s id) (h .there))))
+module _ {s : List ℕ} {id : ℕ} (h : Has s id) where
+  abbrev b : Row
+  b = chainOf s id
+
+  abbrev demandFor : ℕ → ℕ → ℕ
+  demandFor = full b (stored.othersOf s id)
+
+  good : GoodRow b
+  good = table-good (h .table) .row (at s id) (h .there)
+
+  growing : Growing demandFor
+  unfolding othersOf
+  growing = demand-growing b _ good (others-paced (tableOf s) (table-good (h .table)) (at s id))
+
+  -- demand 2: the answer of the latency query for a chain of an accepted table
+  pub latency-means : Means demandFor (distances b) (b .deadline) (latencyOf s id)
+  unfolding boundOf
+  latency-means = rw (latency-is h) (answer-means demandFor (distances b) (b .deadline) growing (good-distances good))
+
+  -- whatever meets the words is that answer: not always a refusal, nor a fixed figure, nor a made-up K, latency or late count
+  pub latency-only : (a : Answer) → Means demandFor (distances b) (b .deadline) a → a ≡ latencyOf s id
+  unfolding boundOf
+  latency-only a m = means-one demandFor (distances b) (b .deadline) growing (good-distances good) a m ∙ sym (latency-is h)

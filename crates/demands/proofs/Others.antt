@@ -24,7 +24,9 @@ use Rattle.misses.proofs.Views.{alike-misses}
 use Rattle.saving.specs.Save.{tableOf}
 use Rattle.saving.proofs.Splits.{rowIn}
 use Rattle.demands.specs.Stored.{IsTable, Has, at, chainOf, othersOf}
+use Rattle.demands.specs.Misses.{Right}
 use Rattle.demands.specs.Others.{segmentsOf, SameSegment, Agrees, Besides, SameBesides, Unmoved, Reordered, SameWork, SameActives}
+use Rattle.demands.proofs.Misses.{answers-right}
 use Rattle.demands.proofs.Chains.{own-row, latency-is, misses-are, latency-absent, misses-absent, bears, absent-or-there, none-bears, here, one-bears, others-bear}
 
 -- chains that agree against b are alike to it
@@ -63,6 +65,10 @@ module _ {s r : List ℕ} {id : ℕ} (one : Has s id) (two : Has r id) (row : ch
 -- demand 3: the latency answers are equal, and the miss answers are equal for every k, refusals included
 pub same-besides : {s r : List ℕ} {id : ℕ} → SameBesides s r id → Unmoved s r id
 same-besides h = rows-unmoved (h .one) (h .two) (sym (own-row (h .one)) ∙ ap rowIn (h .own) ∙ own-row (h .two)) (h .others)
+
+-- and both are those of demand 2
+pub same-and-right : {s r : List ℕ} {id : ℕ} → SameBesides s r id → Unmoved s r id × Right s id × Right r id
+same-and-right h = (same-besides h, answers-right (h .one), answers-right (h .two))
 
 -- other chains' ids, deadlines and gaps changed
 tasks-same : {a c : Row} → SameWork a c → tasksOf a ≡ tasksOf c

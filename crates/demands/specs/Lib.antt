@@ -1,4 +1,6 @@
 pub mod Stored
 pub mod Entries
-pub mod Others
 pub mod Figures
+pub mod Misses
+pub mod Others
+pub mod Starred

@@ -44,7 +44,7 @@ module _ {A : Type 0} (p : A → Bool) where
 eqb-turn : (x y : ℕ) → eqb x y ≡ eqb y x
 eqb-turn x y = elim (ℕ-discrete x y) [ yes e ↦ eq-eqb x y e ∙ sym (eq-eqb y x (sym e)) | no e ↦ ne-eqb x y e ∙ sym (ne-eqb y x (λ f. e (sym f))) ]
 
-agree-turn : (p r : Piece) → agree p r ≡ agree r p
+pub agree-turn : (p r : Piece) → agree p r ≡ agree r p
 agree-turn p r = elim (ℕ-discrete (p .chain) (r .chain)) [
   | yes e ↦ when-yes _ _ (eq-eqb _ _ e) ∙ eqb-turn (p .segment) (r .segment) ∙ sym (when-yes _ _ (eq-eqb _ _ (sym e)))
   | no e ↦ when-no _ _ (ne-eqb _ _ e) ∙ sym (when-no _ _ (ne-eqb _ _ (λ f. e (sym f))))
