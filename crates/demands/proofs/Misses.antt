@@ -36,7 +36,7 @@ use Rattle.misses.proofs.Answers as answers
 use Rattle.saving.specs.Save.{tableOf}
 use Rattle.demands.specs.Stored.{Has, at, chainOf, othersOf}
 use Rattle.demands.specs.Figures.{Exactly}
-use Rattle.demands.specs.Misses.{views, marked, pieces, full, IsBad, MayAsk, Late, lastOf, Few, Once, Fine, Roomy, Most, Says, Right}
+use Rattle.demands.specs.Misses.{views, marked, pieces, full, IsBad, MayAsk, Figured, lastOf, Few, Once, Fine, Capped, Most, Says, Right}
 use Rattle.demands.proofs.Chains.{table-good, misses-are}
 use Rattle.demands.proofs.Figures.{no-window, no-close, closes-last, three, latency-means}
 use Rattle.demands.proofs.Sets.{bad-means}
@@ -113,7 +113,7 @@ module _ (b : Row) (l : List Row) (good : GoodRow b) (rows : All GoodRow l) (pac
   refused-by : MayAsk b l k → (n : ℕ) → windowsOf (full b l) (distances b) (b .deadline) .answer ≡ Unbounded n → answer ≡ Refused n
   refused-by a n e = by-windows a _ refl ∙ ap (λ x. byBound b (views b l) (marked b l) k x (windowsOf (full b l) (distances b) (b .deadline) .last)) e
 
-  module _ (f : Late b l k) where
+  module _ (f : Figured b l k) where
     by-figures : answer ≡ byFigures b (views b l) (marked b l) k (f .close) (f .latency) (f .late) (lastOf b l f)
     by-figures = by-windows (f .asked) _ (closes-last (full b l) (distances b) (b .deadline) (f .close) (f .latency) (f .late) (f .margin) (f .figures))
 
@@ -155,7 +155,7 @@ module _ (b : Row) (l : List Row) (good : GoodRow b) (rows : All GoodRow l) (pac
       by-figures f
       ∙ answers.without b (views b l) (marked b l) k (f .close) (f .latency) (f .late) (lastOf b l f) (λ e. omega (arith, e, h)) few
       (within-none 1 (λ o. η (o .list) (lastOf b l f)) (marked b l) once) (bad-exactly f 0 .1 x)
-  says-answer (Says.roomy f h few once fine n) =
+  says-answer (Says.above f h few once fine n) =
       by-figures f
       ∙ answers.too-roomy b (views b l) (marked b l) k (f .close) (f .latency) (f .late) (lastOf b l f) (λ e. omega (arith, e, h)) few
       (within-none 1 (λ o. η (o .list) (lastOf b l f)) (marked b l) once) (bad-false f fine) (not-within maxCapacity (λ c. c) (roomOf b (marked b l) k (f .latency)) n)
@@ -170,8 +170,8 @@ module _ (b : Row) (l : List Row) (good : GoodRow b) (rows : All GoodRow l) (pac
   is s = subst (Says b l k) (sym (says-answer s)) s
 
   -- no more than 6 active segments, and some activation is late: three tests are left
-  module _ (f : Late b l k) (h : 1 ≤ f .late) (few : Few b l) where
-    packed-says : Once b l f → Fine b l f → Roomy b l f → Says b l k answer
+  module _ (f : Figured b l k) (h : 1 ≤ f .late) (few : Few b l) where
+    packed-says : Once b l f → Fine b l f → Capped b l f → Says b l k answer
     packed-says once fine room =
         is (Says.packed f (mostUses (badOf b (views b l) (marked b l) (f .close)) (λ i. getD (roomOf b (marked b l) k (f .latency)) i 0)) h few once fine room (record {
           bad = badOf b (views b l) (marked b l) (f .close);
@@ -180,7 +180,7 @@ module _ (b : Row) (l : List Row) (good : GoodRow b) (rows : All GoodRow l) (pac
         }))
 
     roomy-says : Once b l f → Fine b l f → (t : Bool) → some (ltb maxCapacity) (roomOf b (marked b l) k (f .latency)) ≡ t → Says b l k answer
-    roomy-says once fine true e = is (Says.roomy f h few once fine (some-not maxCapacity (λ c. c) (roomOf b (marked b l) k (f .latency)) e))
+    roomy-says once fine true e = is (Says.above f h few once fine (some-not maxCapacity (λ c. c) (roomOf b (marked b l) k (f .latency)) e))
     roomy-says once fine false e = packed-says once fine (none-within maxCapacity (λ c. c) (roomOf b (marked b l) k (f .latency)) e)
 
     always-says : Once b l f → (t : Bool) → badOf b (views b l) (marked b l) (f .close) 0 ≡ t → Says b l k answer
@@ -191,7 +191,7 @@ module _ (b : Row) (l : List Row) (good : GoodRow b) (rows : All GoodRow l) (pac
     again-says true e = is (Says.again f h few (some-not 1 (λ o. η (o .list) (lastOf b l f)) (marked b l) e))
     again-says false e = always-says (none-within 1 (λ o. η (o .list) (lastOf b l f)) (marked b l) e) (badOf b (views b l) (marked b l) (f .close) 0) refl
 
-  late-says : Late b l k → Says b l k answer
+  late-says : Figured b l k → Says b l k answer
   late-says f = ⊎-elim
       (λ h. ⊎-elim (λ n. is (Says.many f h (λ few. omega (arith, n, few)))) (λ few. again-says f h few (some (starts (lastOf b l f)) (marked b l)) refl) (lt-or-le maxOverloads (length (pieces b l))))
       (λ h. is (Says.none f (omega arith)))

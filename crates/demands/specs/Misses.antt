@@ -68,8 +68,8 @@ module _ (b : Row) (l : List Row) where
     pub typical : b .overload ≡ 0
     pub gap : 1 ≤ b .gap
 
-  -- figures of the full analysis, with so many late activations, and its last window
-  pub record Late (k : ℕ) : Type 0 where
+  -- then the figures of the full analysis
+  pub record Figured (k : ℕ) : Type 0 where
     pub asked : MayAsk k
     pub close : ℕ
     pub latency : ℕ
@@ -77,7 +77,8 @@ module _ (b : Row) (l : List Row) where
     pub margin : ℤ
     pub figures : Closes full (distances b) (b .deadline) close latency late margin
 
-  abbrev pub lastOf : {k : ℕ} → Late k → ℕ
+  -- and its last window, B(K)
+  abbrev pub lastOf : {k : ℕ} → Figured k → ℕ
   lastOf f = f .figures .B (f .close)
 
   -- no more than 6 active segments
@@ -85,15 +86,15 @@ module _ (b : Row) (l : List Row) where
   Few = length pieces ≤ maxOverloads
 
   -- no overload chain may start more than once in the last window; no miss without any overload; no capacity above 40
-  module _ {k : ℕ} (f : Late k) where
+  module _ {k : ℕ} (f : Figured k) where
     abbrev pub Once : Type 0
     Once = All (λ o. η (o .list) (lastOf f) ≤ 1) marked
 
     abbrev pub Fine : Type 0
     Fine = IsBad (f .close) 0 → ⊥
 
-    abbrev pub Roomy : Type 0
-    Roomy = All (λ c. c ≤ maxCapacity) (roomOf b marked k (f .latency))
+    abbrev pub Capped : Type 0
+    Capped = All (λ c. c ≤ maxCapacity) (roomOf b marked k (f .latency))
 
     -- the most uses that a packing of the bad combinations has, no active segment beyond its capacity: reached by one, exceeded by none
     pub record Most (uses : ℕ) : Type 0 where
@@ -101,19 +102,30 @@ module _ (b : Row) (l : List Row) where
       pub is : (m : ℕ) → Exactly (bad m ≡ true) (IsBad (f .close) m)
       pub most : IsMost bad (λ i. getD (roomOf b marked k (f .latency)) i 0) uses
 
-  -- what each answer says
+  -- what each answer says, in document 01's order
   pub data Says (k : ℕ) : Answer → Type 0 where
+    -- k outside 1 to 1,000
     run : (k < 1) ⊎ (maxRun < k) → Says k (Refused 13)
+    -- asked of an overload chain
     overload : 1 ≤ k → k ≤ maxRun → (b .overload ≡ 0 → ⊥) → Says k (Refused 14)
+    -- asked of a chain with gap 0
     gap : 1 ≤ k → k ≤ maxRun → b .overload ≡ 0 → b .gap ≡ 0 → Says k (Refused 15)
+    -- a needed window has no solution
     window : MayAsk k → NoWindow full (distances b) → Says k (Refused 16)
+    -- no close by activation 1,024
     close : MayAsk k → NoClose full (distances b) → Says k (Refused 17)
-    none : (f : Late k) → f .late ≡ 0 → Says k (Misses 0)
-    many : (f : Late k) → 1 ≤ f .late → (Few → ⊥) → Says k (Refused 18)
-    again : (f : Late k) → 1 ≤ f .late → Few → (Once f → ⊥) → Says k (Refused 19)
-    always : (f : Late k) → 1 ≤ f .late → Few → Once f → IsBad (f .close) 0 → Says k (Refused 20)
-    roomy : (f : Late k) → 1 ≤ f .late → Few → Once f → Fine f → (Roomy f → ⊥) → Says k (Refused 21)
-    packed : (f : Late k) (uses : ℕ) → 1 ≤ f .late → Few → Once f → Fine f → Roomy f → Most f uses → Says k (Misses (f .late * uses))
+    -- zero late activations
+    none : (f : Figured k) → f .late ≡ 0 → Says k (Misses 0)
+    -- over 6 overload active segments
+    many : (f : Figured k) → 1 ≤ f .late → (Few → ⊥) → Says k (Refused 18)
+    -- an overload chain may start more than once in the last window
+    again : (f : Figured k) → 1 ≤ f .late → Few → (Once f → ⊥) → Says k (Refused 19)
+    -- a miss without any overload
+    always : (f : Figured k) → 1 ≤ f .late → Few → Once f → IsBad (f .close) 0 → Says k (Refused 20)
+    -- a capacity above 40
+    above : (f : Figured k) → 1 ≤ f .late → Few → Once f → Fine f → (Capped f → ⊥) → Says k (Refused 21)
+    -- late times the most uses that any packing has
+    packed : (f : Figured k) (uses : ℕ) → 1 ≤ f .late → Few → Once f → Fine f → Capped f → Most f uses → Says k (Misses (f .late * uses))
 
 -- the answers for a chain of an accepted table are those of the words
 pub record Right (s : List ℕ) (id : ℕ) : Type 0 where
