@@ -5,6 +5,7 @@ pub mod Entries
 pub mod Figures
 pub mod Sets
 pub mod Misses
+pub mod Splits
 pub mod Others
 pub mod Saves
 pub mod Calls

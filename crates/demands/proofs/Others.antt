@@ -25,8 +25,9 @@ use Rattle.saving.specs.Save.{tableOf}
 use Rattle.saving.proofs.Splits.{rowIn}
 use Rattle.demands.specs.Stored.{IsTable, Has, at, chainOf, othersOf}
 use Rattle.demands.specs.Misses.{Right}
-use Rattle.demands.specs.Others.{segmentsOf, SameSegment, Agrees, Besides, SameBesides, Unmoved, Reordered, SameWork, SameActives}
+use Rattle.demands.specs.Others.{segmentsOf, SameSegment, Agrees, Besides, SameBesides, Unmoved, Reordered, SameWork, SameActives, SplitTasks}
 use Rattle.demands.proofs.Misses.{answers-right}
+use Rattle.demands.proofs.Splits.{split-actives}
 use Rattle.demands.proofs.Chains.{own-row, latency-is, misses-are, latency-absent, misses-absent, bears, absent-or-there, none-bears, here, one-bears, others-bear}
 
 -- chains that agree against b are alike to it
@@ -106,8 +107,8 @@ pairs-off (x ∷ xs) (y ∷ ys) e =
     whole : (x : List (List Task)) → costOf (flatten x) ≡ sumOf (λ c. c) (map costOf x)
     whole x = sum-flatten (λ t. t .cost) x ∙ sym (sum-map costOf (λ c. c) x)
 
-pub split-tasks : {s r : List ℕ} {id : ℕ} → Besides (SameActives (chainOf s id)) s r id → Unmoved s r id
-split-tasks h =
+pub same-actives : {s r : List ℕ} {id : ℕ} → Besides (SameActives (chainOf s id)) s r id → Unmoved s r id
+same-actives h =
     same-besides (record {
       one = h .one;
       two = h .two;
@@ -121,6 +122,11 @@ split-tasks h =
         segments = pairs-off _ _ (e .costs);
       });
     })
+
+-- and so where tasks are split in two
+pub split-tasks : {s r : List ℕ} {id : ℕ} → Besides (SplitTasks (chainOf s id)) s r id → Unmoved s r id
+split-tasks {s} {r} {id} h =
+    same-actives (record { one = h .one; two = h .two; own = h .own; others = paired-weaker (h .others) (split-actives (chainOf s id)) })
 
 -- rows that pair off so: the one with the id is the same, and the others agree
 pub record Beside (id : ℕ) (a c : Row) : Type 0 where

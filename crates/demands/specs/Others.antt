@@ -1,14 +1,14 @@
 -- Demand 3: what a chain is answered hangs on its own record and on what it sees of the other chains, and on nothing else of them.
-use Prim.Native.Nat.{ℕ, _*_, _<_, _≤_}
+use Prim.Native.Nat.{ℕ, _+_, _*_, _<_, _≤_}
 use mathlib.Core.Path.{_≡_}
-use mathlib.Core.List.{List, map, flatten, List·Permᴰ}
+use mathlib.Core.List.{List, [], _∷_, map, flatten, List·Permᴰ}
 use mathlib.Core.Logic.{_⊎_}
 use lib.ListN.{length, getD, take, drop}
 use Rattle.search.specs.Lists.{Paired}
 use Rattle.table.specs.Find.{rows}
 use Rattle.table.specs.declared.Row.{Row}
 use Rattle.arrivals.specs.Arrivals.{distances}
-use Rattle.segments.specs.Tasks.{Task, tasksOf, costOf, floorOf, tailOf, deferred, firstCost}
+use Rattle.segments.specs.Tasks.{Task, tasksOf, costOf, floorOf, tailOf, below, deferred, firstCost}
 use Rattle.segments.specs.Segments.{cutSegments}
 use Rattle.windows.specs.Latency.{latencyOf}
 use Rattle.misses.specs.Misses.{missesOf}
@@ -74,6 +74,21 @@ pub record SameActives (b a c : Row) : Type 0 where
   pub defers : deferred a b ≡ deferred c b
   pub first : firstCost a b ≡ firstCost c b
   pub costs : map (map costOf) (segmentsOf a b) ≡ map (map costOf) (segmentsOf c b)
+
+-- some tasks x at or above the floor are each split in two, y and z, with x's cost together: y stands to floor and tail as x did, and z
+-- is at or above both, so that no cut comes before it
+pub data Split (floor tail : ℕ) : List Task → List Task → Type 0 where
+  none : Split floor tail [] []
+  kept : {x y : Task} {xs ys : List Task} → x .priority ≡ y .priority → x .cost ≡ y .cost → Split floor tail xs ys → Split floor tail (x ∷ xs) (y ∷ ys)
+  two : {x y z : Task} {xs ys : List Task} → floor ≤ x .priority → floor ≤ y .priority → below tail x ≡ below tail y → floor ≤ z .priority → tail ≤ z .priority
+      → x .cost ≡ y .cost + z .cost → Split floor tail xs ys → Split floor tail (x ∷ xs) (y ∷ z ∷ ys)
+
+-- c is a with such tasks split
+pub record SplitTasks (b a c : Row) : Type 0 where
+  pub kind : a .kind ≡ c .kind
+  pub overload : a .overload ≡ c .overload
+  pub arrivals : distances a ≡ distances c
+  pub tasks : Split (floorOf b) (tailOf b) (tasksOf a) (tasksOf c)
 
 -- the new record differs from the old one in deadline and gap at most, its bytes 6 to 13
 pub record DeadlineOrGap (old new : List ℕ) : Type 0 where

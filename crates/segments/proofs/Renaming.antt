@@ -148,7 +148,7 @@ full-from j [] = reordered j List·Permᴰ·nil
 full-from j ([] ∷ ls) = both (full-from j ls) (up j ls)
 full-from j ((c ∷ l) ∷ ls) = cons j (c ∷ l) (full ls) ls (full-from (j + 1) ls)
 
-full-costs : (ls : List (List (List Task))) → costs (full ls) ≡ full (costs ls)
+pub full-costs : (ls : List (List (List Task))) → costs (full ls) ≡ full (costs ls)
 unfolding full
 full-costs [] = refl
 full-costs ([] ∷ ls) = full-costs ls
