@@ -15,7 +15,6 @@ use Rattle.segments.specs.declared.Answer.{Answer as Segment}
 use Rattle.windows.specs.Latency as latency
 use Rattle.misses.specs.Misses as misses
 use Rattle.saving.specs.Save as save
-use Rattle.saving.specs.declared.Saved.{Saved}
 use Rattle.saving.proofs.After.{saved-number}
 use Rattle.editor.specs.Entry.{returned, leftBy, latencyFigures, Answered, Stored}
 use Rattle.demands.specs.Entries.{OneAnswer, Query, Call}
@@ -41,21 +40,18 @@ pub segment-part : (table : RefT (List ℕ)) (answer : Segment) {r q : RefT (Lis
 segment-part table answer x y = (x .bytes ∙ sym (y .bytes), x .place ∙ sym (y .place))
 
 -- the save of the library: its answer, and the whole buffer
-pub save-query : (buffer : List ℕ) (used : ℕ) (old new : List ℕ) → Query (λ a. a ≡ save.savedOf buffer used old new) 1 save.numberOf save.figuresOf
-save-query buffer used old new = query (save.savedOf buffer used old new) 1 save.numberOf save.figuresOf (save-one buffer used old new)
-
 module _ (buffer : List ℕ) (used : ℕ) (old new : List ℕ) where
   -- a refused save leaves the buffer
   save-leaves : (save.numberOf (save.savedOf buffer used old new) ≡ 0 → ⊥) → save.bufferAfter buffer used old new ≡ buffer
   unfolding save.bufferAfter
   save-leaves h = when-no _ _ (ne-eqb (save.saveFault buffer used old new) 0 (λ e. h (saved-number buffer used old new ∙ e)))
 
-  pub save-call : Call (λ after r. (a : Saved) × save.Saves buffer used old new a after × (save.numberOf a ≡ r)) buffer
+  pub save-call : Call (λ after a. save.Saves buffer used old new a after) save.numberOf buffer
   save-call = record {
-    some = (save.bufferAfter buffer used old new, save.numberOf (save.savedOf buffer used old new), (save.savedOf buffer used old new, record { answers = refl; leaves = refl }, refl));
-    one = λ x y. (x .1 .leaves ∙ sym (y .1 .leaves), sym (x .2) ∙ ap save.numberOf (x .1 .answers ∙ sym (y .1 .answers)) ∙ y .2);
-    known = λ x. omega (arith, sym (x .2) ∙ ap save.numberOf (x .1 .answers), save-one buffer used old new .known);
-    refused = λ x h. x .1 .leaves ∙ save-leaves (λ e. h (sym (x .2) ∙ ap save.numberOf (x .1 .answers) ∙ e));
+    some = (save.bufferAfter buffer used old new, save.savedOf buffer used old new, record { answers = refl; leaves = refl });
+    one = λ x y. (x .leaves ∙ sym (y .leaves), x .answers ∙ sym (y .answers));
+    known = λ x. omega (arith, ap save.numberOf (x .answers), save-one buffer used old new .known);
+    refused = λ x h. x .leaves ∙ save-leaves (λ e. h (ap save.numberOf (x .answers) ∙ e));
   }
 
 -- a C entry
@@ -67,7 +63,7 @@ module _ (n number : ℕ) (figures : List ℕ) (one : OneAnswer n number figures
   left zero h = absurd (h refl)
   left (suc r) h = refl
 
-  answered : Call (λ after r. Answered n number figures before after r) before
+  answered : Call (λ after r. Answered n number figures before after r) (λ r. r) before
   answered = record {
     some = (leftBy (returned n number before) figures before, returned n number before, record { returns = refl; leaves = refl });
     one = λ x y. let e = x .returns ∙ sym (y .returns) in (x .leaves ∙ ap (λ r. leftBy r figures before) e ∙ sym (y .leaves), e);
@@ -76,20 +72,20 @@ module _ (n number : ℕ) (figures : List ℕ) (one : OneAnswer n number figures
   }
 
 pub latency-entry : (s : List ℕ) (id : ℕ) (before : List ℕ)
-    → Call (λ after r. Answered 4 (latency.numberOf (latency.latencyOf s id)) (latencyFigures (latency.latencyOf s id)) before after r) before
+    → Call (λ after r. Answered 4 (latency.numberOf (latency.latencyOf s id)) (latencyFigures (latency.latencyOf s id)) before after r) (λ r. r) before
 latency-entry s id before = answered 4 _ _ (latency-one s id) before
 
 pub misses-entry : (s : List ℕ) (id k : ℕ) (before : List ℕ)
-    → Call (λ after r. Answered 1 (misses.numberOf (misses.missesOf s id k)) (misses.valuesOf (misses.missesOf s id k)) before after r) before
+    → Call (λ after r. Answered 1 (misses.numberOf (misses.missesOf s id k)) (misses.valuesOf (misses.missesOf s id k)) before after r) (λ r. r) before
 misses-entry s id k before = answered 1 _ _ (misses-one s id k) before
 
 pub segment-entry : (s : List ℕ) (chain against number : ℕ) (before : List ℕ)
-    → Call (λ after r. Answered 2 (segment.numberOf (segment.segmentOf s chain against number)) (segment.valuesOf (segment.segmentOf s chain against number)) before after r) before
+    → Call (λ after r. Answered 2 (segment.numberOf (segment.segmentOf s chain against number)) (segment.valuesOf (segment.segmentOf s chain against number)) before after r) (λ r. r) before
 segment-entry s chain against number before = answered 2 _ _ (segment-one s chain against number) before
 
 -- the save entry lends two: the table's buffer and the answer's
 pub save-entry : (buffer : List ℕ) (used : ℕ) (old new answer : List ℕ)
-    → Call {A = List ℕ × List ℕ} (λ after r. Stored buffer used old new answer (after .0) (after .1) r) (buffer, answer)
+    → Call {A = List ℕ × List ℕ} (λ after r. Stored buffer used old new answer (after .0) (after .1) r) (λ r. r) (buffer, answer)
 save-entry buffer used old new answer = record {
   some = (((buffer when ltb (length answer) 4 else save.bufferAfter buffer used old new), c .some .0), c .some .1, record { answers = c .some .2; leaves = refl });
   one = λ x y. let e = c .one (x .answers) (y .answers) in (ap₂ (λ a b. (a, b)) (x .leaves ∙ sym (y .leaves)) (e .0), e .1);
@@ -97,7 +93,7 @@ save-entry buffer used old new answer = record {
   refused = λ x h. ap₂ (λ a b. (a, b)) (x .leaves ∙ table (λ e. h (x .answers .returns ∙ e))) (c .refused (x .answers) h);
 }
   where
-    c : Call (λ after r. Answered 1 (save.numberOf (save.savedOf buffer used old new)) (save.figuresOf (save.savedOf buffer used old new)) answer after r) answer
+    c : Call (λ after r. Answered 1 (save.numberOf (save.savedOf buffer used old new)) (save.figuresOf (save.savedOf buffer used old new)) answer after r) (λ r. r) answer
     c = answered 1 _ _ (save-one buffer used old new) answer
 
     table : (returned 1 (save.numberOf (save.savedOf buffer used old new)) answer ≡ 0 → ⊥) → (buffer when ltb (length answer) 4 else save.bufferAfter buffer used old new) ≡ buffer

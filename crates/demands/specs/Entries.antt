@@ -17,10 +17,10 @@ pub record Query {A : Type 0} (Allows : A → Type 0) (n : ℕ) (number : A → 
   pub one : {a b : A} → Allows a → Allows b → a ≡ b
   pub answer : {a : A} → Allows a → OneAnswer n (number a) (figures a)
 
--- a call that writes into lent bytes, by what its statement allows of these bytes afterwards and of the number returned, which is 0 or
--- a refusal, 1 to 27: some result, two that it allows are equal, and a refused call leaves every lent byte
-pub record Call {A : Type 0} (Allows : A → ℕ → Type 0) (before : A) : Type 0 where
-  pub some : (after : A) × (r : ℕ) × Allows after r
-  pub one : {x y : A} {r q : ℕ} → Allows x r → Allows y q → (x ≡ y) × (r ≡ q)
-  pub known : {x : A} {r : ℕ} → Allows x r → r ≤ 27
-  pub refused : {x : A} {r : ℕ} → Allows x r → (r ≡ 0 → ⊥) → x ≡ before
+-- a call that writes into lent bytes, by what its statement allows of these bytes afterwards and of its result, whose number is 0 or a
+-- refusal, 1 to 27: some result, two that it allows are equal, lent bytes included, and a refused call leaves every lent byte
+pub record Call {A R : Type 0} (Allows : A → R → Type 0) (number : R → ℕ) (before : A) : Type 0 where
+  pub some : (after : A) × (r : R) × Allows after r
+  pub one : {x y : A} {r q : R} → Allows x r → Allows y q → (x ≡ y) × (r ≡ q)
+  pub known : {x : A} {r : R} → Allows x r → number r ≤ 27
+  pub refused : {x : A} {r : R} → Allows x r → (number r ≡ 0 → ⊥) → x ≡ before
