@@ -1,18 +1,17 @@
 -- The chain that an id names in an accepted table: its row, the other rows, and the answers as functions of them. Assumes nothing.
-use Prim.Native.Nat.{ℕ, zero, suc, _+_, _<_}
-use mathlib.Core.Path.{_≡_, refl, ap, sym, _∙_}
+use Prim.Native.Nat.{ℕ, _<_}
+use mathlib.Core.Path.{_≡_, ap, sym, _∙_}
 use mathlib.Core.Bool.{Bool, true, false, not}
-use mathlib.Core.List.{List, [], _∷_, _++_, map}
+use mathlib.Core.List.{List, [], _∷_, map}
 use mathlib.Core.Logic.{_⊎_}
 use native.Mathlib.Omega.{arith}
 use native.Mathlib.Nat.{eq-or-lt-of-le}
 use lib.Dec.{eqb}
-use lib.ListN.{length, getD, take, drop}
+use lib.ListN.{length, getD}
 use lib.Seq.{getD-take, length-take-le}
 use borrow.Author.Tests.{ne-eqb, eqb-true}
-use Rattle.search.proofs.Choice.{when-yes, when-no}
 use Rattle.search.proofs.Find.{first-le, first-hit, first-miss}
-use Rattle.search.proofs.Pairing.{keep}
+use Rattle.search.proofs.Keeping.{keep, keep-none, keep-one, keep-rest}
 use Rattle.table.specs.Find.{none, rowOf, rows, findOf}
 use Rattle.table.specs.Good.{GoodTable}
 use Rattle.table.specs.Read.{accepted, readTable, numberOf}
@@ -67,36 +66,6 @@ module _ {s : List ℕ} (h : IsTable s) (id : ℕ) (none : at s id ≡ tableOf s
 
   pub misses-absent : (k : ℕ) → missesOf s id k ≡ Unanswered 12
   misses-absent k = misses.misses-accepted s id k (h .accepted) ∙ misses.chain-none (tableOf s) id k none
-
--- one element of a list passes, and no other does
-module _ {A : Type 0} (z : A) where
-  keep-none : (p : A → Bool) (l : List A) → ((j : ℕ) → j < length l → p (getD l j z) ≡ false) → keep p l ≡ []
-  unfolding keep
-  keep-none p [] h = refl
-  keep-none p (a ∷ l) h = when-no _ _ (h 0 (omega arith)) ∙ keep-none p l (λ j k. h (suc j) (omega arith))
-
-  keep-all : (p : A → Bool) (l : List A) → ((j : ℕ) → j < length l → p (getD l j z) ≡ true) → keep p l ≡ l
-  unfolding keep
-  keep-all p [] h = refl
-  keep-all p (a ∷ l) h = when-yes _ _ (h 0 (omega arith)) ∙ ap (λ r. a ∷ r) (keep-all p l (λ j k. h (suc j) (omega arith)))
-
-  keep-one : (p : A → Bool) (l : List A) (k : ℕ) → k < length l → p (getD l k z) ≡ true → ((j : ℕ) → j < length l → (j ≡ k → ⊥) → p (getD l j z) ≡ false)
-      → keep p l ≡ getD l k z ∷ []
-  unfolding keep
-  keep-one p [] k h e none = absurd (omega arith)
-  keep-one p (a ∷ l) zero h e none = when-yes _ _ e ∙ ap (λ r. a ∷ r) (keep-none p l (λ j m. none (suc j) (omega arith) (λ f. omega arith)))
-  keep-one p (a ∷ l) (suc k) h e none =
-      when-no _ _ (none 0 (omega arith) (λ f. omega arith)) ∙ keep-one p l k (omega arith) e (λ j m n. none (suc j) (omega arith) (λ f. n (omega arith)))
-
-  keep-rest : (p : A → Bool) (l : List A) (k : ℕ) → k < length l → p (getD l k z) ≡ false → ((j : ℕ) → j < length l → (j ≡ k → ⊥) → p (getD l j z) ≡ true)
-      → keep p l ≡ take k l ++ drop (k + 1) l
-  unfolding keep
-  keep-rest p [] k h e rest = absurd (omega arith)
-  keep-rest p (a ∷ l) zero h e rest = when-no _ _ e ∙ keep-all p l (λ j m. rest (suc j) (omega arith) (λ f. omega arith))
-  keep-rest p (a ∷ l) (suc k) h e rest =
-      let s : suc k + 1 ≡ suc (k + 1) = omega arith in
-      when-yes _ _ (rest 0 (omega arith) (λ f. omega arith))
-      ∙ rw s (ap (λ r. a ∷ r) (keep-rest p l k (omega arith) e (λ j m n. rest (suc j) (omega arith) (λ f. n (omega arith)))))
 
 -- so does one chain of a table bear the id, and the others do not
 abbrev pub bears : ℕ → Row → Bool

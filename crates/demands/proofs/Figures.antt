@@ -7,11 +7,11 @@ use mathlib.Core.Logic.{_⊎_, inl, inr, ⊎-elim}
 use native.Mathlib.Omega.{arith}
 use lib.Dec.{ltb}
 use lib.IntN.{ℤ}
-use borrow.Author.Tests.{lt-ltb, le-ltb, leb-true, leb-false}
+use borrow.Author.Tests.{lt-ltb, le-ltb, leb-true}
 use Rattle.search.specs.Choice.{_when_else_}
 use Rattle.search.specs.Find.{first, Greatest}
 use Rattle.search.specs.Lists.{sumOf}
-use Rattle.search.proofs.Choice.{true-not-false, lt-or-le}
+use Rattle.search.proofs.Choice.{lt-or-le}
 use Rattle.search.proofs.Find.{first-ge, first-hit, first-miss, greatest-unique}
 use Rattle.table.specs.Good.{GoodRow}
 use Rattle.table.specs.declared.Row.{Row}
@@ -56,11 +56,7 @@ module _ (demand : ℕ → ℕ → ℕ) (ds : List ℕ) where
 
   -- and what does not end the walk is an open window
   opened : (q : ℕ) → ends-at q ≡ false → (t : ℕ) × Solution (demand q) t × (δ ds (q + 1) < t)
-  opened q f = go (windowOf (demand q)) refl
-    where
-      go : (w : Window) → windowOf (demand q) ≡ w → (t : ℕ) × Solution (demand q) t × (δ ds (q + 1) < t)
-      go (At t) e = (t, window-at (demand q) t e, leb-false t (δ ds (q + 1)) (sym (ap (λ w. ends w (δ ds (q + 1))) e) ∙ f))
-      go Nothing e = absurd (true-not-false (ap (λ w. ends w (δ ds (q + 1))) e) f)
+  opened q f = let w = closing.open-window demand ds q f in (w .0, window-at (demand q) (w .0) (w .1), w .2)
 
   module _ (deadline : ℕ) where
     abbrev answer : Answer

@@ -8,7 +8,8 @@ use native.Mathlib.Omega.{arith}
 use lib.ListN.{length, take}
 use borrow.Author.Tests.{eqb-true}
 use Rattle.search.specs.Lists.{sumOf, Paired}
-use Rattle.search.proofs.Pairing.{keep, paired-keep, paired-weaker, paired-cons, paired-map, paired-order, paired-length, paired-single}
+use Rattle.search.proofs.Keeping.{keep}
+use Rattle.search.proofs.Pairing.{paired-keep, paired-weaker, paired-cons, paired-map, paired-order, paired-length, paired-single}
 use Rattle.table.specs.Find.{rows}
 use Rattle.table.specs.declared.Row.{Row}
 use Rattle.segments.specs.Tasks.{Task, tasksOf, costOf, floorOf, tailOf, below, some, before}

@@ -4,7 +4,6 @@ use mathlib.Core.Path.{_≡_, refl, ap, ap₂, sym, _∙_}
 use mathlib.Core.Bool.{Bool, true, false, _&&_, _||_}
 use mathlib.Core.List.{List, [], _∷_}
 use native.Mathlib.Omega.{arith}
-use native.Mathlib.Nat.{div-one}
 use native.Mathlib.Decide.{ℕ-discrete}
 use lib.Dec.{ltb}
 use lib.ListN.{length}
@@ -31,6 +30,7 @@ use Rattle.misses.specs.Misses.{badOf}
 use Rattle.misses.proofs.Bools.{and-left, and-right}
 use Rattle.misses.proofs.Masks.{members-in, members-out}
 use Rattle.misses.proofs.Together.{agree-turn}
+use Rattle.misses.proofs.Turning.{bit-zero}
 use Rattle.misses.proofs.Sweeps.{some-one}
 use Rattle.misses.proofs.Existence.{combination-window}
 use Rattle.demands.specs.Figures.{Exactly, Closes}
@@ -45,9 +45,6 @@ one-agree p r f = elim (ℕ-discrete (p .chain) (r .chain)) [
   | yes e ↦ when-yes _ _ (eq-eqb _ _ e) ∙ eq-eqb _ _ (f e)
   | no e ↦ when-no _ _ (ne-eqb _ _ e)
 ]
-
-bit-zero : (m : ℕ) → bit 0 m ≡ m % 2
-bit-zero m = ap (λ n. n % 2) (div-one m)
 
 -- a test of those in a mask, by their bits
 module _ (test : Piece → Bool) where

@@ -12,7 +12,7 @@ use Rattle.search.specs.Lists.{All, Paired}
 use Rattle.search.proofs.Choice.{when-yes, when-no}
 use Rattle.search.proofs.Lists.{all-map, all-append}
 use Rattle.arrivals.specs.Arrivals.{η}
-use Rattle.segments.specs.Combination.{Item}
+use Rattle.segments.specs.Items.{Item}
 use Rattle.segments.proofs.Order.{behind}
 use Rattle.segments.proofs.Renaming.{rename, Renamed}
 use Rattle.misses.specs.Overloads.{Overload, Piece, piece, piecesFrom, capacitiesOf}

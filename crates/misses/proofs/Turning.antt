@@ -49,7 +49,7 @@ low b q = omega arith
 high : (b q : ℕ) → join b q / 2 ≡ q
 high b q = omega arith
 
-bit-zero : (m : ℕ) → bit 0 m ≡ m % 2
+pub bit-zero : (m : ℕ) → bit 0 m ≡ m % 2
 bit-zero m = ap (λ n. n % 2) (div-one m)
 
 module _ {A : Type 0} (room : A → ℕ) where

@@ -10,13 +10,14 @@ use borrow.Author.Tests.{ltb-false}
 use Rattle.search.specs.Choice.{_when_else_}
 use Rattle.search.specs.Lists.{Paired}
 use Rattle.search.proofs.Lists.{paired-perm}
-use Rattle.search.proofs.Pairing.{keep, paired-keep, paired-weaker, paired-map}
+use Rattle.search.proofs.Keeping.{keep}
+use Rattle.search.proofs.Pairing.{paired-keep, paired-weaker, paired-turn, paired-map}
 use Rattle.table.specs.Limits.{maxOverloads, maxCapacity}
 use Rattle.table.specs.declared.Row.{Row}
 use Rattle.arrivals.specs.Arrivals.{distances, η, largest}
 use Rattle.segments.specs.View.{View, viewOf, Alike}
 use Rattle.segments.proofs.Renaming.{alike-renamed}
-use Rattle.segments.proofs.Views.{view-overload, view-list, paired-turn, alike-turn}
+use Rattle.segments.proofs.Views.{view-overload, view-list, alike-turn}
 use Rattle.windows.specs.Demand.{demandOf, typical}
 use Rattle.windows.specs.Latency.{boundOf}
 use Rattle.windows.specs.declared.Answer.{Answer as Bound}

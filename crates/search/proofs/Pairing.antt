@@ -1,59 +1,18 @@
--- Lists paired off one to one stay so: those that pass a test, what the elements give, one more, and a list beside itself in any order
--- or with one element replaced. Assumes nothing.
+-- Lists paired off one to one stay so: those that pass a test, what the elements give, one more, the other way round; and a list beside
+-- itself, in any order or with one element replaced. Assumes nothing.
 use Prim.Native.Nat.{ℕ, zero, suc}
-use mathlib.Core.Path.{_≡_, refl, ap, sym, subst, _∙_}
-use mathlib.Core.List.{List, [], _∷_, map, map-map, map-id, List·Permᴰ, List·Permᴰ·nil, List·Permᴰ·cons, List·Permᴰ·swap, List·Permᴰ·trans, Permᴰ·refl, Permᴰ·symm, Permᴰ·map}
-use mathlib.Core.Bool.{Bool, true, false}
+use mathlib.Core.Path.{_≡_, refl, sym, subst, _∙_}
+use mathlib.Core.List.{List, [], _∷_, map, map-map, map-id, List·Permᴰ, List·Permᴰ·cons, Permᴰ·refl, Permᴰ·symm, Permᴰ·map}
+use mathlib.Core.Bool.{Bool}
 use native.Mathlib.Omega.{arith}
 use lib.ListN.{length, getD, set}
-use Rattle.search.specs.Choice.{_when_else_}
 use Rattle.search.specs.Lists.{sumOf, All, Paired}
-use Rattle.search.proofs.Choice.{when-cases}
+use Rattle.search.proofs.Keeping.{keep, perm-keep, all-keep, keep-map}
 use Rattle.search.proofs.Lists.{all-map, perm-sum, perm-all, paired-perm}
-
--- those that pass a test, in order
-unfoldable pub keep : {A : Type 0} → (A → Bool) → List A → List A
-keep p [] = []
-keep p (a ∷ l) = a ∷ keep p l when p a else keep p l
-
-module _ {A : Type 0} (p : A → Bool) where
-  pub perm-keep : {l r : List A} → List·Permᴰ l r → List·Permᴰ (keep p l) (keep p r)
-  unfolding keep _when_else_
-  perm-keep List·Permᴰ·nil = List·Permᴰ·nil
-  perm-keep (List·Permᴰ·cons {b = b} {l₁ = l} {l₂ = r} e q) = rw e (go (p b) (perm-keep q))
-    where
-      go : (t : Bool) → List·Permᴰ (keep p l) (keep p r) → List·Permᴰ (b ∷ keep p l when t else keep p l) (b ∷ keep p r when t else keep p r)
-      go true s = List·Permᴰ·cons refl s
-      go false s = s
-  perm-keep (List·Permᴰ·swap {a′ = c} {b′ = d} {l = l} e f) = rw (e, f) (go (p d) (p c))
-    where
-      go : (t u : Bool)
-          → List·Permᴰ (d ∷ (c ∷ keep p l when u else keep p l) when t else (c ∷ keep p l when u else keep p l))
-          (c ∷ (d ∷ keep p l when t else keep p l) when u else (d ∷ keep p l when t else keep p l))
-      go true true = List·Permᴰ·swap refl refl
-      go true false = Permᴰ·refl _
-      go false true = Permᴰ·refl _
-      go false false = Permᴰ·refl _
-  perm-keep (List·Permᴰ·trans q s) = List·Permᴰ·trans (perm-keep q) (perm-keep s)
-
-  pub all-keep : (P : A → Type 0) (l : List A) → All P l → All P (keep p l)
-  unfolding keep
-  all-keep P [] h = tt
-  all-keep P (a ∷ l) h = when-cases (All P) (p a) (λ e. (h .0, all-keep P l (h .1))) (λ e. all-keep P l (h .1))
 
 pub all-each : {A : Type 0} (P : A → Type 0) → ((a : A) → P a) → (l : List A) → All P l
 all-each P f [] = tt
 all-each P f (a ∷ l) = (f a, all-each P f l)
-
--- the same test, before and after
-pub keep-map : {A B : Type 0} (f : A → B) (p : B → Bool) (q : A → Bool) (l : List A) → All (λ a. p (f a) ≡ q a) l → keep p (map f l) ≡ map f (keep q l)
-unfolding keep _when_else_
-keep-map f p q [] h = refl
-keep-map f p q (a ∷ l) h = ap (λ t. f a ∷ keep p (map f l) when t else keep p (map f l)) (h .0) ∙ go (q a) (keep-map f p q l (h .1))
-  where
-    go : (t : Bool) → keep p (map f l) ≡ map f (keep q l) → (f a ∷ keep p (map f l) when t else keep p (map f l)) ≡ map f (a ∷ keep q l when t else keep q l)
-    go true e = ap (λ r. f a ∷ r) e
-    go false e = e
 
 module _ {A B : Type 0} {R : A → B → Type 0} {xs : List A} {ys : List B} (r : Paired R xs ys) where
   -- those that pass, where both of a pair pass or none
@@ -91,6 +50,23 @@ module _ {A B : Type 0} {R : A → B → Type 0} {xs : List A} {ys : List B} (r 
       each : (ps : List (A × B)) → All (λ x. R (x .0) (x .1)) ps → All {A = C × D} (λ x. S (x .0) (x .1)) (map (λ x. (f (x .0), g (x .1))) ps)
       each [] h = tt
       each (x ∷ ps) h = (give (x .0) (x .1) (h .0), each ps (h .1))
+
+-- paired off the other way round
+module _ {A B : Type 0} {R : A → B → Type 0} {S : B → A → Type 0} (turn : (a : A) (b : B) → R a b → S b a) where
+  abbrev other : A × B → B × A
+  other p = (p .1, p .0)
+
+  related-turn : (ps : List (A × B)) → All (λ p. R (p .0) (p .1)) ps → All (λ p. S (p .0) (p .1)) (map other ps)
+  related-turn [] h = tt
+  related-turn (p ∷ ps) h = (turn (p .0) (p .1) (h .0), related-turn ps (h .1))
+
+  pub paired-turn : {xs : List A} {ys : List B} → Paired R xs ys → Paired S ys xs
+  paired-turn {xs} {ys} p = record {
+    pairs = map other (p .pairs);
+    firsts = rw (map-map (λ q. q .0) other (p .pairs)) (Permᴰ·symm (p .seconds));
+    seconds = rw (map-map (λ q. q .1) other (p .pairs)) (Permᴰ·symm (p .firsts));
+    related = related-turn (p .pairs) (p .related);
+  }
 
 -- a list beside itself, in another order
 pub paired-order : {A : Type 0} {R : A → A → Type 0} → ((a : A) → R a a) → {l k : List A} → List·Permᴰ l k → Paired R l k

@@ -1,15 +1,15 @@
 -- What matters of a chain a to a chain b comes from its view, and views that are alike give the same. Assumes nothing.
-use Prim.Native.Nat.{ℕ, _+_, _<_}
+use Prim.Native.Nat.{ℕ, _<_}
 use native.Mathlib.Omega.{arith}
 use mathlib.Core.Path.{_≡_, refl, ap, ap₂, sym, _∙_}
-use mathlib.Core.List.{List, [], _∷_, _++_, map, map-map, flatten, List·Permᴰ, Permᴰ·symm, Permᴰ·refl}
+use mathlib.Core.List.{List, [], _∷_, _++_, map, flatten, List·Permᴰ, Permᴰ·symm, Permᴰ·refl}
 use mathlib.Core.Bool.{false, not}
 use borrow.Author.Tests.{not-true}
 use lib.Dec.{eqb}
 use lib.ListN.{length, take}
-use Rattle.search.specs.Lists.{sumOf, mostOf, All, Paired}
+use Rattle.search.specs.Lists.{sumOf, mostOf}
 use Rattle.search.proofs.Lists.{perm-sum, perm-most, paired-perm}
-use Rattle.search.proofs.Pairing.{paired-weaker, paired-order}
+use Rattle.search.proofs.Pairing.{paired-weaker, paired-turn, paired-order}
 use Rattle.table.specs.declared.Row.{Row}
 use Rattle.segments.specs.Tasks.{Task, tasksOf, costOf, chainCost, floorOf, tailOf, below, deferred, firstCost}
 use Rattle.segments.specs.Segments.{onward, around, full, segments, segmentsOf, cutSegments, allCost, dearestCost}
@@ -121,23 +121,6 @@ module _ {v w : View} (s : Alike v w) where
   pub alike-dearest : dearestOf v ≡ dearestOf w
   alike-dearest =
       sym (most-map sum (λ c. c) (v .segments)) ∙ perm-most (λ c. c) (alike-perm sum (λ l r p. perm-sum (λ c. c) p)) ∙ most-map sum (λ c. c) (w .segments)
-
--- paired off the other way round
-module _ {A B : Type 0} {R : A → B → Type 0} {S : B → A → Type 0} (turn : (a : A) (b : B) → R a b → S b a) where
-  abbrev other : A × B → B × A
-  other p = (p .1, p .0)
-
-  related-turn : (ps : List (A × B)) → All (λ p. R (p .0) (p .1)) ps → All (λ p. S (p .0) (p .1)) (map other ps)
-  related-turn [] h = tt
-  related-turn (p ∷ ps) h = (turn (p .0) (p .1) (h .0), related-turn ps (h .1))
-
-  pub paired-turn : {xs : List A} {ys : List B} → Paired R xs ys → Paired S ys xs
-  paired-turn {xs} {ys} p = record {
-    pairs = map other (p .pairs);
-    firsts = rw (map-map (λ q. q .0) other (p .pairs)) (Permᴰ·symm (p .seconds));
-    seconds = rw (map-map (λ q. q .1) other (p .pairs)) (Permᴰ·symm (p .firsts));
-    related = related-turn (p .pairs) (p .related);
-  }
 
 -- alike: a view to itself, and the other way round
 pub alike-self : (v : View) → Alike v v

@@ -7,7 +7,8 @@ use native.Mathlib.Omega.{arith}
 use Rattle.search.specs.Choice.{_when_else_}
 use Rattle.search.specs.Lists.{sumOf, Paired}
 use Rattle.search.proofs.Lists.{perm-sum, paired-perm}
-use Rattle.search.proofs.Pairing.{keep, paired-keep, paired-weaker}
+use Rattle.search.proofs.Keeping.{keep}
+use Rattle.search.proofs.Pairing.{paired-keep, paired-weaker}
 use Rattle.table.specs.declared.Row.{Row}
 use Rattle.arrivals.specs.Arrivals.{η}
 use Rattle.segments.specs.View.{View, allOf, dearestOf, Alike}
