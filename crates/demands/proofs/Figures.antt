@@ -127,13 +127,16 @@ module _ (demand : ℕ → ℕ → ℕ) (ds : List ℕ) where
       abbrev pub Closed : Type 0
       Closed = (k : ℕ) × (latency : ℕ) × (late : ℕ) × (margin : ℤ) × Closes demand ds deadline k latency late margin
 
-      pub three : NoWindow demand ds ⊎ (NoClose demand ds ⊎ Closed)
+      abbrev pub Case : Type 0
+      Case = NoWindow demand ds ⊎ (NoClose demand ds ⊎ Closed)
+
+      pub three : Case
       three = ⊎-elim
           (λ h. inr (inl (λ p l m. opened p (first-miss ends-at 1 maxActivations p l (omega (arith, h, m))))))
           (λ h. by h (windowOf (demand (first ends-at 1 maxActivations))) refl)
           (lt-or-le maxActivations (first ends-at 1 maxActivations))
         where
-          by : first ends-at 1 maxActivations ≤ maxActivations → (w : Window) → windowOf (demand (first ends-at 1 maxActivations)) ≡ w → NoWindow demand ds ⊎ (NoClose demand ds ⊎ Closed)
+          by : first ends-at 1 maxActivations ≤ maxActivations → (w : Window) → windowOf (demand (first ends-at 1 maxActivations)) ≡ w → Case
           by h Nothing e = inl (record {
             q = first ends-at 1 maxActivations;
             low = first-ge ends-at 1 maxActivations;
@@ -182,7 +185,7 @@ module _ (demand : ℕ → ℕ → ℕ) (ds : List ℕ) where
         other = λ f g. other f g three;
       }
         where
-          figures : (k latency late : ℕ) (margin : ℤ) → answer ≡ Figures k latency late margin → NoWindow demand ds ⊎ (NoClose demand ds ⊎ Closed) → Closes demand ds deadline k latency late margin
+          figures : (k latency late : ℕ) (margin : ℤ) → answer ≡ Figures k latency late margin → Case → Closes demand ds deadline k latency late margin
           figures k latency late margin e (inl n) = let f = no-window n in let z : _≡_ {A = ℕ} 0 1 = cc in absurd (omega arith)
           figures k latency late margin e (inr (inl o)) = let f = no-close o in let z : _≡_ {A = ℕ} 0 1 = cc in absurd (omega arith)
           figures k latency late margin e (inr (inr (k′, latency′, late′, margin′, c))) =
@@ -193,17 +196,17 @@ module _ (demand : ℕ → ℕ → ℕ) (ds : List ℕ) where
               let w : margin′ ≡ margin = cc in
               rw (x, y, z, w) at c
 
-          none : answer ≡ Refused 16 → NoWindow demand ds ⊎ (NoClose demand ds ⊎ Closed) → NoWindow demand ds
+          none : answer ≡ Refused 16 → Case → NoWindow demand ds
           none e (inl n) = n
           none e (inr (inl o)) = let f = no-close o in let z : _≡_ {A = ℕ} 16 17 = cc in absurd (omega arith)
           none e (inr (inr (k, latency, late, margin, c))) = let f = closes k latency late margin c in let z : _≡_ {A = ℕ} 0 1 = cc in absurd (omega arith)
 
-          unclosed : answer ≡ Refused 17 → NoWindow demand ds ⊎ (NoClose demand ds ⊎ Closed) → NoClose demand ds
+          unclosed : answer ≡ Refused 17 → Case → NoClose demand ds
           unclosed e (inl n) = let f = no-window n in let z : _≡_ {A = ℕ} 16 17 = cc in absurd (omega arith)
           unclosed e (inr (inl o)) = o
           unclosed e (inr (inr (k, latency, late, margin, c))) = let f = closes k latency late margin c in let z : _≡_ {A = ℕ} 0 1 = cc in absurd (omega arith)
 
-          other : ((k latency late : ℕ) (margin : ℤ) → answer ≡ Figures k latency late margin → ⊥) → (answer ≡ Refused 16 → ⊥) → NoWindow demand ds ⊎ (NoClose demand ds ⊎ Closed) → answer ≡ Refused 17
+          other : ((k latency late : ℕ) (margin : ℤ) → answer ≡ Figures k latency late margin → ⊥) → (answer ≡ Refused 16 → ⊥) → Case → answer ≡ Refused 17
           other f g (inl n) = absurd (g (no-window n))
           other f g (inr (inl o)) = no-close o
           other f g (inr (inr (k, latency, late, margin, c))) = absurd (f k latency late margin (closes k latency late margin c))
@@ -212,7 +215,7 @@ module _ (demand : ℕ → ℕ → ℕ) (ds : List ℕ) where
       pub means-one : (a : Answer) → Means demand ds deadline a → a ≡ answer
       means-one a m = go three
         where
-          go : NoWindow demand ds ⊎ (NoClose demand ds ⊎ Closed) → a ≡ answer
+          go : Case → a ≡ answer
           go (inl n) = m .none .1 n ∙ sym (no-window n)
           go (inr (inl o)) = m .unclosed .1 o ∙ sym (no-close o)
           go (inr (inr (k, latency, late, margin, c))) = m .figures k latency late margin .1 c ∙ sym (closes k latency late margin c)

@@ -18,6 +18,7 @@ use Rattle.table.specs.declared.Row.{Row}
 use Rattle.table.proofs.Firsts.{none-or, or-left, or-right}
 use Rattle.arrivals.specs.Arrivals.{distances, η}
 use Rattle.arrivals.proofs.Rows.{good-distances}
+use Rattle.segments.specs.View.{View}
 use Rattle.windows.specs.Demand as demand
 use Rattle.windows.specs.Latency.{windowsOf, boundOf}
 use Rattle.windows.specs.declared.Windows.{Windows}
@@ -28,6 +29,7 @@ use Rattle.packing.proofs.Most.{most-greatest, most-is}
 use Rattle.packing.proofs.Laws.{most-same}
 use Rattle.packing.specs.Most.{mostUses}
 use Rattle.misses.specs.Tests.{some}
+use Rattle.misses.specs.Overloads.{Overload}
 use Rattle.misses.specs.Misses.{earlyOf, unless, badOf, roomOf, byFigures, byBound, missesIn, missesOf}
 use Rattle.misses.specs.declared.Answer.{Answer}
 use Rattle.misses.specs.declared.Answer.the-variants.{Misses, Refused}
@@ -89,8 +91,18 @@ same-test false true f g = f .1 (g .0 refl)
 same-test false false f g = refl
 
 module _ (b : Row) (l : List Row) (good : GoodRow b) (rows : All GoodRow l) (paced : Paced (views b l)) (k : ℕ) where
+  abbrev vs : List View
+  vs = views b l
+
+  abbrev os : List Overload
+  os = marked b l
+
   abbrev answer : Answer
-  answer = missesIn b (views b l) (marked b l) k
+  answer = missesIn b vs os k
+
+  -- the full analysis
+  abbrev windows : Windows
+  windows = windowsOf (full b l) (distances b) (b .deadline)
 
   inside : 1 ≤ k → k ≤ maxRun → outside 1 maxRun k ≡ false
   inside x y = rw (le-ltb k 1 x, le-ltb maxRun k y)
@@ -101,37 +113,37 @@ module _ (b : Row) (l : List Row) (good : GoodRow b) (rows : All GoodRow l) (pac
 
   early-refused : (n : ℕ) → earlyOf b k ≡ suc n → answer ≡ Refused (suc n)
   unfolding missesIn
-  early-refused n e = ap (λ x. unless x (byBound b (views b l) (marked b l) k (boundOf b (views b l) .answer) (boundOf b (views b l) .last))) e
+  early-refused n e = ap (λ x. unless x (byBound b vs os k (boundOf b vs .answer) (boundOf b vs .last))) e
 
   -- the windows refuse, or their figures decide
-  by-windows : MayAsk b l k → (w : Windows) → windowsOf (full b l) (distances b) (b .deadline) ≡ w → answer ≡ byBound b (views b l) (marked b l) k (w .answer) (w .last)
+  by-windows : MayAsk b l k → (w : Windows) → windows ≡ w → answer ≡ byBound b vs os k (w .answer) (w .last)
   unfolding missesIn boundOf
   by-windows a w e =
-      ap (λ x. unless x (byBound b (views b l) (marked b l) k (windowsOf (full b l) (distances b) (b .deadline) .answer) (windowsOf (full b l) (distances b) (b .deadline) .last))) (asked-early a)
-      ∙ ap (λ (x : Windows). byBound b (views b l) (marked b l) k (x .answer) (x .last)) e
+      ap (λ x. unless x (byBound b vs os k (windows .answer) (windows .last))) (asked-early a)
+      ∙ ap (λ (x : Windows). byBound b vs os k (x .answer) (x .last)) e
 
-  refused-by : MayAsk b l k → (n : ℕ) → windowsOf (full b l) (distances b) (b .deadline) .answer ≡ Unbounded n → answer ≡ Refused n
-  refused-by a n e = by-windows a _ refl ∙ ap (λ x. byBound b (views b l) (marked b l) k x (windowsOf (full b l) (distances b) (b .deadline) .last)) e
+  refused-by : MayAsk b l k → (n : ℕ) → windows .answer ≡ Unbounded n → answer ≡ Refused n
+  refused-by a n e = by-windows a _ refl ∙ ap (λ x. byBound b vs os k x (windows .last)) e
 
   module _ (f : Figured b l k) where
-    by-figures : answer ≡ byFigures b (views b l) (marked b l) k (f .close) (f .latency) (f .late) (lastOf b l f)
+    by-figures : answer ≡ byFigures b vs os k (f .close) (f .latency) (f .late) (lastOf b l f)
     by-figures = by-windows (f .asked) _ (closes-last (full b l) (distances b) (b .deadline) (f .close) (f .latency) (f .late) (f .margin) (f .figures))
 
-    bad-exactly : (m : ℕ) → Exactly (badOf b (views b l) (marked b l) (f .close) m ≡ true) (IsBad b l (f .close) m)
+    bad-exactly : (m : ℕ) → Exactly (badOf b vs os (f .close) m ≡ true) (IsBad b l (f .close) m)
     bad-exactly = bad-means b l good rows paced (f .figures)
 
-    bad-false : (IsBad b l (f .close) 0 → ⊥) → badOf b (views b l) (marked b l) (f .close) 0 ≡ false
-    bad-false h = go (badOf b (views b l) (marked b l) (f .close) 0) refl
+    bad-false : (IsBad b l (f .close) 0 → ⊥) → badOf b vs os (f .close) 0 ≡ false
+    bad-false h = go (badOf b vs os (f .close) 0) refl
       where
-        go : (t : Bool) → badOf b (views b l) (marked b l) (f .close) 0 ≡ t → t ≡ false
+        go : (t : Bool) → badOf b vs os (f .close) 0 ≡ t → t ≡ false
         go true e = absurd (h (bad-exactly 0 .0 e))
         go false e = refl
 
     -- whatever is the most uses is the number that is answered with
-    most-same-uses : (uses : ℕ) → Most b l f uses → mostUses (badOf b (views b l) (marked b l) (f .close)) (λ i. getD (roomOf b (marked b l) k (f .latency)) i 0) ≡ uses
+    most-same-uses : (uses : ℕ) → Most b l f uses → mostUses (badOf b vs os (f .close)) (λ i. getD (roomOf b os k (f .latency)) i 0) ≡ uses
     most-same-uses uses m =
-        let room : ℕ → ℕ = λ i. getD (roomOf b (marked b l) k (f .latency)) i 0 in
-        most-same (badOf b (views b l) (marked b l) (f .close)) (m .bad) room room (λ x s h. same-test _ _ (bad-exactly x) (m .is x)) (λ i h. refl)
+        let room : ℕ → ℕ = λ i. getD (roomOf b os k (f .latency)) i 0 in
+        most-same (badOf b vs os (f .close)) (m .bad) room room (λ x s h. same-test _ _ (bad-exactly x) (m .is x)) (λ i h. refl)
         ∙ most-is (m .bad) room (m .most)
 
   -- an answer that the words allow is the answer given
@@ -142,27 +154,27 @@ module _ (b : Row) (l : List Row) (good : GoodRow b) (rows : All GoodRow l) (pac
   says-answer (Says.gap x y t h) = early-refused 14 (answers.early-gap b k (inside x y) t h)
   says-answer (Says.window a n) = refused-by a 16 (no-window (full b l) (distances b) (b .deadline) n)
   says-answer (Says.close a o) = refused-by a 17 (no-close (full b l) (distances b) (b .deadline) o)
-  says-answer (Says.none f e) = by-figures f ∙ answers.none-late b (views b l) (marked b l) k (f .close) (f .latency) (f .late) (lastOf b l f) e
+  says-answer (Says.none f e) = by-figures f ∙ answers.none-late b vs os k (f .close) (f .latency) (f .late) (lastOf b l f) e
   says-answer (Says.many f h n) =
       by-figures f
-      ∙ answers.too-many b (views b l) (marked b l) k (f .close) (f .latency) (f .late) (lastOf b l f) (λ e. omega (arith, e, h))
+      ∙ answers.too-many b vs os k (f .close) (f .latency) (f .late) (lastOf b l f) (λ e. omega (arith, e, h))
       (⊎-elim (λ x. x) (λ x. absurd (n x)) (lt-or-le maxOverloads (length (pieces b l))))
   says-answer (Says.again f h few n) =
       by-figures f
-      ∙ answers.starts-again b (views b l) (marked b l) k (f .close) (f .latency) (f .late) (lastOf b l f) (λ e. omega (arith, e, h)) few
-      (not-within 1 (λ o. η (o .list) (lastOf b l f)) (marked b l) n)
+      ∙ answers.starts-again b vs os k (f .close) (f .latency) (f .late) (lastOf b l f) (λ e. omega (arith, e, h)) few
+      (not-within 1 (λ o. η (o .list) (lastOf b l f)) os n)
   says-answer (Says.always f h few once x) =
       by-figures f
-      ∙ answers.without b (views b l) (marked b l) k (f .close) (f .latency) (f .late) (lastOf b l f) (λ e. omega (arith, e, h)) few
-      (within-none 1 (λ o. η (o .list) (lastOf b l f)) (marked b l) once) (bad-exactly f 0 .1 x)
+      ∙ answers.without b vs os k (f .close) (f .latency) (f .late) (lastOf b l f) (λ e. omega (arith, e, h)) few
+      (within-none 1 (λ o. η (o .list) (lastOf b l f)) os once) (bad-exactly f 0 .1 x)
   says-answer (Says.above f h few once fine n) =
       by-figures f
-      ∙ answers.too-roomy b (views b l) (marked b l) k (f .close) (f .latency) (f .late) (lastOf b l f) (λ e. omega (arith, e, h)) few
-      (within-none 1 (λ o. η (o .list) (lastOf b l f)) (marked b l) once) (bad-false f fine) (not-within maxCapacity (λ c. c) (roomOf b (marked b l) k (f .latency)) n)
+      ∙ answers.too-roomy b vs os k (f .close) (f .latency) (f .late) (lastOf b l f) (λ e. omega (arith, e, h)) few
+      (within-none 1 (λ o. η (o .list) (lastOf b l f)) os once) (bad-false f fine) (not-within maxCapacity (λ c. c) (roomOf b os k (f .latency)) n)
   says-answer (Says.packed f uses h few once fine room m) =
       by-figures f
-      ∙ answers.packs b (views b l) (marked b l) k (f .close) (f .latency) (f .late) (lastOf b l f) (λ e. omega (arith, e, h)) few
-      (within-none 1 (λ o. η (o .list) (lastOf b l f)) (marked b l) once) (bad-false f fine) (within-none maxCapacity (λ c. c) (roomOf b (marked b l) k (f .latency)) room)
+      ∙ answers.packs b vs os k (f .close) (f .latency) (f .late) (lastOf b l f) (λ e. omega (arith, e, h)) few
+      (within-none 1 (λ o. η (o .list) (lastOf b l f)) os once) (bad-false f fine) (within-none maxCapacity (λ c. c) (roomOf b os k (f .latency)) room)
       ∙ ap (λ u. Misses (f .late * u)) (most-same-uses f uses m)
 
   -- and the words allow it
@@ -173,27 +185,27 @@ module _ (b : Row) (l : List Row) (good : GoodRow b) (rows : All GoodRow l) (pac
   module _ (f : Figured b l k) (h : 1 ≤ f .late) (few : Few b l) where
     packed-says : Once b l f → Fine b l f → Capped b l f → Says b l k answer
     packed-says once fine room =
-        is (Says.packed f (mostUses (badOf b (views b l) (marked b l) (f .close)) (λ i. getD (roomOf b (marked b l) k (f .latency)) i 0)) h few once fine room (record {
-          bad = badOf b (views b l) (marked b l) (f .close);
+        is (Says.packed f (mostUses (badOf b vs os (f .close)) (λ i. getD (roomOf b os k (f .latency)) i 0)) h few once fine room (record {
+          bad = badOf b vs os (f .close);
           is = bad-exactly f;
-          most = most-greatest (badOf b (views b l) (marked b l) (f .close)) (λ i. getD (roomOf b (marked b l) k (f .latency)) i 0);
+          most = most-greatest (badOf b vs os (f .close)) (λ i. getD (roomOf b os k (f .latency)) i 0);
         }))
 
-    roomy-says : Once b l f → Fine b l f → (t : Bool) → some (ltb maxCapacity) (roomOf b (marked b l) k (f .latency)) ≡ t → Says b l k answer
-    roomy-says once fine true e = is (Says.above f h few once fine (some-not maxCapacity (λ c. c) (roomOf b (marked b l) k (f .latency)) e))
-    roomy-says once fine false e = packed-says once fine (none-within maxCapacity (λ c. c) (roomOf b (marked b l) k (f .latency)) e)
+    roomy-says : Once b l f → Fine b l f → (t : Bool) → some (ltb maxCapacity) (roomOf b os k (f .latency)) ≡ t → Says b l k answer
+    roomy-says once fine true e = is (Says.above f h few once fine (some-not maxCapacity (λ c. c) (roomOf b os k (f .latency)) e))
+    roomy-says once fine false e = packed-says once fine (none-within maxCapacity (λ c. c) (roomOf b os k (f .latency)) e)
 
-    always-says : Once b l f → (t : Bool) → badOf b (views b l) (marked b l) (f .close) 0 ≡ t → Says b l k answer
+    always-says : Once b l f → (t : Bool) → badOf b vs os (f .close) 0 ≡ t → Says b l k answer
     always-says once true e = is (Says.always f h few once (bad-exactly f 0 .0 e))
-    always-says once false e = roomy-says once (λ x. true-not-false (bad-exactly f 0 .1 x) e) (some (ltb maxCapacity) (roomOf b (marked b l) k (f .latency))) refl
+    always-says once false e = roomy-says once (λ x. true-not-false (bad-exactly f 0 .1 x) e) (some (ltb maxCapacity) (roomOf b os k (f .latency))) refl
 
-    again-says : (t : Bool) → some (starts (lastOf b l f)) (marked b l) ≡ t → Says b l k answer
-    again-says true e = is (Says.again f h few (some-not 1 (λ o. η (o .list) (lastOf b l f)) (marked b l) e))
-    again-says false e = always-says (none-within 1 (λ o. η (o .list) (lastOf b l f)) (marked b l) e) (badOf b (views b l) (marked b l) (f .close) 0) refl
+    again-says : (t : Bool) → some (starts (lastOf b l f)) os ≡ t → Says b l k answer
+    again-says true e = is (Says.again f h few (some-not 1 (λ o. η (o .list) (lastOf b l f)) os e))
+    again-says false e = always-says (none-within 1 (λ o. η (o .list) (lastOf b l f)) os e) (badOf b vs os (f .close) 0) refl
 
   late-says : Figured b l k → Says b l k answer
   late-says f = ⊎-elim
-      (λ h. ⊎-elim (λ n. is (Says.many f h (λ few. omega (arith, n, few)))) (λ few. again-says f h few (some (starts (lastOf b l f)) (marked b l)) refl) (lt-or-le maxOverloads (length (pieces b l))))
+      (λ h. ⊎-elim (λ n. is (Says.many f h (λ few. omega (arith, n, few)))) (λ few. again-says f h few (some (starts (lastOf b l f)) os) refl) (lt-or-le maxOverloads (length (pieces b l))))
       (λ h. is (Says.none f (omega arith)))
       (lt-or-le 0 (f .late))
 
@@ -201,7 +213,7 @@ module _ (b : Row) (l : List Row) (good : GoodRow b) (rows : All GoodRow l) (pac
   asked-says a = ⊎-elim
       (λ n. is (Says.window a n))
       (⊎-elim (λ o. is (Says.close a o)) (λ c. late-says (record { asked = a; close = c .0; latency = c .1; late = c .2; margin = c .3; figures = c .4 })))
-      (three (full b l) (distances b) (b .deadline) (demand-growing b (views b l) good paced) (good-distances good))
+      (three (full b l) (distances b) (b .deadline) (demand-growing b vs good paced) (good-distances good))
 
   answer-says : Says b l k answer
   answer-says = ⊎-elim

@@ -42,53 +42,62 @@ below-all : (n m : ℕ) → n ≤ maxOverloads → m < 2 ^ n → m < combination
 below-all n m h l = let k : 2 ^ n ≤ 2 ^ maxOverloads = pow-mono h in omega arith
 
 module _ {os ps : List Overload} (r : Paired Same os ps) (t : ℕ) where
-  s : Relabelled 0 (partsFrom t 0 os) (partsFrom t 0 ps)
-  s = paired-parts t 0 r
+  label : Relabelled 0 (partsFrom t 0 os) (partsFrom t 0 ps)
+  label = paired-parts t 0 r
 
+  -- the new names of a part, and of an active segment
+  abbrev part-names : Part → Part
+  part-names = relabel (label .chain) (label .name)
+
+  abbrev names : Piece → Piece
+  names = renamed (label .chain) (label .name)
+
+  -- the parts before and after, under the new names
   abbrev before : List Part
-  before = map (relabel (s .chain) (s .name)) (partsFrom t 0 os)
+  before = map part-names (partsFrom t 0 os)
 
   abbrev after : List Part
   after = partsFrom t 0 ps
 
+  -- a set of the ones is turned into a set of the others
   carries : Turned (λ p. p .room) before after
-  carries = turned (λ p. p .room) (s .order)
+  carries = turned (λ p. p .room) (label .order)
 
   before-length : length before ≡ length (piecesOf os)
   before-length =
-      length-map (partsFrom t 0 os) (relabel (s .chain) (s .name)) ∙ sym (length-map (partsFrom t 0 os) (λ p. p .piece)) ∙ ap length (parts-pieces t 0 os)
+      length-map (partsFrom t 0 os) part-names ∙ sym (length-map (partsFrom t 0 os) (λ p. p .piece)) ∙ ap length (parts-pieces t 0 os)
 
   after-length : length after ≡ length (piecesOf ps)
   after-length = sym (length-map after (λ p. p .piece)) ∙ ap length (parts-pieces t 0 ps)
 
   -- as many active segments
   pub same-count : length (piecesOf os) ≡ length (piecesOf ps)
-  same-count = sym before-length ∙ perm-length (s .order) ∙ after-length
+  same-count = sym before-length ∙ perm-length (label .order) ∙ after-length
 
   rooms-before : map (λ p. p .room) before ≡ capacitiesOf t os
-  rooms-before = map-map (λ p. p .room) (relabel (s .chain) (s .name)) (partsFrom t 0 os) ∙ parts-rooms t 0 os
+  rooms-before = map-map (λ p. p .room) part-names (partsFrom t 0 os) ∙ parts-rooms t 0 os
 
   -- with the same capacities
   pub same-rooms : List·Permᴰ (capacitiesOf t os) (capacitiesOf t ps)
-  same-rooms = rw (← rooms-before, ← parts-rooms t 0 ps) (Permᴰ·map (λ p. p .room) (s .order))
+  same-rooms = rw (← rooms-before, ← parts-rooms t 0 ps) (Permᴰ·map (λ p. p .room) (label .order))
 
   -- a set that is carried over holds the same active segments under other names
   held : (os : List Overload) (m : ℕ) → members (piecesOf os) m ≡ map (λ p. p .piece) (picked (partsFrom t 0 os) m)
   held os m = members-picked (piecesOf os) m ∙ ap (λ l. picked l m) (sym (parts-pieces t 0 os)) ∙ picked-map (λ p. p .piece) (partsFrom t 0 os) m
 
-  renamed-members : (m : ℕ) → map (λ p. p .piece) (picked before m) ≡ map (renamed (s .chain) (s .name)) (members (piecesOf os) m)
+  renamed-members : (m : ℕ) → map (λ p. p .piece) (picked before m) ≡ map names (members (piecesOf os) m)
   renamed-members m =
       let l = partsFrom t 0 os in
-      ap (map (λ p. p .piece)) (picked-map (relabel (s .chain) (s .name)) l m)
-      ∙ map-map (λ p. p .piece) (relabel (s .chain) (s .name)) (picked l m)
-      ∙ sym (map-map (renamed (s .chain) (s .name)) (λ p. p .piece) (picked l m))
-      ∙ ap (map (renamed (s .chain) (s .name))) (sym (held os m))
+      ap (map (λ p. p .piece)) (picked-map part-names l m)
+      ∙ map-map (λ p. p .piece) part-names (picked l m)
+      ∙ sym (map-map names (λ p. p .piece) (picked l m))
+      ∙ ap (map names) (sym (held os m))
 
-  carried : (m : ℕ) → List·Permᴰ (map (renamed (s .chain) (s .name)) (members (piecesOf os) m)) (members (piecesOf ps) (carries .turn m))
+  carried : (m : ℕ) → List·Permᴰ (map names (members (piecesOf os) m)) (members (piecesOf ps) (carries .turn m))
   carried m = rw (← renamed-members m, held ps (carries .turn m)) (Permᴰ·map (λ p. p .piece) (carries .order m))
 
   carried-cost : (m : ℕ) → costOf (members (piecesOf ps) (carries .turn m)) ≡ costOf (members (piecesOf os) m)
-  carried-cost m = sym (perm-sum (λ p. p .cost) (carried m)) ∙ sum-map (renamed (s .chain) (s .name)) (λ p. p .cost) (members (piecesOf os) m)
+  carried-cost m = sym (perm-sum (λ p. p .cost) (carried m)) ∙ sum-map names (λ p. p .cost) (members (piecesOf os) m)
 
   carried-below : (m : ℕ) → allowed (piecesOf os) m ≡ true → carries .turn m < 2 ^ length (piecesOf ps)
   unfolding allowed
@@ -101,7 +110,7 @@ module _ {os ps : List Overload} (r : Paired Same os ps) (t : ℕ) where
   carried-allowed m a =
       let w : together (members (piecesOf os) m) ≡ true = and-right (ltb m (2 ^ length (piecesOf os))) _ a in
       ap₂ _&&_ (lt-ltb _ _ (carried-below m a))
-      (sym (perm-together (carried m)) ∙ together-renamed (renamed (s .chain) (s .name)) (agree-renamed (s .chain) (s .name) (s .apart)) (members (piecesOf os) m) w)
+      (sym (perm-together (carried m)) ∙ together-renamed names (agree-renamed (label .chain) (label .name) (label .apart)) (members (piecesOf os) m) w)
 
   module _ (over : ℕ → Bool) (few : length (piecesOf ps) ≤ maxOverloads) where
     carried-bad : (m : ℕ) → bad over (piecesOf os) m ≡ true → bad over (piecesOf ps) (carries .turn m) ≡ true
