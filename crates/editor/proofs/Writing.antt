@@ -11,7 +11,7 @@ use borrow.Author.Tests.{lt-ltb, le-ltb}
 use Rattle.search.proofs.Choice.{when-yes, when-no}
 use Rattle.editor.specs.Entry.{figureBytes, written, leftBy, Answered}
 
-length-figures : (xs : List ℕ) → length (figureBytes xs) ≡ 4 * length xs
+pub length-figures : (xs : List ℕ) → length (figureBytes xs) ≡ 4 * length xs
 unfolding figureBytes
 length-figures [] = refl
 length-figures (x ∷ xs) = omega (arith, length-append (bytesOf 4 x) (figureBytes xs), length-bytes 4 x, length-figures xs)

@@ -20,7 +20,7 @@ use Rattle.table.specs.declared.Row.{Row}
 use Rattle.arrivals.specs.Arrivals.{GoodDistances}
 use Rattle.arrivals.proofs.Counts.{η-some}
 use Rattle.arrivals.proofs.Rows.{good-distances}
-use Rattle.segments.specs.Combination.{Item, item, itemsOf}
+use Rattle.segments.specs.Items.{Item, item, itemsOf}
 use Rattle.segments.specs.View.{View, viewOf, sum, allOf, dearestOf}
 use Rattle.segments.proofs.Lists.{sum-map, most-sum}
 use Rattle.segments.proofs.Order.{items}

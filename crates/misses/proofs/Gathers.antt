@@ -19,7 +19,7 @@ use Rattle.table.specs.declared.Table.{Table}
 use Rattle.arrivals.specs.Arrivals.{distances, η}
 use Rattle.segments.specs.Actives.{Active, nothing, activesOf}
 use Rattle.segments.specs.Held.{arraysOf}
-use Rattle.segments.specs.Combination.{itemOf, itemsOf}
+use Rattle.segments.specs.Items.{itemOf, itemsOf}
 use Rattle.segments.specs.declared.Actives.{Actives}
 use Rattle.segments.proofs.Standing.{array-at}
 use Rattle.segments.proofs.Bounds.{actives-few}

@@ -20,7 +20,7 @@ use Rattle.table.specs.Good.{GoodRow, GoodTable}
 use Rattle.table.specs.declared.Row.{Row}
 use Rattle.table.specs.declared.Table.{Table}
 use Rattle.segments.specs.Actives.{Active, activesOf}
-use Rattle.segments.specs.Combination.{itemOf, itemsOf}
+use Rattle.segments.specs.Items.{itemOf, itemsOf}
 use Rattle.segments.proofs.Bounds.{actives-each, all-max}
 use Rattle.windows.specs.Demand.{others}
 use Rattle.misses.specs.Tests.{some}

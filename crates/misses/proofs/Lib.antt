@@ -16,3 +16,8 @@ pub mod Judging
 pub mod Figures
 pub mod Starred
 pub mod Existence
+pub mod Turning
+pub mod Together
+pub mod Relabelling
+pub mod Carrying
+pub mod Views

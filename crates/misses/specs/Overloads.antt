@@ -5,7 +5,7 @@ use lib.Dec.{eqb}
 use Rattle.search.specs.Choice.{_when_else_}
 use Rattle.table.specs.declared.Row.{Row}
 use Rattle.arrivals.specs.Arrivals.{distances, η}
-use Rattle.segments.specs.Combination.{Item, itemsOf}
+use Rattle.segments.specs.Items.{Item, itemsOf}
 
 -- an overload chain as b sees it: its listed distances, and its active segments by number
 pub record Overload : Type 0 where

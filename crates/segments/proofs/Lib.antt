@@ -8,9 +8,7 @@ pub mod Standing
 pub mod Views
 pub mod Bounds
 pub mod Order
-pub mod Masks
 pub mod Renaming
-pub mod Pairs
 pub mod Samples
 pub mod Asking
 pub mod Answers

@@ -7,7 +7,7 @@ use lib.ListN.{length}
 use Rattle.segments.specs.Tasks.{Task, costOf}
 use Rattle.segments.specs.Segments.{onward, around}
 use Rattle.segments.specs.Actives.{active, numbered, inOrder}
-use Rattle.segments.specs.Combination.{Item, item, itemOf}
+use Rattle.segments.specs.Items.{Item, item, itemOf}
 
 -- the active segments of some segments, each as the costs of its active segments, the segments numbered from j on
 unfoldable pub items : ℕ → List (List ℕ) → List Item

@@ -1,5 +1,5 @@
--- Chains whose views are alike have the same combinations: the numbers of the segments matter no more than their order. Assumes nothing.
-use Prim.Native.Nat.{ℕ, _+_, _*_, _-_, _<_, _/_, _%_}
+-- Chains whose views are alike have the same active segments: the numbers of the segments matter no more than their order. Assumes nothing.
+use Prim.Native.Nat.{ℕ, _+_, _-_, _<_}
 use native.Mathlib.Omega.{arith}
 use mathlib.Core.Path.{_≡_, refl, ap, ap₂, subst, _∙_}
 use mathlib.Core.List.{List, [], _∷_, _++_, map, map-map, map-id, map-append, List·Permᴰ, List·Permᴰ·nil, List·Permᴰ·cons, List·Permᴰ·swap, List·Permᴰ·trans, Permᴰ·symm, Permᴰ·refl, Permᴰ·map, Permᴰ·append-left, Permᴰ·append-right}
@@ -12,9 +12,8 @@ use Rattle.segments.specs.Tasks.{Task, tasksOf, floorOf, tailOf, costOf}
 use Rattle.segments.specs.Segments.{around, full, parts, cutSegments}
 use Rattle.segments.specs.Actives.{actives}
 use Rattle.segments.specs.View.{viewOf, Alike}
-use Rattle.segments.specs.Combination.{Item, item, itemsOf, chosen, Of, Combination, Within}
+use Rattle.segments.specs.Items.{Item, item, itemsOf}
 use Rattle.segments.proofs.Order.{items, costs, behind, by-number}
-use Rattle.segments.proofs.Masks.{turns}
 
 -- the segments bear other numbers
 abbrev pub rename : (ℕ → ℕ) → Item → Item
@@ -148,7 +147,7 @@ full-from j [] = reordered j List·Permᴰ·nil
 full-from j ([] ∷ ls) = both (full-from j ls) (up j ls)
 full-from j ((c ∷ l) ∷ ls) = cons j (c ∷ l) (full ls) ls (full-from (j + 1) ls)
 
-full-costs : (ls : List (List (List Task))) → costs (full ls) ≡ full (costs ls)
+pub full-costs : (ls : List (List (List Task))) → costs (full ls) ≡ full (costs ls)
 unfolding full
 full-costs [] = refl
 full-costs ([] ∷ ls) = full-costs ls
@@ -178,38 +177,3 @@ module _ (a b : Row) where
 
 pub alike-renamed : (a b a′ b′ : Row) → Alike (viewOf a b) (viewOf a′ b′) → Renamed 0 (itemsOf a b) (itemsOf a′ b′)
 alike-renamed a b a′ b′ s = both (to-view a b) (both (paired-renamed 0 (s .segments)) (from-view a′ b′))
-
--- masks: other numbers move nothing
-module _ (f : ℕ → ℕ) where
-  renamed-of : (l : List Item) (j m : ℕ) → Of j l m → Of (f j) (map (rename f) l) m
-  renamed-of [] j m o = o
-  renamed-of (a ∷ l) j m o = ((λ b. ap f (o .0 b)), renamed-of l j (m / 2) (o .1))
-
-  renamed-cost : (l : List Item) (m : ℕ) → chosen (map (rename f) l) m ≡ chosen l m
-  renamed-cost [] m = refl
-  renamed-cost (a ∷ l) m = ap (λ n. a .cost * (m % 2) + n) (renamed-cost l (m / 2))
-
-  renamed-within : (r : ℕ) (l : List Item) (ms : List ℕ) → Within r l ms → Within r (map (rename f) l) ms
-  renamed-within r [] ms w = w
-  renamed-within r (a ∷ l) ms w = (w .0, renamed-within r l _ (w .1))
-
--- the combinations of l are combinations of k, with the same costs and uses
-pub record Matches (l k : List Item) : Type 0 where
-  pub turn : ℕ → ℕ
-  pub costs : (m : ℕ) → chosen k (turn m) ≡ chosen l m
-  pub one : (m : ℕ) → Combination l m → Combination k (turn m)
-  pub within : (r : ℕ) (ms : List ℕ) → Within r l ms → Within r k (map turn ms)
-
-pub matches : {l k : List Item} → Renamed 0 l k → Matches l k
-matches {l} a =
-    let t = turns (a .order) in
-    record {
-      turn = t .turn;
-      costs = λ m. t .costs m ∙ renamed-cost (a .name) l m;
-      one = λ m c. (a .name (c .0), t .of (a .name (c .0)) m (renamed-of (a .name) l (c .0) m (c .1)));
-      within = λ r ms w. t .within r ms (renamed-within (a .name) r l ms w);
-    }
-
--- views that are alike give the same combinations
-pub alike-matches : (a b a′ b′ : Row) → Alike (viewOf a b) (viewOf a′ b′) → Matches (itemsOf a b) (itemsOf a′ b′)
-alike-matches a b a′ b′ s = matches (alike-renamed a b a′ b′ s)

@@ -1,14 +1,15 @@
 -- What matters of a chain a to a chain b comes from its view, and views that are alike give the same. Assumes nothing.
-use Prim.Native.Nat.{ℕ, _+_, _<_}
+use Prim.Native.Nat.{ℕ, _<_}
 use native.Mathlib.Omega.{arith}
 use mathlib.Core.Path.{_≡_, refl, ap, ap₂, sym, _∙_}
-use mathlib.Core.List.{List, [], _∷_, _++_, map, map-map, map-id, flatten, List·Permᴰ, Permᴰ·symm, Permᴰ·refl}
+use mathlib.Core.List.{List, [], _∷_, _++_, map, flatten, List·Permᴰ, Permᴰ·symm, Permᴰ·refl}
 use mathlib.Core.Bool.{false, not}
 use borrow.Author.Tests.{not-true}
 use lib.Dec.{eqb}
 use lib.ListN.{length, take}
-use Rattle.search.specs.Lists.{sumOf, mostOf, All, Paired}
-use Rattle.search.proofs.Lists.{perm-sum, perm-most, all-map, paired-perm}
+use Rattle.search.specs.Lists.{sumOf, mostOf}
+use Rattle.search.proofs.Lists.{perm-sum, perm-most, paired-perm}
+use Rattle.search.proofs.Pairing.{paired-weaker, paired-turn, paired-order}
 use Rattle.table.specs.declared.Row.{Row}
 use Rattle.segments.specs.Tasks.{Task, tasksOf, costOf, chainCost, floorOf, tailOf, below, deferred, firstCost}
 use Rattle.segments.specs.Segments.{onward, around, full, segments, segmentsOf, cutSegments, allCost, dearestCost}
@@ -105,14 +106,7 @@ seen-shows a b = record {
 -- what no order of a segment's active segments moves is the same, segment by segment, in views that are alike
 module _ {v w : View} (s : Alike v w) where
   alike-perm : (f : List ℕ → ℕ) → ((l r : List ℕ) → List·Permᴰ l r → f l ≡ f r) → List·Permᴰ (map f (v .segments)) (map f (w .segments))
-  alike-perm f same =
-      paired-perm f f
-      (record {
-        pairs = s .segments .pairs;
-        firsts = s .segments .firsts;
-        seconds = s .segments .seconds;
-        related = all-map (λ p h. same (p .0) (p .1) h) (s .segments .pairs) (s .segments .related);
-      })
+  alike-perm f same = paired-perm f f (paired-weaker (s .segments) same)
 
   alike-sum : (f : List ℕ → ℕ) → ((l r : List ℕ) → List·Permᴰ l r → f l ≡ f r) → sumOf f (v .segments) ≡ sumOf f (w .segments)
   alike-sum f same =
@@ -128,23 +122,6 @@ module _ {v w : View} (s : Alike v w) where
   alike-dearest =
       sym (most-map sum (λ c. c) (v .segments)) ∙ perm-most (λ c. c) (alike-perm sum (λ l r p. perm-sum (λ c. c) p)) ∙ most-map sum (λ c. c) (w .segments)
 
--- paired off the other way round
-module _ {A B : Type 0} {R : A → B → Type 0} {S : B → A → Type 0} (turn : (a : A) (b : B) → R a b → S b a) where
-  abbrev other : A × B → B × A
-  other p = (p .1, p .0)
-
-  related-turn : (ps : List (A × B)) → All (λ p. R (p .0) (p .1)) ps → All (λ p. S (p .0) (p .1)) (map other ps)
-  related-turn [] h = tt
-  related-turn (p ∷ ps) h = (turn (p .0) (p .1) (h .0), related-turn ps (h .1))
-
-  pub paired-turn : {xs : List A} {ys : List B} → Paired R xs ys → Paired S ys xs
-  paired-turn {xs} {ys} p = record {
-    pairs = map other (p .pairs);
-    firsts = rw (map-map (λ q. q .0) other (p .pairs)) (Permᴰ·symm (p .seconds));
-    seconds = rw (map-map (λ q. q .1) other (p .pairs)) (Permᴰ·symm (p .firsts));
-    related = related-turn (p .pairs) (p .related);
-  }
-
 -- alike: a view to itself, and the other way round
 pub alike-self : (v : View) → Alike v v
 alike-self v = record {
@@ -153,19 +130,8 @@ alike-self v = record {
   list = refl;
   free = refl;
   first = refl;
-  segments =
-      let two : List ℕ → List ℕ × List ℕ = λ s. (s, s) in
-      record {
-        pairs = map two (v .segments);
-        firsts = rw (map-map (λ p. p .0) two (v .segments), map-id (v .segments)) (Permᴰ·refl (v .segments));
-        seconds = rw (map-map (λ p. p .1) two (v .segments), map-id (v .segments)) (Permᴰ·refl (v .segments));
-        related = each (v .segments);
-      };
+  segments = paired-order Permᴰ·refl (Permᴰ·refl (v .segments));
 }
-  where
-    each : (l : List (List ℕ)) → All {A = List ℕ × List ℕ} (λ p. List·Permᴰ (p .0) (p .1)) (map (λ s. (s, s)) l)
-    each [] = tt
-    each (s ∷ l) = (Permᴰ·refl s, each l)
 
 pub alike-turn : {v w : View} → Alike v w → Alike w v
 alike-turn s = record {

@@ -3,5 +3,5 @@ pub mod Segments
 pub mod Actives
 pub mod Held
 pub mod View
-pub mod Combination
+pub mod Items
 pub mod Query

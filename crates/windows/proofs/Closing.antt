@@ -37,7 +37,7 @@ module _ (demand : ℕ → ℕ → ℕ) (ds : List ℕ) where
   test q = ends (windowOf (demand q)) (δ ds (q + 1))
 
   -- where the walk does not end, a window reaches past the next activation
-  open-window : (q : ℕ) → test q ≡ false → (s : ℕ) × (windowOf (demand q) ≡ At s) × (δ ds (q + 1) < s)
+  pub open-window : (q : ℕ) → test q ≡ false → (s : ℕ) × (windowOf (demand q) ≡ At s) × (δ ds (q + 1) < s)
   open-window q f = go (windowOf (demand q)) refl
     where
       go : (w : Window) → windowOf (demand q) ≡ w → (s : ℕ) × (windowOf (demand q) ≡ At s) × (δ ds (q + 1) < s)

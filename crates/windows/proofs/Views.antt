@@ -1,14 +1,14 @@
 -- The demand goes by the views alone: not by their order, and views that are alike give the same. Assumes nothing.
 use Prim.Native.Nat.{ℕ, _+_, _*_}
 use mathlib.Core.Path.{_≡_, refl, ap, sym, fun-ext, _∙_}
-use mathlib.Core.List.{List, [], _∷_, map, List·Permᴰ, List·Permᴰ·nil, List·Permᴰ·cons, List·Permᴰ·swap, List·Permᴰ·trans, Permᴰ·refl}
-use mathlib.Core.Bool.{Bool, true, false}
+use mathlib.Core.List.{List, [], _∷_, map, List·Permᴰ}
 use lib.Dec.{eqb}
 use native.Mathlib.Omega.{arith}
 use Rattle.search.specs.Choice.{_when_else_}
-use Rattle.search.specs.Lists.{sumOf, All, Paired}
-use Rattle.search.proofs.Choice.{when-cases}
-use Rattle.search.proofs.Lists.{perm-sum, all-map, paired-perm}
+use Rattle.search.specs.Lists.{sumOf, Paired}
+use Rattle.search.proofs.Lists.{perm-sum, paired-perm}
+use Rattle.search.proofs.Keeping.{keep}
+use Rattle.search.proofs.Pairing.{paired-keep, paired-weaker}
 use Rattle.table.specs.declared.Row.{Row}
 use Rattle.arrivals.specs.Arrivals.{η}
 use Rattle.segments.specs.View.{View, allOf, dearestOf, Alike}
@@ -36,12 +36,7 @@ module _ {vs ws : List View} (p : Paired Alike vs ws) where
   alike-terms : (t : ℕ) → sumOf (λ v. termOf v t) vs ≡ sumOf (λ v. termOf v t) ws
   alike-terms t =
       let f : View → ℕ = λ v. termOf v t in
-      let e : List·Permᴰ (map f vs) (map f ws) = paired-perm f f (record {
-        pairs = p .pairs;
-        firsts = p .firsts;
-        seconds = p .seconds;
-        related = all-map (λ q h. alike-term h t) (p .pairs) (p .related);
-      }) in
+      let e : List·Permᴰ (map f vs) (map f ws) = paired-perm f f (paired-weaker p (λ v w h. alike-term h t)) in
       sym (sum-map f (λ n. n) vs) ∙ perm-sum (λ n. n) e ∙ sum-map f (λ n. n) ws
 
   pub alike-demand : (b : Row) → demandOf b vs ≡ demandOf b ws
@@ -54,56 +49,10 @@ module _ {vs ws : List View} (p : Paired Alike vs ws) where
   alike-bound b = rw (alike-demand b)
 
 -- the typical ones of them pair off alike too
-perm-typical : {vs ws : List View} → List·Permᴰ vs ws → List·Permᴰ (typical vs) (typical ws)
-unfolding typical _when_else_
-perm-typical List·Permᴰ·nil = List·Permᴰ·nil
-perm-typical (List·Permᴰ·cons {b = b} {l₁ = l} {l₂ = r} e p) = rw e (go (eqb (b .overload) 0) (perm-typical p))
-  where
-    go : (t : Bool) → List·Permᴰ (typical l) (typical r) → List·Permᴰ (b ∷ typical l when t else typical l) (b ∷ typical r when t else typical r)
-    go true q = List·Permᴰ·cons refl q
-    go false q = q
-perm-typical (List·Permᴰ·swap {a′ = c} {b′ = d} {l = l} e f) = rw (e, f) (go (eqb (d .overload) 0) (eqb (c .overload) 0))
-  where
-    go : (t u : Bool)
-        → List·Permᴰ (d ∷ (c ∷ typical l when u else typical l) when t else (c ∷ typical l when u else typical l))
-        (c ∷ (d ∷ typical l when t else typical l) when u else (d ∷ typical l when t else typical l))
-    go true true = List·Permᴰ·swap refl refl
-    go true false = Permᴰ·refl _
-    go false true = Permᴰ·refl _
-    go false false = Permᴰ·refl _
-perm-typical (List·Permᴰ·trans p q) = List·Permᴰ·trans (perm-typical p) (perm-typical q)
-
--- the pairs of typical views
-typicals : List (View × View) → List (View × View)
-typicals [] = []
-typicals (p ∷ ps) = p ∷ typicals ps when eqb (p .0 .overload) 0 else typicals ps
-
-pair-typical : (f : View × View → View) (ps : List (View × View)) → All (λ p. f p .overload ≡ p .0 .overload) ps → typical (map f ps) ≡ map f (typicals ps)
-unfolding typical typicals _when_else_
-pair-typical f [] h = refl
-pair-typical f (p ∷ ps) h =
-    ap (λ n. f p ∷ typical (map f ps) when eqb n 0 else typical (map f ps)) (h .0) ∙ go (eqb (p .0 .overload) 0) (pair-typical f ps (h .1))
-  where
-    go : (t : Bool) → typical (map f ps) ≡ map f (typicals ps) → (f p ∷ typical (map f ps) when t else typical (map f ps)) ≡ map f (p ∷ typicals ps when t else typicals ps)
-    go true e = ap (λ l. f p ∷ l) e
-    go false e = e
-
-pair-related : (ps : List (View × View)) → All (λ p. Alike (p .0) (p .1)) ps → All (λ p. Alike (p .0) (p .1)) (typicals ps)
-unfolding typicals
-pair-related [] h = tt
-pair-related (p ∷ ps) h =
-    when-cases (All (λ p. Alike (p .0) (p .1))) (eqb (p .0 .overload) 0) (λ e. (h .0, pair-related ps (h .1))) (λ e. pair-related ps (h .1))
-
-same-firsts : (ps : List (View × View)) → All (λ p. p .0 .overload ≡ p .0 .overload) ps
-same-firsts [] = tt
-same-firsts (p ∷ ps) = (refl, same-firsts ps)
+typical-keep : (vs : List View) → typical vs ≡ keep (λ v. eqb (v .overload) 0) vs
+unfolding typical keep
+typical-keep [] = refl
+typical-keep (v ∷ vs) = ap (λ l. v ∷ l when eqb (v .overload) 0 else l) (typical-keep vs)
 
 pub alike-typical : {vs ws : List View} → Paired Alike vs ws → Paired Alike (typical vs) (typical ws)
-alike-typical p =
-    let ps = p .pairs in
-    record {
-      pairs = typicals ps;
-      firsts = rw (pair-typical (λ q. q .0) ps (same-firsts ps)) at (perm-typical (p .firsts));
-      seconds = rw (pair-typical (λ q. q .1) ps (all-map (λ q h. sym (h .overload)) ps (p .related))) at (perm-typical (p .seconds));
-      related = pair-related ps (p .related);
-    }
+alike-typical {vs} {ws} p = rw (typical-keep vs, typical-keep ws) (paired-keep p _ _ (λ v w h. ap (λ n. eqb n 0) (h .overload)))

@@ -1,0 +1,112 @@
+-- The chain that an id names in an accepted table: its row, the other rows, and the answers as functions of them. Assumes nothing.
+use Prim.Native.Nat.{ℕ, _<_}
+use mathlib.Core.Path.{_≡_, ap, sym, _∙_}
+use mathlib.Core.Bool.{Bool, true, false, not}
+use mathlib.Core.List.{List, [], _∷_, map}
+use mathlib.Core.Logic.{_⊎_}
+use native.Mathlib.Omega.{arith}
+use native.Mathlib.Nat.{eq-or-lt-of-le}
+use lib.Dec.{eqb}
+use lib.ListN.{length, getD}
+use lib.Seq.{getD-take, length-take-le}
+use borrow.Author.Tests.{ne-eqb, eqb-true}
+use Rattle.search.proofs.Find.{first-le, first-hit, first-miss}
+use Rattle.search.proofs.Keeping.{keep, keep-none, keep-one, keep-rest}
+use Rattle.table.specs.Find.{none, rowOf, rows, findOf}
+use Rattle.table.specs.Good.{GoodTable}
+use Rattle.table.specs.Read.{accepted, readTable, numberOf}
+use Rattle.table.specs.declared.Row.{Row}
+use Rattle.table.specs.declared.Table.{Table}
+use Rattle.table.proofs.Accepted.{accepted-good}
+use Rattle.segments.specs.View.{viewOf}
+use Rattle.windows.specs.Demand.{othersOf}
+use Rattle.windows.specs.Latency.{boundOf, latencyOf}
+use Rattle.windows.specs.declared.Answer.the-variants.{Refused}
+use Rattle.windows.proofs.Answers as latency
+use Rattle.misses.specs.Overloads.{overloads}
+use Rattle.misses.specs.Misses.{missesIn, missesAt, missesOf}
+use Rattle.misses.specs.declared.Answer.the-variants.{Refused as Unanswered}
+use Rattle.misses.proofs.Answers as misses
+use Rattle.saving.specs.Save.{tableOf}
+use Rattle.saving.proofs.Verdicts.{read-accepted}
+use Rattle.saving.proofs.Splits.{rowIn}
+use Rattle.saving.proofs.Records.{record-row}
+use Rattle.demands.specs.Stored.{IsTable, Has, at, chainOf, bytesOf}
+use Rattle.demands.specs.Stored as stored
+
+-- an accepted table is good, and reads back
+pub table-good : {s : List ℕ} → IsTable s → GoodTable (tableOf s)
+table-good {s} h = accepted-good s (h .bytes) (h .accepted)
+
+pub table-read : {s : List ℕ} → IsTable s → readTable s ≡ accepted (tableOf s)
+table-read {s} h = read-accepted s (ap numberOf (h .accepted))
+
+-- the row is what the record's bytes make
+pub own-row : {s : List ℕ} {id : ℕ} → Has s id → rowIn (bytesOf s id) ≡ chainOf s id
+own-row {s} {id} h = record-row s (tableOf s) (table-read (h .table)) (h .table .bytes) (at s id) (h .there)
+
+-- the answers go by the row and the rows of the others
+module _ {s : List ℕ} {id : ℕ} (h : Has s id) where
+  found : at s id ≡ tableOf s .count → ⊥
+  found e = omega (arith, e, h .there)
+
+  pub latency-is : latencyOf s id ≡ boundOf (chainOf s id) (map (λ a. viewOf a (chainOf s id)) (stored.othersOf s id)) .answer
+  unfolding othersOf
+  latency-is = latency.latency-accepted s id (h .table .accepted) ∙ latency.chain-found (tableOf s) id found
+
+  pub misses-are : (k : ℕ) → missesOf s id k
+      ≡ missesIn (chainOf s id) (map (λ a. viewOf a (chainOf s id)) (stored.othersOf s id)) (overloads (chainOf s id) (stored.othersOf s id)) k
+  unfolding othersOf missesAt
+  misses-are k = misses.misses-accepted s id k (h .table .accepted) ∙ misses.chain-found (tableOf s) id k found
+
+-- no chain has the id: 12
+module _ {s : List ℕ} (h : IsTable s) (id : ℕ) (none : at s id ≡ tableOf s .count) where
+  pub latency-absent : latencyOf s id ≡ Refused 12
+  latency-absent = latency.latency-accepted s id (h .accepted) ∙ latency.chain-none (tableOf s) id none
+
+  pub misses-absent : (k : ℕ) → missesOf s id k ≡ Unanswered 12
+  misses-absent k = misses.misses-accepted s id k (h .accepted) ∙ misses.chain-none (tableOf s) id k none
+
+-- so does one chain of a table bear the id, and the others do not
+abbrev pub bears : ℕ → Row → Bool
+bears id a = eqb (a .id) id
+
+module _ {s : List ℕ} (h : IsTable s) (id : ℕ) where
+  abbrev t : Table
+  t = tableOf s
+
+  count : length (rows t) ≡ t .count
+  count = let g = table-good h in length-take-le (t .count) (t .row) (omega (arith, g .few, g .size))
+
+  row-at : (j : ℕ) → j < length (rows t) → getD (rows t) j none ≡ rowOf t j
+  row-at j l = getD-take (t .count) (t .row) j none (omega (arith, count))
+
+  pub absent-or-there : (at s id ≡ t .count) ⊎ (at s id < t .count)
+  unfolding findOf
+  absent-or-there = eq-or-lt-of-le (omega (arith, first-le (λ k. bears id (rowOf t k)) 0 (t .count)))
+
+  pub none-bears : at s id ≡ t .count → keep (bears id) (rows t) ≡ []
+  unfolding findOf
+  none-bears e =
+      keep-none none (bears id) (rows t)
+      (λ j l. ap (bears id) (row-at j l) ∙ first-miss (λ k. bears id (rowOf t k)) 0 (t .count) j (omega arith) (omega (arith, e, count)))
+
+  module _ (there : at s id < t .count) where
+    pub here : bears id (rowOf t (at s id)) ≡ true
+    unfolding findOf
+    here = first-hit (λ k. bears id (rowOf t k)) 0 (t .count) (omega (arith, there))
+
+    other : (j : ℕ) → j < length (rows t) → (j ≡ at s id → ⊥) → bears id (getD (rows t) j none) ≡ false
+    other j l n =
+        ne-eqb _ _ (λ e. n (table-good h .ids j (at s id) (omega (arith, count)) there
+        (ap (λ (a : Row). a .id) (sym (row-at j l)) ∙ e ∙ sym (eqb-true _ _ here))))
+
+    pub one-bears : keep (bears id) (rows t) ≡ chainOf s id ∷ []
+    one-bears =
+        let l : at s id < length (rows t) = omega (arith, count) in
+        keep-one none (bears id) (rows t) (at s id) l (ap (bears id) (row-at (at s id) l) ∙ here) other ∙ ap (λ a. a ∷ []) (row-at (at s id) l)
+
+    pub others-bear : keep (λ a. not (bears id a)) (rows t) ≡ stored.othersOf s id
+    others-bear =
+        let l : at s id < length (rows t) = omega (arith, count) in
+        keep-rest none (λ a. not (bears id a)) (rows t) (at s id) l (ap not (ap (bears id) (row-at (at s id) l) ∙ here)) (λ j m n. ap not (other j m n))

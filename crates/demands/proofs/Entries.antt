@@ -1,0 +1,103 @@
+-- Demand 1, entry by entry: the library's queries and save, and the C entries. Assumes nothing.
+use Prim.Native.Nat.{ℕ, zero, suc, _*_, _≤_}
+use mathlib.Core.Path.{_≡_, refl, ap, ap₂, sym, _∙_}
+use mathlib.Core.List.{List}
+use mathlib.Core.Logic.{⊎-elim}
+use native.Mathlib.Omega.{arith}
+use lib.Dec.{ltb}
+use lib.ListN.{length}
+use borrow.Author.Tests.{lt-ltb, le-ltb, ne-eqb}
+use denote.Ref.{RefT, ptr, now}
+use Rattle.search.specs.Choice.{_when_else_}
+use Rattle.search.proofs.Choice.{when-yes, when-no, when-cases, lt-or-le}
+use Rattle.segments.specs.Query as segment
+use Rattle.segments.specs.declared.Answer.{Answer as Segment}
+use Rattle.windows.specs.Latency as latency
+use Rattle.misses.specs.Misses as misses
+use Rattle.saving.specs.Save as save
+use Rattle.saving.proofs.After.{saved-number}
+use Rattle.editor.specs.Entry.{returned, leftBy, latencyFigures, Answered, Stored}
+use Rattle.demands.specs.Entries.{OneAnswer, Query, Call}
+use Rattle.demands.proofs.Answers.{latency-one, misses-one, segment-one, save-one}
+
+-- a statement that names the answer
+query : {A : Type 0} (right : A) (n : ℕ) (number : A → ℕ) (figures : A → List ℕ) → OneAnswer n (number right) (figures right) → Query (λ a. a ≡ right) n number figures
+query right n number figures one = record { some = (right, refl); one = λ e f. e ∙ sym f; answer = λ e. rw e one }
+
+-- the queries of the library
+pub latency-query : (s : List ℕ) (id : ℕ) → Query (λ a. a ≡ latency.latencyOf s id) 4 latency.numberOf latencyFigures
+latency-query s id = query (latency.latencyOf s id) 4 latency.numberOf latencyFigures (latency-one s id)
+
+pub misses-query : (s : List ℕ) (id k : ℕ) → Query (λ a. a ≡ misses.missesOf s id k) 1 misses.numberOf misses.valuesOf
+misses-query s id k = query (misses.missesOf s id k) 1 misses.numberOf misses.valuesOf (misses-one s id k)
+
+pub segment-query : (s : List ℕ) (chain against number : ℕ) → Query (λ a. a ≡ segment.segmentOf s chain against number) 2 segment.numberOf segment.valuesOf
+segment-query s chain against number = query (segment.segmentOf s chain against number) 2 segment.numberOf segment.valuesOf (segment-one s chain against number)
+
+-- the part of the lent table that is handed back: its bytes, and where it stands
+pub segment-part : (table : RefT (List ℕ)) (answer : Segment) {r q : RefT (List ℕ)} → segment.HandedBack table r answer → segment.HandedBack table q answer
+    → (now r ≡ now q) × (ptr r ≡ ptr q)
+segment-part table answer x y = (x .bytes ∙ sym (y .bytes), x .place ∙ sym (y .place))
+
+-- the save of the library: its answer, and the whole buffer
+module _ (buffer : List ℕ) (used : ℕ) (old new : List ℕ) where
+  -- a refused save leaves the buffer
+  save-leaves : (save.numberOf (save.savedOf buffer used old new) ≡ 0 → ⊥) → save.bufferAfter buffer used old new ≡ buffer
+  unfolding save.bufferAfter
+  save-leaves h = when-no _ _ (ne-eqb (save.saveFault buffer used old new) 0 (λ e. h (saved-number buffer used old new ∙ e)))
+
+  pub save-call : Call (λ after a. save.Saves buffer used old new a after) save.numberOf buffer
+  save-call = record {
+    some = (save.bufferAfter buffer used old new, save.savedOf buffer used old new, record { answers = refl; leaves = refl });
+    one = λ x y. (x .leaves ∙ sym (y .leaves), x .answers ∙ sym (y .answers));
+    known = λ x. omega (arith, ap save.numberOf (x .answers), save-one buffer used old new .known);
+    refused = λ x h. x .leaves ∙ save-leaves (λ e. h (ap save.numberOf (x .answers) ∙ e));
+  }
+
+-- a C entry
+module _ (n number : ℕ) (figures : List ℕ) (one : OneAnswer n number figures) (before : List ℕ) where
+  returned-known : returned n number before ≤ 27
+  returned-known = when-cases (λ r. r ≤ 27) (ltb (length before) (4 * n)) (λ e. omega arith) (λ e. omega (arith, one .known))
+
+  left : (r : ℕ) → (r ≡ 0 → ⊥) → leftBy r figures before ≡ before
+  left zero h = absurd (h refl)
+  left (suc r) h = refl
+
+  answered : Call (λ after r. Answered n number figures before after r) (λ r. r) before
+  answered = record {
+    some = (leftBy (returned n number before) figures before, returned n number before, record { returns = refl; leaves = refl });
+    one = λ x y. let e = x .returns ∙ sym (y .returns) in (x .leaves ∙ ap (λ r. leftBy r figures before) e ∙ sym (y .leaves), e);
+    known = λ x. omega (arith, x .returns, returned-known);
+    refused = λ {x} {r} a h. a .leaves ∙ left r h;
+  }
+
+pub latency-entry : (s : List ℕ) (id : ℕ) (before : List ℕ)
+    → Call (λ after r. Answered 4 (latency.numberOf (latency.latencyOf s id)) (latencyFigures (latency.latencyOf s id)) before after r) (λ r. r) before
+latency-entry s id before = answered 4 _ _ (latency-one s id) before
+
+pub misses-entry : (s : List ℕ) (id k : ℕ) (before : List ℕ)
+    → Call (λ after r. Answered 1 (misses.numberOf (misses.missesOf s id k)) (misses.valuesOf (misses.missesOf s id k)) before after r) (λ r. r) before
+misses-entry s id k before = answered 1 _ _ (misses-one s id k) before
+
+pub segment-entry : (s : List ℕ) (chain against number : ℕ) (before : List ℕ)
+    → Call (λ after r. Answered 2 (segment.numberOf (segment.segmentOf s chain against number)) (segment.valuesOf (segment.segmentOf s chain against number)) before after r) (λ r. r) before
+segment-entry s chain against number before = answered 2 _ _ (segment-one s chain against number) before
+
+-- the save entry lends two: the table's buffer and the answer's
+pub save-entry : (buffer : List ℕ) (used : ℕ) (old new answer : List ℕ)
+    → Call {A = List ℕ × List ℕ} (λ after r. Stored buffer used old new answer (after .0) (after .1) r) (λ r. r) (buffer, answer)
+save-entry buffer used old new answer = record {
+  some = (((buffer when ltb (length answer) 4 else save.bufferAfter buffer used old new), c .some .0), c .some .1, record { answers = c .some .2; leaves = refl });
+  one = λ x y. let e = c .one (x .answers) (y .answers) in (ap₂ (λ a b. (a, b)) (x .leaves ∙ sym (y .leaves)) (e .0), e .1);
+  known = λ x. c .known (x .answers);
+  refused = λ x h. ap₂ (λ a b. (a, b)) (x .leaves ∙ table (λ e. h (x .answers .returns ∙ e))) (c .refused (x .answers) h);
+}
+  where
+    c : Call (λ after r. Answered 1 (save.numberOf (save.savedOf buffer used old new)) (save.figuresOf (save.savedOf buffer used old new)) answer after r) (λ r. r) answer
+    c = answered 1 _ _ (save-one buffer used old new) answer
+
+    table : (returned 1 (save.numberOf (save.savedOf buffer used old new)) answer ≡ 0 → ⊥) → (buffer when ltb (length answer) 4 else save.bufferAfter buffer used old new) ≡ buffer
+    table h = ⊎-elim
+        (λ l. when-yes _ _ (lt-ltb (length answer) 4 l))
+        (λ l. when-no _ _ (le-ltb (length answer) 4 l) ∙ save-leaves buffer used old new (λ e. h (when-no _ _ (le-ltb (length answer) 4 l) ∙ e)))
+        (lt-or-le (length answer) 4)

@@ -1,0 +1,12 @@
+pub mod Chains
+pub mod Numbers
+pub mod Answers
+pub mod Entries
+pub mod Figures
+pub mod Sets
+pub mod Misses
+pub mod Splits
+pub mod Others
+pub mod Saves
+pub mod Calls
+pub mod Starred

@@ -1,0 +1,245 @@
+-- Demand 2 for the miss query: its definition meets the words of document 01, 'Misses'. Assumes nothing.
+use Prim.Native.Nat.{ℕ, suc, _*_, _≤_}
+use mathlib.Core.Path.{_≡_, refl, ap, sym, subst, _∙_}
+use mathlib.Core.Bool.{Bool, true, false}
+use mathlib.Core.List.{List, [], _∷_}
+use mathlib.Core.Logic.{inl, inr, ⊎-elim}
+use native.Mathlib.Omega.{arith}
+use native.Mathlib.Decide.{ℕ-discrete}
+use lib.Dec.{ltb}
+use lib.ListN.{length, getD}
+use borrow.Author.Tests.{lt-ltb, le-ltb, ltb-false}
+use Rattle.search.specs.Lists.{All}
+use Rattle.search.proofs.Choice.{true-not-false, lt-or-le}
+use Rattle.table.specs.Limits.{maxRun, maxOverloads, maxCapacity}
+use Rattle.table.specs.Fault.{outside}
+use Rattle.table.specs.Good.{GoodRow}
+use Rattle.table.specs.declared.Row.{Row}
+use Rattle.table.proofs.Firsts.{none-or, or-left, or-right}
+use Rattle.arrivals.specs.Arrivals.{distances, η}
+use Rattle.arrivals.proofs.Rows.{good-distances}
+use Rattle.segments.specs.View.{View}
+use Rattle.windows.specs.Demand as demand
+use Rattle.windows.specs.Latency.{windowsOf, boundOf}
+use Rattle.windows.specs.declared.Windows.{Windows}
+use Rattle.windows.specs.declared.Answer.the-variants.{Refused as Unbounded}
+use Rattle.windows.proofs.Growth.{Paced, demand-growing}
+use Rattle.windows.proofs.Besides.{others-good, others-paced}
+use Rattle.packing.proofs.Most.{most-greatest, most-is}
+use Rattle.packing.proofs.Laws.{most-same}
+use Rattle.packing.specs.Most.{mostUses}
+use Rattle.misses.specs.Tests.{some}
+use Rattle.misses.specs.Overloads.{Overload}
+use Rattle.misses.specs.Misses.{earlyOf, unless, badOf, roomOf, byFigures, byBound, missesIn, missesOf}
+use Rattle.misses.specs.declared.Answer.{Answer}
+use Rattle.misses.specs.declared.Answer.the-variants.{Misses, Refused}
+use Rattle.misses.proofs.Starts.{starts}
+use Rattle.misses.proofs.Answers as answers
+use Rattle.saving.specs.Save.{tableOf}
+use Rattle.demands.specs.Stored.{Has, at, chainOf, othersOf}
+use Rattle.demands.specs.Figures.{Exactly}
+use Rattle.demands.specs.Misses.{views, marked, pieces, full, IsBad, MayAsk, Figured, lastOf, Few, Once, Fine, Capped, Most, Says, Right}
+use Rattle.demands.proofs.Chains.{table-good, misses-are}
+use Rattle.demands.proofs.Figures.{no-window, no-close, closes-last, three, latency-means}
+use Rattle.demands.proofs.Sets.{bad-means}
+
+-- no element passes
+module _ {A : Type 0} (p : A → Bool) where
+  none-all : (l : List A) → some p l ≡ false → All (λ a. p a ≡ false) l
+  unfolding some
+  none-all [] e = tt
+  none-all (a ∷ l) e = let r = none-or (p a) (some p l) e in (r .0, none-all l (r .1))
+
+  all-none : (l : List A) → All (λ a. p a ≡ false) l → some p l ≡ false
+  unfolding some
+  all-none [] h = refl
+  all-none (a ∷ l) h = rw (h .0) (all-none l (h .1))
+
+-- the tests 19 and 21, which go over lists, against a limit
+module _ {A : Type 0} (limit : ℕ) (f : A → ℕ) where
+  abbrev above : A → Bool
+  above a = ltb limit (f a)
+
+  within-none : (l : List A) → All (λ a. f a ≤ limit) l → some above l ≡ false
+  within-none l h = all-none above l (go l h)
+    where
+      go : (l : List A) → All (λ a. f a ≤ limit) l → All (λ a. above a ≡ false) l
+      go [] h = tt
+      go (a ∷ l) h = (le-ltb limit (f a) (h .0), go l (h .1))
+
+  none-within : (l : List A) → some above l ≡ false → All (λ a. f a ≤ limit) l
+  none-within l e = go l (none-all above l e)
+    where
+      go : (l : List A) → All (λ a. above a ≡ false) l → All (λ a. f a ≤ limit) l
+      go [] h = tt
+      go (a ∷ l) h = (ltb-false limit (f a) (h .0), go l (h .1))
+
+  not-within : (l : List A) → (All (λ a. f a ≤ limit) l → ⊥) → some above l ≡ true
+  not-within l h = go (some above l) refl
+    where
+      go : (t : Bool) → some above l ≡ t → t ≡ true
+      go true e = refl
+      go false e = absurd (h (none-within l e))
+
+  some-not : (l : List A) → some above l ≡ true → All (λ a. f a ≤ limit) l → ⊥
+  some-not l e h = true-not-false e (within-none l h)
+
+-- two tests that hold exactly when the same does
+same-test : {P : Type 0} (x y : Bool) → Exactly (x ≡ true) P → Exactly (y ≡ true) P → x ≡ y
+same-test true y f g = sym (g .1 (f .0 refl))
+same-test false true f g = f .1 (g .0 refl)
+same-test false false f g = refl
+
+module _ (b : Row) (l : List Row) (good : GoodRow b) (rows : All GoodRow l) (paced : Paced (views b l)) (k : ℕ) where
+  abbrev vs : List View
+  vs = views b l
+
+  abbrev os : List Overload
+  os = marked b l
+
+  abbrev answer : Answer
+  answer = missesIn b vs os k
+
+  -- the full analysis
+  abbrev windows : Windows
+  windows = windowsOf (full b l) (distances b) (b .deadline)
+
+  inside : 1 ≤ k → k ≤ maxRun → outside 1 maxRun k ≡ false
+  inside x y = rw (le-ltb k 1 x, le-ltb maxRun k y)
+
+  -- nothing is refused before the windows
+  asked-early : MayAsk b l k → earlyOf b k ≡ 0
+  asked-early a = answers.early-none b k (inside (a .low) (a .high)) (a .typical) (λ e. omega (arith, e, a .gap))
+
+  early-refused : (n : ℕ) → earlyOf b k ≡ suc n → answer ≡ Refused (suc n)
+  unfolding missesIn
+  early-refused n e = ap (λ x. unless x (byBound b vs os k (boundOf b vs .answer) (boundOf b vs .last))) e
+
+  -- the windows refuse, or their figures decide
+  by-windows : MayAsk b l k → (w : Windows) → windows ≡ w → answer ≡ byBound b vs os k (w .answer) (w .last)
+  unfolding missesIn boundOf
+  by-windows a w e =
+      ap (λ x. unless x (byBound b vs os k (windows .answer) (windows .last))) (asked-early a)
+      ∙ ap (λ (x : Windows). byBound b vs os k (x .answer) (x .last)) e
+
+  refused-by : MayAsk b l k → (n : ℕ) → windows .answer ≡ Unbounded n → answer ≡ Refused n
+  refused-by a n e = by-windows a _ refl ∙ ap (λ x. byBound b vs os k x (windows .last)) e
+
+  module _ (f : Figured b l k) where
+    by-figures : answer ≡ byFigures b vs os k (f .close) (f .latency) (f .late) (lastOf b l f)
+    by-figures = by-windows (f .asked) _ (closes-last (full b l) (distances b) (b .deadline) (f .close) (f .latency) (f .late) (f .margin) (f .figures))
+
+    bad-exactly : (m : ℕ) → Exactly (badOf b vs os (f .close) m ≡ true) (IsBad b l (f .close) m)
+    bad-exactly = bad-means b l good rows paced (f .figures)
+
+    bad-false : (IsBad b l (f .close) 0 → ⊥) → badOf b vs os (f .close) 0 ≡ false
+    bad-false h = go (badOf b vs os (f .close) 0) refl
+      where
+        go : (t : Bool) → badOf b vs os (f .close) 0 ≡ t → t ≡ false
+        go true e = absurd (h (bad-exactly 0 .0 e))
+        go false e = refl
+
+    -- whatever is the most uses is the number that is answered with
+    most-same-uses : (uses : ℕ) → Most b l f uses → mostUses (badOf b vs os (f .close)) (λ i. getD (roomOf b os k (f .latency)) i 0) ≡ uses
+    most-same-uses uses m =
+        let room : ℕ → ℕ = λ i. getD (roomOf b os k (f .latency)) i 0 in
+        most-same (badOf b vs os (f .close)) (m .bad) room room (λ x s h. same-test _ _ (bad-exactly x) (m .is x)) (λ i h. refl)
+        ∙ most-is (m .bad) room (m .most)
+
+  -- an answer that the words allow is the answer given
+  says-answer : {a : Answer} → Says b l k a → answer ≡ a
+  says-answer (Says.run (inl h)) = early-refused 12 (answers.early-run b k (or-left _ (ltb maxRun k) (lt-ltb k 1 h)))
+  says-answer (Says.run (inr h)) = early-refused 12 (answers.early-run b k (or-right (ltb k 1) _ (lt-ltb maxRun k h)))
+  says-answer (Says.overload x y h) = early-refused 13 (answers.early-overload b k (inside x y) h)
+  says-answer (Says.gap x y t h) = early-refused 14 (answers.early-gap b k (inside x y) t h)
+  says-answer (Says.window a n) = refused-by a 16 (no-window (full b l) (distances b) (b .deadline) n)
+  says-answer (Says.close a o) = refused-by a 17 (no-close (full b l) (distances b) (b .deadline) o)
+  says-answer (Says.none f e) = by-figures f ∙ answers.none-late b vs os k (f .close) (f .latency) (f .late) (lastOf b l f) e
+  says-answer (Says.many f h n) =
+      by-figures f
+      ∙ answers.too-many b vs os k (f .close) (f .latency) (f .late) (lastOf b l f) (λ e. omega (arith, e, h))
+      (⊎-elim (λ x. x) (λ x. absurd (n x)) (lt-or-le maxOverloads (length (pieces b l))))
+  says-answer (Says.again f h few n) =
+      by-figures f
+      ∙ answers.starts-again b vs os k (f .close) (f .latency) (f .late) (lastOf b l f) (λ e. omega (arith, e, h)) few
+      (not-within 1 (λ o. η (o .list) (lastOf b l f)) os n)
+  says-answer (Says.always f h few once x) =
+      by-figures f
+      ∙ answers.without b vs os k (f .close) (f .latency) (f .late) (lastOf b l f) (λ e. omega (arith, e, h)) few
+      (within-none 1 (λ o. η (o .list) (lastOf b l f)) os once) (bad-exactly f 0 .1 x)
+  says-answer (Says.above f h few once fine n) =
+      by-figures f
+      ∙ answers.too-roomy b vs os k (f .close) (f .latency) (f .late) (lastOf b l f) (λ e. omega (arith, e, h)) few
+      (within-none 1 (λ o. η (o .list) (lastOf b l f)) os once) (bad-false f fine) (not-within maxCapacity (λ c. c) (roomOf b os k (f .latency)) n)
+  says-answer (Says.packed f uses h few once fine room m) =
+      by-figures f
+      ∙ answers.packs b vs os k (f .close) (f .latency) (f .late) (lastOf b l f) (λ e. omega (arith, e, h)) few
+      (within-none 1 (λ o. η (o .list) (lastOf b l f)) os once) (bad-false f fine) (within-none maxCapacity (λ c. c) (roomOf b os k (f .latency)) room)
+      ∙ ap (λ u. Misses (f .late * u)) (most-same-uses f uses m)
+
+  -- and the words allow it
+  is : {a : Answer} → Says b l k a → Says b l k answer
+  is s = subst (Says b l k) (sym (says-answer s)) s
+
+  -- no more than 6 active segments, and some activation is late: three tests are left
+  module _ (f : Figured b l k) (h : 1 ≤ f .late) (few : Few b l) where
+    packed-says : Once b l f → Fine b l f → Capped b l f → Says b l k answer
+    packed-says once fine room =
+        is (Says.packed f (mostUses (badOf b vs os (f .close)) (λ i. getD (roomOf b os k (f .latency)) i 0)) h few once fine room (record {
+          bad = badOf b vs os (f .close);
+          is = bad-exactly f;
+          most = most-greatest (badOf b vs os (f .close)) (λ i. getD (roomOf b os k (f .latency)) i 0);
+        }))
+
+    roomy-says : Once b l f → Fine b l f → (t : Bool) → some (ltb maxCapacity) (roomOf b os k (f .latency)) ≡ t → Says b l k answer
+    roomy-says once fine true e = is (Says.above f h few once fine (some-not maxCapacity (λ c. c) (roomOf b os k (f .latency)) e))
+    roomy-says once fine false e = packed-says once fine (none-within maxCapacity (λ c. c) (roomOf b os k (f .latency)) e)
+
+    always-says : Once b l f → (t : Bool) → badOf b vs os (f .close) 0 ≡ t → Says b l k answer
+    always-says once true e = is (Says.always f h few once (bad-exactly f 0 .0 e))
+    always-says once false e = roomy-says once (λ x. true-not-false (bad-exactly f 0 .1 x) e) (some (ltb maxCapacity) (roomOf b os k (f .latency))) refl
+
+    again-says : (t : Bool) → some (starts (lastOf b l f)) os ≡ t → Says b l k answer
+    again-says true e = is (Says.again f h few (some-not 1 (λ o. η (o .list) (lastOf b l f)) os e))
+    again-says false e = always-says (none-within 1 (λ o. η (o .list) (lastOf b l f)) os e) (badOf b vs os (f .close) 0) refl
+
+  late-says : Figured b l k → Says b l k answer
+  late-says f = ⊎-elim
+      (λ h. ⊎-elim (λ n. is (Says.many f h (λ few. omega (arith, n, few)))) (λ few. again-says f h few (some (starts (lastOf b l f)) os) refl) (lt-or-le maxOverloads (length (pieces b l))))
+      (λ h. is (Says.none f (omega arith)))
+      (lt-or-le 0 (f .late))
+
+  asked-says : MayAsk b l k → Says b l k answer
+  asked-says a = ⊎-elim
+      (λ n. is (Says.window a n))
+      (⊎-elim (λ o. is (Says.close a o)) (λ c. late-says (record { asked = a; close = c .0; latency = c .1; late = c .2; margin = c .3; figures = c .4 })))
+      (three (full b l) (distances b) (b .deadline) (demand-growing b vs good paced) (good-distances good))
+
+  answer-says : Says b l k answer
+  answer-says = ⊎-elim
+      (λ h. is (Says.run (inl h)))
+      (λ low. ⊎-elim
+      (λ h. is (Says.run (inr h)))
+      (λ high. elim (ℕ-discrete (b .overload) 0) [
+        | yes t ↦ elim (ℕ-discrete (b .gap) 0) [
+          | yes g ↦ is (Says.gap low high t g)
+          | no g ↦ asked-says (record { low = low; high = high; typical = t; gap = omega arith })
+        ]
+        | no t ↦ is (Says.overload low high t)
+      ])
+      (lt-or-le maxRun k))
+      (lt-or-le k 1)
+
+-- demand 2: the answer of the miss query for a chain of an accepted table
+pub misses-mean : {s : List ℕ} {id : ℕ} → Has s id → (k : ℕ) (a : Answer) → Exactly (missesOf s id k ≡ a) (Says (chainOf s id) (othersOf s id) k a)
+unfolding demand.othersOf
+misses-mean {s} {id} h k a =
+    let t = table-good (h .table) in
+    let b = t .row (at s id) (h .there) in
+    let r = others-good (tableOf s) t (at s id) in
+    let p = others-paced (tableOf s) t (at s id) in
+    (λ e. subst (Says (chainOf s id) (othersOf s id) k) (sym (misses-are h k) ∙ e) (answer-says (chainOf s id) (othersOf s id) b r p k), λ x. misses-are h k ∙ says-answer (chainOf s id) (othersOf s id) b r p k x)
+
+-- both at once
+pub answers-right : {s : List ℕ} {id : ℕ} → Has s id → Right s id
+answers-right h = record { latency = latency-means h; misses = misses-mean h }

@@ -1,0 +1,102 @@
+-- The numbers that a table and a save are refused with are those of document 01's list. Assumes nothing.
+use Prim.Native.Nat.{ℕ, zero, suc, _+_, _≤_}
+use mathlib.Core.List.{List}
+use native.Mathlib.Omega.{arith}
+use native.Mathlib.Nat.{le-refl}
+use lib.Dec.{lit≤}
+use Rattle.search.proofs.Choice.{when-cases}
+use Rattle.table.specs.Limits.{maxChains}
+use Rattle.table.specs.Bytes.{word}
+use Rattle.table.specs.Record.{lengthAt, rowAt}
+use Rattle.table.specs.Fault.{_then_, markOf, headFault, listFault, taskFault, tasksFault, chainFault, endFault}
+use Rattle.table.specs.Read.{empty, plus, refusal, accepted, unless, byMark, start, records, readTable, numberOf}
+use Rattle.table.specs.declared.Table.{Table}
+use Rattle.table.specs.declared.Reading.{Reading}
+use Rattle.table.specs.declared.Mark.{Mark}
+use Rattle.table.specs.declared.Mark.the-variants.{Chain, Task, End, Other}
+use Rattle.saving.specs.Save.{readFault, resultFault, changeFault, saveFault}
+
+-- one of two numbers, or the first of two faults, is within what both are within
+module _ (n : ℕ) where
+  abbrev Within : ℕ → Type 0
+  Within f = f ≤ n
+
+  then-within : (f g : ℕ) → Within f → Within g → Within (f then g)
+  unfolding _then_
+  then-within zero g x y = y
+  then-within (suc f) g x y = x
+
+-- a table: up to 11
+abbrev Low : ℕ → Type 0
+Low f = f ≤ 11
+
+head-low : (s : List ℕ) (at : ℕ) (t : Table) → Low (headFault s at t)
+unfolding headFault
+head-low s at t =
+    when-cases Low _ (λ e. lit≤ tt) (λ e. when-cases Low _ (λ e. lit≤ tt) (λ e. when-cases Low _ (λ e. lit≤ tt) (λ e. when-cases Low _ (λ e. lit≤ tt) (λ e.
+    when-cases Low _ (λ e. lit≤ tt) (λ e. when-cases Low _ (λ e. lit≤ tt) (λ e. lit≤ tt))))))
+
+list-low : (gap : ℕ) (ds : List ℕ) → Low (listFault gap ds)
+unfolding listFault
+list-low gap ds = when-cases Low _ (λ e. lit≤ tt) (λ e. when-cases Low _ (λ e. lit≤ tt) (λ e. when-cases Low _ (λ e. lit≤ tt) (λ e. lit≤ tt)))
+
+task-low : (s : List ℕ) (at : ℕ) → Low (taskFault s at)
+unfolding taskFault
+task-low s at = when-cases Low _ (λ e. lit≤ tt) (λ e. when-cases Low _ (λ e. lit≤ tt) (λ e. when-cases Low _ (λ e. lit≤ tt) (λ e. when-cases Low _ (λ e. lit≤ tt) (λ e. lit≤ tt))))
+
+tasks-low : (s : List ℕ) (n at : ℕ) → Low (tasksFault s n at)
+unfolding tasksFault
+tasks-low s zero at = lit≤ tt
+tasks-low s (suc n) at = then-within 11 _ _ (task-low s at) (tasks-low s n (at + 8))
+
+chain-low : (s : List ℕ) (at : ℕ) (t : Table) → Low (chainFault s at t)
+unfolding chainFault
+chain-low s at t =
+    when-cases Low _ (λ e. lit≤ tt) (λ e.
+    then-within 11 _ _ (head-low s at t)
+    (then-within 11 _ _ (when-cases Low _ (λ e. lit≤ tt) (λ e. list-low _ _)) (tasks-low s _ _)))
+
+end-low : (s : List ℕ) (at : ℕ) (t : Table) → Low (endFault s at t)
+unfolding endFault
+end-low s at t = when-cases Low _ (λ e. lit≤ tt) (λ e. when-cases Low _ (λ e. lit≤ tt) (λ e. when-cases Low _ (λ e. lit≤ tt) (λ e. when-cases Low _ (λ e. lit≤ tt) (λ e. lit≤ tt))))
+
+abbrev Numbered : Reading → Type 0
+Numbered r = numberOf (r .verdict) ≤ 11
+
+unless-low : (f : ℕ) (r : Reading) → Low f → Numbered r → Numbered (unless f r)
+unfolding unless
+unless-low zero r l h = h
+unless-low (suc f) r l h = l
+
+start-low : (s : List ℕ) (at : ℕ) (t : Table) (chain : Reading) → Numbered chain → Numbered (start s at t chain)
+unfolding start
+start-low s at t chain h = when-cases Numbered _ (λ e. lit≤ tt) (λ e. by (markOf (word 2 s at)))
+  where
+    by : (m : Mark) → Numbered (byMark m chain (unless (endFault s at t) (accepted t)))
+    by Chain = h
+    by Task = lit≤ tt
+    by End = unless-low (endFault s at t) (accepted t) (end-low s at t) (lit≤ tt)
+    by Other = lit≤ tt
+
+records-low : (left : ℕ) (s : List ℕ) (at : ℕ) (t : Table) → Numbered (records left s at t)
+unfolding records
+records-low zero s at t = start-low s at t (refusal 11) (le-refl 11)
+records-low (suc left) s at t =
+    start-low s at t _ (unless-low (chainFault s at t) _ (chain-low s at t) (records-low left s (at + lengthAt s at) (plus t (rowAt s at))))
+
+pub table-number : (s : List ℕ) → readFault s ≤ 11
+unfolding readTable
+table-number s = when-cases Numbered _ (λ e. lit≤ tt) (λ e. records-low maxChains s 0 empty)
+
+-- a save: up to 24
+pub save-number : (buffer : List ℕ) (used : ℕ) (old new : List ℕ) → saveFault buffer used old new ≤ 24
+unfolding saveFault changeFault resultFault
+save-number buffer used old new =
+    when-cases High _ (λ e. lit≤ tt) (λ e.
+    then-within 24 _ _ (read _) (when-cases High _ (λ e. lit≤ tt) (λ e. when-cases High _ (λ e. lit≤ tt) (λ e. when-cases High _ (λ e. lit≤ tt) (λ e. read _)))))
+  where
+    High : ℕ → Type 0
+    High f = f ≤ 24
+
+    read : (s : List ℕ) → readFault s ≤ 24
+    read s = omega (arith, table-number s)

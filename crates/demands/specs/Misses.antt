@@ -1,0 +1,133 @@
+-- Demand 2 for the miss query: what its answer says of a chain b beside the other chains l, for a run of k activations.
+use Prim.Native.Nat.{ℕ, _+_, _*_, _^_, _≤_, _<_}
+use mathlib.Core.Path.{_≡_}
+use mathlib.Core.Bool.{Bool, true}
+use mathlib.Core.List.{List, map}
+use mathlib.Core.Logic.{_⊎_}
+use lib.IntN.{ℤ}
+use lib.ListN.{length, getD}
+use Rattle.search.specs.Lists.{All}
+use Rattle.table.specs.Limits.{maxRun, maxOverloads, maxCapacity}
+use Rattle.table.specs.declared.Row.{Row}
+use Rattle.arrivals.specs.Arrivals.{distances, δ, η}
+use Rattle.segments.specs.View.{View, viewOf}
+use Rattle.windows.specs.Demand.{demandOf, typical}
+use Rattle.windows.specs.Window.{Solution}
+use Rattle.windows.specs.Latency.{latencyOf}
+use Rattle.packing.specs.Packing.{bit, IsMost}
+use Rattle.misses.specs.Overloads.{Overload, overloads, Piece, piecesOf}
+use Rattle.misses.specs.Sets.{members, costOf}
+use Rattle.misses.specs.Bad.{withCost}
+use Rattle.misses.specs.Misses.{roomOf, missesOf}
+use Rattle.misses.specs.declared.Answer.{Answer}
+use Rattle.misses.specs.declared.Answer.the-variants.{Misses, Refused}
+use Rattle.demands.specs.Stored.{chainOf, othersOf}
+use Rattle.demands.specs.Figures.{Exactly, NoWindow, NoClose, Closes, Means}
+
+-- the active segment of a bit, out of all of them
+abbrev pub pieceOf : List Piece → ℕ → Piece
+pieceOf ps i = getD ps i (record { chain = 0; segment = 0; cost = 0 })
+
+-- a combination is a set of active segments, those of one chain all from one of its segments
+pub record Combination (ps : List Piece) (m : ℕ) : Type 0 where
+  pub below : m < 2 ^ length ps
+  pub one : (i j : ℕ) → i < length ps → j < length ps → bit i m ≡ 1 → bit j m ≡ 1 → pieceOf ps i .chain ≡ pieceOf ps j .chain → pieceOf ps i .segment ≡ pieceOf ps j .segment
+
+module _ (b : Row) (l : List Row) where
+  abbrev pub views : List View
+  views = map (λ a. viewOf a b) l
+
+  -- the overload chains, and their active segments in a row
+  abbrev pub marked : List Overload
+  marked = overloads b l
+
+  abbrev pub pieces : List Piece
+  pieces = piecesOf marked
+
+  -- b's demand beside all others, and with all overload chains' terms dropped
+  abbrev pub full : ℕ → ℕ → ℕ
+  full = demandOf b views
+
+  abbrev pub without : ℕ → ℕ → ℕ
+  without = demandOf b (typical views)
+
+  -- a bad combination: with the set's costs added once, for some q ≤ K its window minus δ(q) exceeds the deadline
+  pub record IsBad (close m : ℕ) : Type 0 where
+    pub combination : Combination pieces m
+    pub q : ℕ
+    pub low : 1 ≤ q
+    pub high : q ≤ close
+    pub t : ℕ
+    pub window : Solution (withCost without (costOf (members pieces m)) q) t
+    pub late : δ (distances b) q + b .deadline < t
+
+  -- before any window: k in 1 to 1,000, no overload chain, a known gap
+  pub record MayAsk (k : ℕ) : Type 0 where
+    pub low : 1 ≤ k
+    pub high : k ≤ maxRun
+    pub typical : b .overload ≡ 0
+    pub gap : 1 ≤ b .gap
+
+  -- then the figures of the full analysis
+  pub record Figured (k : ℕ) : Type 0 where
+    pub asked : MayAsk k
+    pub close : ℕ
+    pub latency : ℕ
+    pub late : ℕ
+    pub margin : ℤ
+    pub figures : Closes full (distances b) (b .deadline) close latency late margin
+
+  -- and its last window, B(K)
+  abbrev pub lastOf : {k : ℕ} → Figured k → ℕ
+  lastOf f = f .figures .B (f .close)
+
+  -- no more than 6 active segments
+  abbrev pub Few : Type 0
+  Few = length pieces ≤ maxOverloads
+
+  -- no overload chain may start more than once in the last window; no miss without any overload; no capacity above 40
+  module _ {k : ℕ} (f : Figured k) where
+    abbrev pub Once : Type 0
+    Once = All (λ o. η (o .list) (lastOf f) ≤ 1) marked
+
+    abbrev pub Fine : Type 0
+    Fine = IsBad (f .close) 0 → ⊥
+
+    abbrev pub Capped : Type 0
+    Capped = All (λ c. c ≤ maxCapacity) (roomOf b marked k (f .latency))
+
+    -- the most uses that a packing of the bad combinations has, no active segment beyond its capacity: reached by one, exceeded by none
+    pub record Most (uses : ℕ) : Type 0 where
+      pub bad : ℕ → Bool
+      pub is : (m : ℕ) → Exactly (bad m ≡ true) (IsBad (f .close) m)
+      pub most : IsMost bad (λ i. getD (roomOf b marked k (f .latency)) i 0) uses
+
+  -- what each answer says, in document 01's order
+  pub data Says (k : ℕ) : Answer → Type 0 where
+    -- k outside 1 to 1,000
+    run : (k < 1) ⊎ (maxRun < k) → Says k (Refused 13)
+    -- asked of an overload chain
+    overload : 1 ≤ k → k ≤ maxRun → (b .overload ≡ 0 → ⊥) → Says k (Refused 14)
+    -- asked of a chain with gap 0
+    gap : 1 ≤ k → k ≤ maxRun → b .overload ≡ 0 → b .gap ≡ 0 → Says k (Refused 15)
+    -- a needed window has no solution
+    window : MayAsk k → NoWindow full (distances b) → Says k (Refused 16)
+    -- no close by activation 1,024
+    close : MayAsk k → NoClose full (distances b) → Says k (Refused 17)
+    -- zero late activations
+    none : (f : Figured k) → f .late ≡ 0 → Says k (Misses 0)
+    -- over 6 overload active segments
+    many : (f : Figured k) → 1 ≤ f .late → (Few → ⊥) → Says k (Refused 18)
+    -- an overload chain may start more than once in the last window
+    again : (f : Figured k) → 1 ≤ f .late → Few → (Once f → ⊥) → Says k (Refused 19)
+    -- a miss without any overload
+    always : (f : Figured k) → 1 ≤ f .late → Few → Once f → IsBad (f .close) 0 → Says k (Refused 20)
+    -- a capacity above 40
+    above : (f : Figured k) → 1 ≤ f .late → Few → Once f → Fine f → (Capped f → ⊥) → Says k (Refused 21)
+    -- late times the most uses that any packing has
+    packed : (f : Figured k) (uses : ℕ) → 1 ≤ f .late → Few → Once f → Fine f → Capped f → Most f uses → Says k (Misses (f .late * uses))
+
+-- the answers for a chain of an accepted table are those of the words
+pub record Right (s : List ℕ) (id : ℕ) : Type 0 where
+  pub latency : Means (full (chainOf s id) (othersOf s id)) (distances (chainOf s id)) (chainOf s id .deadline) (latencyOf s id)
+  pub misses : (k : ℕ) (a : Answer) → Exactly (missesOf s id k ≡ a) (Says (chainOf s id) (othersOf s id) k a)

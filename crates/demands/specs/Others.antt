@@ -1,0 +1,104 @@
+-- Demand 3: what a chain is answered hangs on its own record and on what it sees of the other chains, and on nothing else of them.
+use Prim.Native.Nat.{ℕ, _+_, _*_, _<_, _≤_}
+use mathlib.Core.Path.{_≡_}
+use mathlib.Core.List.{List, [], _∷_, map, flatten, List·Permᴰ}
+use mathlib.Core.Logic.{_⊎_}
+use lib.ListN.{length, getD, take, drop}
+use Rattle.search.specs.Lists.{Paired}
+use Rattle.table.specs.Find.{rows}
+use Rattle.table.specs.declared.Row.{Row}
+use Rattle.arrivals.specs.Arrivals.{distances}
+use Rattle.segments.specs.Tasks.{Task, tasksOf, costOf, floorOf, tailOf, below, deferred, firstCost}
+use Rattle.segments.specs.Segments.{cutSegments}
+use Rattle.windows.specs.Latency.{latencyOf}
+use Rattle.misses.specs.Misses.{missesOf}
+use Rattle.saving.specs.Save.{tableOf}
+use Rattle.demands.specs.Stored.{IsTable, Has, chainOf, bytesOf, othersOf}
+
+-- the segments of a chain a against a chain b, each as its active segments
+abbrev pub segmentsOf : Row → Row → List (List (List Task))
+segmentsOf a b = cutSegments (floorOf b) (tailOf b) (tasksOf a)
+
+-- two segments with the same cost and the same active-segment costs in any order
+pub record SameSegment (x y : List (List Task)) : Type 0 where
+  pub cost : costOf (flatten x) ≡ costOf (flatten y)
+  pub actives : List·Permᴰ (map costOf x) (map costOf y)
+
+-- the chains a and c agree in kind, overload mark, arrival list, free or deferred and first-segment cost against b, and their
+-- segments against it pair off one to one
+pub record Agrees (b a c : Row) : Type 0 where
+  pub kind : a .kind ≡ c .kind
+  pub overload : a .overload ≡ c .overload
+  pub arrivals : distances a ≡ distances c
+  pub defers : deferred a b ≡ deferred c b
+  pub first : firstCost a b ≡ firstCost c b
+  pub segments : Paired SameSegment (segmentsOf a b) (segmentsOf c b)
+
+-- two accepted tables in which the id's records are the same bytes, and the other chains pair off one to one, each pair related by R
+pub record Besides (R : Row → Row → Type 0) (s r : List ℕ) (id : ℕ) : Type 0 where
+  pub one : Has s id
+  pub two : Has r id
+  pub own : bytesOf s id ≡ bytesOf r id
+  pub others : Paired R (othersOf s id) (othersOf r id)
+
+-- and each pair agrees against that chain
+abbrev pub SameBesides : List ℕ → List ℕ → ℕ → Type 0
+SameBesides s r id = Besides (Agrees (chainOf s id)) s r id
+
+-- the answers for the id are equal, refusals included, the misses for every k
+pub record Unmoved (s r : List ℕ) (id : ℕ) : Type 0 where
+  pub latency : latencyOf s id ≡ latencyOf r id
+  pub misses : (k : ℕ) → missesOf s id k ≡ missesOf r id k
+
+-- two accepted tables with the same rows, in any order
+pub record Reordered (s r : List ℕ) : Type 0 where
+  pub one : IsTable s
+  pub two : IsTable r
+  pub rows : List·Permᴰ (rows (tableOf s)) (rows (tableOf r))
+
+-- a and c differ in id, deadline and gap at most
+pub record SameWork (a c : Row) : Type 0 where
+  pub kind : a .kind ≡ c .kind
+  pub overload : a .overload ≡ c .overload
+  pub listed : a .listed ≡ c .listed
+  pub list : a .list ≡ c .list
+  pub tasks : a .tasks ≡ c .tasks
+  pub priority : a .priority ≡ c .priority
+  pub cost : a .cost ≡ c .cost
+
+-- a and c have other tasks, and the same active-segment costs, segment by segment
+pub record SameActives (b a c : Row) : Type 0 where
+  pub kind : a .kind ≡ c .kind
+  pub overload : a .overload ≡ c .overload
+  pub arrivals : distances a ≡ distances c
+  pub defers : deferred a b ≡ deferred c b
+  pub first : firstCost a b ≡ firstCost c b
+  pub costs : map (map costOf) (segmentsOf a b) ≡ map (map costOf) (segmentsOf c b)
+
+-- some tasks x at or above the floor are each split in two, y and z, with x's cost together: y stands to floor and tail as x did, and z
+-- is at or above both, so that no cut comes before it
+pub data Split (floor tail : ℕ) : List Task → List Task → Type 0 where
+  none : Split floor tail [] []
+  kept : {x y : Task} {xs ys : List Task} → x .priority ≡ y .priority → x .cost ≡ y .cost → Split floor tail xs ys → Split floor tail (x ∷ xs) (y ∷ ys)
+  two : {x y z : Task} {xs ys : List Task} → floor ≤ x .priority → floor ≤ y .priority → below tail x ≡ below tail y → floor ≤ z .priority → tail ≤ z .priority
+      → x .cost ≡ y .cost + z .cost → Split floor tail xs ys → Split floor tail (x ∷ xs) (y ∷ z ∷ ys)
+
+-- c is a with such tasks split
+pub record SplitTasks (b a c : Row) : Type 0 where
+  pub kind : a .kind ≡ c .kind
+  pub overload : a .overload ≡ c .overload
+  pub arrivals : distances a ≡ distances c
+  pub tasks : Split (floorOf b) (tailOf b) (tasksOf a) (tasksOf c)
+
+-- the new record differs from the old one in deadline and gap at most, its bytes 6 to 13
+pub record DeadlineOrGap (old new : List ℕ) : Type 0 where
+  pub long : length new ≡ length old
+  pub rest : (i : ℕ) → (i < 6) ⊎ (14 ≤ i) → getD new i 0 ≡ getD old i 0
+
+-- two calls of a C entry of n figures that return r and q, whatever the answer buffers held: the same number; where it is 0, the same
+-- figure bytes, and the rest of each as it was; else all of each as it was
+pub record SameCall (n : ℕ) (before after : List ℕ) (r : ℕ) (before′ after′ : List ℕ) (q : ℕ) : Type 0 where
+  pub number : r ≡ q
+  pub figures : r ≡ 0 → take (4 * n) after ≡ take (4 * n) after′
+  pub rest : r ≡ 0 → (drop (4 * n) after ≡ drop (4 * n) before) × (drop (4 * n) after′ ≡ drop (4 * n) before′)
+  pub refused : (r ≡ 0 → ⊥) → (after ≡ before) × (after′ ≡ before′)

@@ -1,0 +1,34 @@
+-- A chain of a stored table: what the demands speak of.
+use Prim.Native.Nat.{ℕ, _<_}
+use mathlib.Core.Path.{_≡_}
+use mathlib.Core.List.{List}
+use Rattle.table.specs.Bytes.{Bytes}
+use Rattle.table.specs.Find.{rowOf, findOf}
+use Rattle.table.specs.Read.{readTable}
+use Rattle.table.specs.declared.Row.{Row}
+use Rattle.table.specs.declared.Verdict.the-variants.{Accepted}
+use Rattle.saving.specs.Save.{tableOf, recordOf}
+use Rattle.windows.specs.Demand.{others}
+
+-- a byte string that is read as an accepted table
+pub record IsTable (s : List ℕ) : Type 0 where
+  pub bytes : Bytes s
+  pub accepted : readTable s .verdict ≡ Accepted
+
+-- a chain of it has the id
+pub record Has (s : List ℕ) (id : ℕ) : Type 0 where
+  pub table : IsTable s
+  pub there : findOf (tableOf s) id < tableOf s .count
+
+-- the number of that chain in the table, its row, its record's bytes, and the other chains' rows
+abbrev pub at : List ℕ → ℕ → ℕ
+at s id = findOf (tableOf s) id
+
+abbrev pub chainOf : List ℕ → ℕ → Row
+chainOf s id = rowOf (tableOf s) (at s id)
+
+abbrev pub bytesOf : List ℕ → ℕ → List ℕ
+bytesOf s id = recordOf s (at s id)
+
+abbrev pub othersOf : List ℕ → ℕ → List Row
+othersOf s id = others (tableOf s) (at s id)
