@@ -37,9 +37,9 @@ zero-number n number before e = ⊎-elim
     (lt-or-le (length before) (4 * n))
 
 -- one answer, two calls
-same-call : {n number : ℕ} {figures before after before′ after′ : List ℕ} {r q : ℕ} → OneAnswer n number figures → length before ≡ length before′
+same-call : {Refusal : ℕ → Type 0} {n number : ℕ} {figures before after before′ after′ : List ℕ} {r q : ℕ} → OneAnswer Refusal n number figures → length before ≡ length before′
     → Answered n number figures before after r → Answered n number figures before′ after′ q → SameCall n before after r before′ after′ q
-same-call {n} {number} {figures} {before} {after} {before′} {after′} {r} {q} one long x y = record {
+same-call {Refusal} {n} {number} {figures} {before} {after} {before′} {after′} {r} {q} one long x y = record {
   number = same;
   figures = λ e. ap (take (4 * n)) (held x e) ∙ written-figures n figures before (full e) ∙ sym (written-figures n figures before′ (full e)) ∙ ap (take (4 * n)) (sym (held y (sym same ∙ e)));
   rest = λ e. (ap (drop (4 * n)) (held x e) ∙ written-rest n figures before (full e), ap (drop (4 * n)) (held y (sym same ∙ e)) ∙ written-rest n figures before′ (full e));

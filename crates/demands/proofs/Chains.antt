@@ -92,21 +92,21 @@ module _ {s : List ℕ} (h : IsTable s) (id : ℕ) where
       (λ j l. ap (bears id) (row-at j l) ∙ first-miss (λ k. bears id (rowOf t k)) 0 (t .count) j (omega arith) (omega (arith, e, count)))
 
   module _ (there : at s id < t .count) where
-    pub here : bears id (rowOf t (at s id)) ≡ true
+    pub own-bears : bears id (rowOf t (at s id)) ≡ true
     unfolding findOf
-    here = first-hit (λ k. bears id (rowOf t k)) 0 (t .count) (omega (arith, there))
+    own-bears = first-hit (λ k. bears id (rowOf t k)) 0 (t .count) (omega (arith, there))
 
     other : (j : ℕ) → j < length (rows t) → (j ≡ at s id → ⊥) → bears id (getD (rows t) j none) ≡ false
     other j l n =
         ne-eqb _ _ (λ e. n (table-good h .ids j (at s id) (omega (arith, count)) there
-        (ap (λ (a : Row). a .id) (sym (row-at j l)) ∙ e ∙ sym (eqb-true _ _ here))))
+        (ap (λ (a : Row). a .id) (sym (row-at j l)) ∙ e ∙ sym (eqb-true _ _ own-bears))))
 
     pub one-bears : keep (bears id) (rows t) ≡ chainOf s id ∷ []
     one-bears =
         let l : at s id < length (rows t) = omega (arith, count) in
-        keep-one none (bears id) (rows t) (at s id) l (ap (bears id) (row-at (at s id) l) ∙ here) other ∙ ap (λ a. a ∷ []) (row-at (at s id) l)
+        keep-one none (bears id) (rows t) (at s id) l (ap (bears id) (row-at (at s id) l) ∙ own-bears) other ∙ ap (λ a. a ∷ []) (row-at (at s id) l)
 
     pub others-bear : keep (λ a. not (bears id a)) (rows t) ≡ stored.othersOf s id
     others-bear =
         let l : at s id < length (rows t) = omega (arith, count) in
-        keep-rest none (λ a. not (bears id a)) (rows t) (at s id) l (ap not (ap (bears id) (row-at (at s id) l) ∙ here)) (λ j m n. ap not (other j m n))
+        keep-rest none (λ a. not (bears id a)) (rows t) (at s id) l (ap not (ap (bears id) (row-at (at s id) l) ∙ own-bears)) (λ j m n. ap not (other j m n))

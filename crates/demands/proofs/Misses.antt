@@ -11,6 +11,7 @@ use lib.ListN.{length, getD}
 use borrow.Author.Tests.{lt-ltb, le-ltb, ltb-false}
 use Rattle.search.specs.Lists.{All}
 use Rattle.search.proofs.Choice.{true-not-false, lt-or-le}
+use Rattle.search.proofs.Lists.{all-map}
 use Rattle.table.specs.Limits.{maxRun, maxOverloads, maxCapacity}
 use Rattle.table.specs.Fault.{outside}
 use Rattle.table.specs.Good.{GoodRow}
@@ -61,18 +62,10 @@ module _ {A : Type 0} (limit : ℕ) (f : A → ℕ) where
   above a = ltb limit (f a)
 
   within-none : (l : List A) → All (λ a. f a ≤ limit) l → some above l ≡ false
-  within-none l h = all-none above l (go l h)
-    where
-      go : (l : List A) → All (λ a. f a ≤ limit) l → All (λ a. above a ≡ false) l
-      go [] h = tt
-      go (a ∷ l) h = (le-ltb limit (f a) (h .0), go l (h .1))
+  within-none l h = all-none above l (all-map (λ a e. le-ltb limit (f a) e) l h)
 
   none-within : (l : List A) → some above l ≡ false → All (λ a. f a ≤ limit) l
-  none-within l e = go l (none-all above l e)
-    where
-      go : (l : List A) → All (λ a. above a ≡ false) l → All (λ a. f a ≤ limit) l
-      go [] h = tt
-      go (a ∷ l) h = (ltb-false limit (f a) (h .0), go l (h .1))
+  none-within l e = all-map (λ a h. ltb-false limit (f a) h) l (none-all above l e)
 
   not-within : (l : List A) → (All (λ a. f a ≤ limit) l → ⊥) → some above l ≡ true
   not-within l h = go (some above l) refl

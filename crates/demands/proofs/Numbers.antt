@@ -1,10 +1,12 @@
 -- The numbers that a table and a save are refused with are those of document 01's list. Assumes nothing.
 use Prim.Native.Nat.{ℕ, zero, suc, _+_, _≤_}
+use mathlib.Core.Path.{_≡_}
 use mathlib.Core.List.{List}
+use mathlib.Core.Logic.{_⊎_, inl, inr, ⊎-elim}
 use native.Mathlib.Omega.{arith}
 use native.Mathlib.Nat.{le-refl}
 use lib.Dec.{lit≤}
-use Rattle.search.proofs.Choice.{when-cases}
+use Rattle.search.proofs.Choice.{when-cases, lt-or-le}
 use Rattle.table.specs.Limits.{maxChains}
 use Rattle.table.specs.Bytes.{word}
 use Rattle.table.specs.Record.{lengthAt, rowAt}
@@ -15,16 +17,13 @@ use Rattle.table.specs.declared.Reading.{Reading}
 use Rattle.table.specs.declared.Mark.{Mark}
 use Rattle.table.specs.declared.Mark.the-variants.{Chain, Task, End, Other}
 use Rattle.saving.specs.Save.{readFault, resultFault, changeFault, saveFault}
+use Rattle.demands.specs.Entries.{SaveRefusal}
 
--- one of two numbers, or the first of two faults, is within what both are within
-module _ (n : ℕ) where
-  abbrev Within : ℕ → Type 0
-  Within f = f ≤ n
-
-  then-within : (f g : ℕ) → Within f → Within g → Within (f then g)
-  unfolding _then_
-  then-within zero g x y = y
-  then-within (suc f) g x y = x
+-- what holds of two faults holds of the first of them
+then-holds : (P : ℕ → Type 0) (f g : ℕ) → P f → P g → P (f then g)
+unfolding _then_
+then-holds P zero g x y = y
+then-holds P (suc f) g x y = x
 
 -- a table: up to 11
 abbrev Low : ℕ → Type 0
@@ -47,14 +46,14 @@ task-low s at = when-cases Low _ (λ e. lit≤ tt) (λ e. when-cases Low _ (λ e
 tasks-low : (s : List ℕ) (n at : ℕ) → Low (tasksFault s n at)
 unfolding tasksFault
 tasks-low s zero at = lit≤ tt
-tasks-low s (suc n) at = then-within 11 _ _ (task-low s at) (tasks-low s n (at + 8))
+tasks-low s (suc n) at = then-holds Low _ _ (task-low s at) (tasks-low s n (at + 8))
 
 chain-low : (s : List ℕ) (at : ℕ) (t : Table) → Low (chainFault s at t)
 unfolding chainFault
 chain-low s at t =
     when-cases Low _ (λ e. lit≤ tt) (λ e.
-    then-within 11 _ _ (head-low s at t)
-    (then-within 11 _ _ (when-cases Low _ (λ e. lit≤ tt) (λ e. list-low _ _)) (tasks-low s _ _)))
+    then-holds Low _ _ (head-low s at t)
+    (then-holds Low _ _ (when-cases Low _ (λ e. lit≤ tt) (λ e. list-low _ _)) (tasks-low s _ _)))
 
 end-low : (s : List ℕ) (at : ℕ) (t : Table) → Low (endFault s at t)
 unfolding endFault
@@ -88,15 +87,25 @@ pub table-number : (s : List ℕ) → readFault s ≤ 11
 unfolding readTable
 table-number s = when-cases Numbered _ (λ e. lit≤ tt) (λ e. records-low maxChains s 0 empty)
 
--- a save: up to 24
-pub save-number : (buffer : List ℕ) (used : ℕ) (old new : List ℕ) → saveFault buffer used old new ≤ 24
-unfolding saveFault changeFault resultFault
-save-number buffer used old new =
-    when-cases High _ (λ e. lit≤ tt) (λ e.
-    then-within 24 _ _ (read _) (when-cases High _ (λ e. lit≤ tt) (λ e. when-cases High _ (λ e. lit≤ tt) (λ e. when-cases High _ (λ e. lit≤ tt) (λ e. read _)))))
-  where
-    High : ℕ → Type 0
-    High f = f ≤ 24
+-- a save: 0, 1 to 11, or 22 to 24
+Saves : ℕ → Type 0
+Saves f = (f ≡ 0) ⊎ SaveRefusal f
 
-    read : (s : List ℕ) → readFault s ≤ 24
-    read s = omega (arith, table-number s)
+read-saves : (s : List ℕ) → Saves (readFault s)
+unfolding Saves
+read-saves s = ⊎-elim (λ h. inr (inl (h, table-number s))) (λ h. inl (omega arith)) (lt-or-le 0 (readFault s))
+
+late-saves : (f : ℕ) → 22 ≤ f → f ≤ 24 → Saves f
+unfolding Saves
+late-saves f low high = inr (inr (low, high))
+
+fault-saves : (buffer : List ℕ) (used : ℕ) (old new : List ℕ) → Saves (saveFault buffer used old new)
+unfolding saveFault changeFault resultFault Saves
+fault-saves buffer used old new =
+    when-cases Saves _ (λ e. inr (inl (lit≤ tt, lit≤ tt))) (λ e.
+    then-holds Saves _ _ (read-saves _)
+    (when-cases Saves _ (λ e. late-saves 22 (lit≤ tt) (lit≤ tt)) (λ e. when-cases Saves _ (λ e. late-saves 23 (lit≤ tt) (lit≤ tt)) (λ e. when-cases Saves _ (λ e. late-saves 24 (lit≤ tt) (lit≤ tt)) (λ e. read-saves _)))))
+
+pub save-number : (buffer : List ℕ) (used : ℕ) (old new : List ℕ) → (saveFault buffer used old new ≡ 0 → ⊥) → SaveRefusal (saveFault buffer used old new)
+unfolding Saves
+save-number buffer used old new h = ⊎-elim (λ e. absurd (h e)) (λ r. r) (fault-saves buffer used old new)

@@ -29,7 +29,7 @@ use Rattle.demands.specs.Misses.{Right}
 use Rattle.demands.specs.Others.{segmentsOf, SameSegment, Agrees, Besides, SameBesides, Unmoved, Reordered, SameWork, SameActives, SplitTasks}
 use Rattle.demands.proofs.Misses.{answers-right}
 use Rattle.demands.proofs.Splits.{split-actives}
-use Rattle.demands.proofs.Chains.{own-row, latency-is, misses-are, latency-absent, misses-absent, bears, absent-or-there, none-bears, here, one-bears, others-bear}
+use Rattle.demands.proofs.Chains.{own-row, latency-is, misses-are, latency-absent, misses-absent, bears, absent-or-there, none-bears, own-bears, one-bears, others-bear}
 
 -- chains that agree against b are alike to it
 agrees-alike : (b : Row) {a c : Row} → Agrees b a c → Alike (viewOf a b) (viewOf c b)
@@ -154,7 +154,7 @@ module _ {s r : List ℕ} (id : ℕ) (one : IsTable s) (two : IsTable r) (pairs 
       (λ p. ⊎-elim
       (λ q. absurd (omega (arith, paired-length owns, ap length (one-bears one id p), ap length (none-bears two id q))))
       (λ q. rows-unmoved (record { table = one; there = p }) (record { table = two; there = q })
-      (paired-single (rw (one-bears one id p, one-bears two id q) at owns) .own (eqb-true _ _ (here one id p)))
+      (paired-single (rw (one-bears one id p, one-bears two id q) at owns) .own (eqb-true _ _ (own-bears one id p)))
       (rw (others-bear one id p, others-bear two id q) at (paired-weaker (paired-keep pairs other other (λ a c h. ap not (h .bearing))) (λ a c h. h .agrees (chainOf s id)))))
       (absent-or-there two id))
       (absent-or-there one id)

@@ -39,39 +39,26 @@ sample =
     84 ∷ 75 ∷ 6 ∷ 0 ∷ 12 ∷ 0 ∷ 0 ∷ 0 ∷
     69 ∷ 78 ∷ 4 ∷ 0 ∷ []
 
--- 'At the edge': one chain, ten tasks of 1,000,000, list 10,000,000, deadline 10,000,000
-unfoldable pub edge : List ℕ
-edge =
+-- a task of priority 5 and cost 1,000,000, and what follows it
+abbrev pub million : List ℕ → List ℕ
+million rest = 84 ∷ 75 ∷ 5 ∷ 0 ∷ 64 ∷ 66 ∷ 15 ∷ 0 ∷ rest
+
+-- 'At the edge': one chain, ten tasks of 1,000,000, list 10,000,000, deadline 10,000,000, and what follows it
+abbrev pub edged : List ℕ → List ℕ
+edged rest =
     67 ∷ 72 ∷ 1 ∷ 0 ∷ 0 ∷ 0 ∷ 128 ∷ 150 ∷ 152 ∷ 0 ∷ 0 ∷ 0 ∷ 0 ∷ 0 ∷ 1 ∷ 10 ∷ 128 ∷ 150 ∷ 152 ∷ 0 ∷
-    84 ∷ 75 ∷ 5 ∷ 0 ∷ 64 ∷ 66 ∷ 15 ∷ 0 ∷
-    84 ∷ 75 ∷ 5 ∷ 0 ∷ 64 ∷ 66 ∷ 15 ∷ 0 ∷
-    84 ∷ 75 ∷ 5 ∷ 0 ∷ 64 ∷ 66 ∷ 15 ∷ 0 ∷
-    84 ∷ 75 ∷ 5 ∷ 0 ∷ 64 ∷ 66 ∷ 15 ∷ 0 ∷
-    84 ∷ 75 ∷ 5 ∷ 0 ∷ 64 ∷ 66 ∷ 15 ∷ 0 ∷
-    84 ∷ 75 ∷ 5 ∷ 0 ∷ 64 ∷ 66 ∷ 15 ∷ 0 ∷
-    84 ∷ 75 ∷ 5 ∷ 0 ∷ 64 ∷ 66 ∷ 15 ∷ 0 ∷
-    84 ∷ 75 ∷ 5 ∷ 0 ∷ 64 ∷ 66 ∷ 15 ∷ 0 ∷
-    84 ∷ 75 ∷ 5 ∷ 0 ∷ 64 ∷ 66 ∷ 15 ∷ 0 ∷
-    84 ∷ 75 ∷ 5 ∷ 0 ∷ 64 ∷ 66 ∷ 15 ∷ 0 ∷
-    69 ∷ 78 ∷ 1 ∷ 0 ∷ []
+    million (million (million (million (million (million (million (million (million (million rest)))))))))
+
+unfoldable pub edge : List ℕ
+edge = edged (69 ∷ 78 ∷ 1 ∷ 0 ∷ [])
 
 -- one tick more from a free interferer
 unfoldable pub past : List ℕ
 past =
-    67 ∷ 72 ∷ 1 ∷ 0 ∷ 0 ∷ 0 ∷ 128 ∷ 150 ∷ 152 ∷ 0 ∷ 0 ∷ 0 ∷ 0 ∷ 0 ∷ 1 ∷ 10 ∷ 128 ∷ 150 ∷ 152 ∷ 0 ∷
-    84 ∷ 75 ∷ 5 ∷ 0 ∷ 64 ∷ 66 ∷ 15 ∷ 0 ∷
-    84 ∷ 75 ∷ 5 ∷ 0 ∷ 64 ∷ 66 ∷ 15 ∷ 0 ∷
-    84 ∷ 75 ∷ 5 ∷ 0 ∷ 64 ∷ 66 ∷ 15 ∷ 0 ∷
-    84 ∷ 75 ∷ 5 ∷ 0 ∷ 64 ∷ 66 ∷ 15 ∷ 0 ∷
-    84 ∷ 75 ∷ 5 ∷ 0 ∷ 64 ∷ 66 ∷ 15 ∷ 0 ∷
-    84 ∷ 75 ∷ 5 ∷ 0 ∷ 64 ∷ 66 ∷ 15 ∷ 0 ∷
-    84 ∷ 75 ∷ 5 ∷ 0 ∷ 64 ∷ 66 ∷ 15 ∷ 0 ∷
-    84 ∷ 75 ∷ 5 ∷ 0 ∷ 64 ∷ 66 ∷ 15 ∷ 0 ∷
-    84 ∷ 75 ∷ 5 ∷ 0 ∷ 64 ∷ 66 ∷ 15 ∷ 0 ∷
-    84 ∷ 75 ∷ 5 ∷ 0 ∷ 64 ∷ 66 ∷ 15 ∷ 0 ∷
-    67 ∷ 72 ∷ 2 ∷ 0 ∷ 0 ∷ 0 ∷ 1 ∷ 0 ∷ 0 ∷ 0 ∷ 0 ∷ 0 ∷ 0 ∷ 0 ∷ 1 ∷ 1 ∷ 128 ∷ 150 ∷ 152 ∷ 0 ∷
+    edged
+    (67 ∷ 72 ∷ 2 ∷ 0 ∷ 0 ∷ 0 ∷ 1 ∷ 0 ∷ 0 ∷ 0 ∷ 0 ∷ 0 ∷ 0 ∷ 0 ∷ 1 ∷ 1 ∷ 128 ∷ 150 ∷ 152 ∷ 0 ∷
     84 ∷ 75 ∷ 9 ∷ 0 ∷ 1 ∷ 0 ∷ 0 ∷ 0 ∷
-    69 ∷ 78 ∷ 2 ∷ 0 ∷ []
+    69 ∷ 78 ∷ 2 ∷ 0 ∷ [])
 
 -- chain 1 of the sample, the others, and chain 3
 abbrev pub chain1 : Row
