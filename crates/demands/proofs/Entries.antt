@@ -1,4 +1,4 @@
--- Demand 1, entry by entry: the library's queries and save, and the C entries. Assumes nothing.
+-- Demand 1, entry by entry: the library's reader, queries, save and report, and the C entries. Assumes nothing.
 use Prim.Native.Nat.{ℕ, zero, suc, _*_}
 use mathlib.Core.Path.{_≡_, refl, ap, ap₂, sym, subst, _∙_}
 use mathlib.Core.List.{List}
@@ -9,6 +9,8 @@ use borrow.Author.Tests.{lt-ltb, le-ltb, ne-eqb}
 use denote.Ref.{RefT, ptr, now}
 use Rattle.search.specs.Choice.{_when_else_}
 use Rattle.search.proofs.Choice.{when-yes, when-no, when-cases, lt-or-le}
+use Rattle.table.specs.Read.{readTable}
+use Rattle.table.specs.declared.Reading.{Reading}
 use Rattle.segments.specs.Query as segment
 use Rattle.segments.specs.declared.Answer.{Answer as Segment}
 use Rattle.windows.specs.Latency as latency
@@ -16,12 +18,17 @@ use Rattle.misses.specs.Misses as misses
 use Rattle.saving.specs.Save as save
 use Rattle.saving.proofs.After.{saved-number}
 use Rattle.editor.specs.Entry.{returned, leftBy, latencyFigures, Answered, Stored}
+use Rattle.report_text.specs.Report.{Reported}
 use Rattle.demands.specs.Entries.{LatencyRefusal, MissesRefusal, SegmentRefusal, SaveRefusal, AtEntry, OneAnswer, Query, Call}
 use Rattle.demands.proofs.Answers.{latency-one, misses-one, segment-one, save-one}
 
 -- a statement that names the answer
 query : {A : Type 0} (right : A) (Refusal : ℕ → Type 0) (n : ℕ) (number : A → ℕ) (figures : A → List ℕ) → OneAnswer Refusal n (number right) (figures right) → Query (λ a. a ≡ right) Refusal n number figures
 query right Refusal n number figures one = record { some = (right, refl); one = λ e f. e ∙ sym f; answer = λ e. rw e one }
+
+-- reading a table: one reading for any bytes
+pub reading : (s : List ℕ) {r q : Reading} → r ≡ readTable s → q ≡ readTable s → r ≡ q
+reading s e f = e ∙ sym f
 
 -- the queries of the library
 pub latency-query : (s : List ℕ) (id : ℕ) → Query (λ a. a ≡ latency.latencyOf s id) LatencyRefusal 4 latency.numberOf latencyFigures
@@ -53,6 +60,10 @@ module _ (buffer : List ℕ) (used : ℕ) (old new : List ℕ) where
         let n = ap save.numberOf (a .answers) in
         (subst SaveRefusal (sym n) (save-one buffer used old new .refused (λ e. h (n ∙ e)) .0), a .leaves ∙ save-leaves (λ e. h (n ∙ e)));
   }
+
+-- the report's text: its length, and the whole buffer
+pub report-text : {s before x y : List ℕ} {r q : ℕ} → Reported s before x r → Reported s before y q → (x ≡ y) × (r ≡ q)
+report-text a b = (a .leaves ∙ sym (b .leaves), a .answers ∙ sym (b .answers))
 
 -- a C entry
 module _ (Refusal : ℕ → Type 0) (n number : ℕ) (figures : List ℕ) (one : OneAnswer Refusal n number figures) (before : List ℕ) where
