@@ -18,11 +18,13 @@ pub(crate) const CHOSEN: usize = 160;
 
 pub(crate) const SHARES: usize = CHOSEN * Table::OVERLOADS;
 
+const DIGITS: usize = WEIGHTINGS * Table::OVERLOADS;
+
 // The weightings, six digits each, one for each active segment. For any set of combinations, the weights by which each of them
 // weighs at least 1 make a polyhedron, and the best bound that any weights give comes from one of its corners. These are the
 // corners, as whole numbers, for all sets of combinations of six active segments, these in falling order of `holders`, equal ones
 // in any order. Those whose last digits are 0 come first. A wrong digit would cost time, and nothing else.
-const WEIGHTS: [u8; WEIGHTINGS * Table::OVERLOADS] =
+const WEIGHTS: [u8; DIGITS] =
     *b"100000010000110000001000011000101000111000000100001100010100100100011100101100110100111100111200112100\
     121100211100000010000110001010010010100010001110010110011010100110101010110010011110101110110110111010\
     011120011210012110021110101120101210102110110120110210111020111110112010120110121010201110210110211010\
@@ -177,14 +179,20 @@ fn segments(kept: &[usize; COMBINATIONS], count: usize) -> u32
 }
 
 // The row v of the table as the weighting `at` of `shares`, its digits where the active segments stand.
-fn share(rank: &[usize; Table::OVERLOADS], v: usize, shares: &mut [u8; SHARES], at: usize)
+fn share(
+    table: &[u8; DIGITS],
+    rank: &[usize; Table::OVERLOADS],
+    v: usize,
+    shares: &mut [u8; SHARES],
+    at: usize,
+)
     requires { ⌜ (v < weightings) × (at < maxChosen) × ((i : ℕ) → i < maxOverloads → getD (now rank) i 0 < maxOverloads) ⌝ }
 {
     let row = v * Table::OVERLOADS;
     let base = at * Table::OVERLOADS;
     let mut i: usize = 0;
     while i < Table::OVERLOADS {
-        shares[base + i] = WEIGHTS[row + rank[i]] & 15;
+        shares[base + i] = table[row + rank[i]] & 15;
         i += 1;
     }
 }
@@ -235,12 +243,13 @@ pub(crate) fn choose(kept: &[usize; COMBINATIONS], count: usize, shares: &mut [u
     requires { ⌜ count ≤ combinations ⌝ }
     ensures { λ r. ⌜ r ≤ maxChosen ⌝ }
 {
+    let table = WEIGHTS;
     let rank = ranks(&all_holders(kept, count));
     let rows = first_rows(segments(kept, count));
     let mut used: usize = 0;
     let mut v: usize = 0;
     while v < rows && used < CHOSEN {
-        share(&rank, v, shares, used);
+        share(&table, &rank, v, shares, used);
         if worth(kept, count, shares, used) {
             used += 1;
         }

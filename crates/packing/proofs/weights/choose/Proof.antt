@@ -1,17 +1,17 @@
 -- Only places. Any choice of weightings is sound.
-use borrow.Author.Tests.{ltb-true}
 use borrow.Author.Needs.{needs}
 use Prim.Native.Nat.{_-_, _≤_}
 use mathlib.Core.Logic.{⊎-elim}
 use native.Mathlib.Omega.{arith}
+use borrow.Author.Tests.{ltb-true}
 use Rattle.packing.proofs.weights.choose.Statement.{statement}
 use Rattle.packing.proofs.weights.choose.Tie as tie
 
 abbrev Inv-loop : tie.InvT-loop
-Inv-loop kept count shares₀ rank rows used₀ v₀ shares used v = (v ≤ rows) × (used ≤ 160)
+Inv-loop kept count shares₀ table rank rows used₀ v₀ shares used v = (v ≤ rows) × (used ≤ 160)
 
 abbrev μ-loop : tie.MeasureT-loop
-μ-loop kept count shares₀ rank rows used₀ v₀ shares used v = rows - v
+μ-loop kept count shares₀ table rank rows used₀ v₀ shares used v = rows - v
 
 all-holders-requires : tie.Need-all-holders-requires Inv-loop μ-loop
 all-holders-requires c κs = search needs
@@ -44,7 +44,7 @@ loop-less : tie.Need-loop-less Inv-loop μ-loop
 loop-less c = search needs
 
 loop-again : tie.Need-loop-again Inv-loop μ-loop
-loop-again c = ⊎-elim (λ w. omega (arith, ltb-true (c .before .before .before .before .before .before .before .before .loop .used) 160 (c .before .before .before .before .before .before .if1 .taken))) (λ w. omega arith) (c .if2 .came)
+loop-again c = ⊎-elim (λ w. omega (arith, ltb-true (c .before .before .before .before .before .before .before .before .before .loop .used) 160 (c .before .before .before .before .before .before .before .if1 .taken))) (λ w. omega arith) (c .if2 .came)
 
 returns : tie.Need-returns Inv-loop μ-loop
 returns c = search needs

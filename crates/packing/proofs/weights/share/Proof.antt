@@ -8,10 +8,10 @@ use Rattle.packing.proofs.weights.share.Statement.{statement}
 use Rattle.packing.proofs.weights.share.Tie as tie
 
 abbrev Inv-loop : tie.InvT-loop
-Inv-loop rank v shares₀ at row base i₀ shares i = (i ≤ 6) × (length shares ≡ length shares₀)
+Inv-loop table rank v shares₀ at row base i₀ shares i = (i ≤ 6) × (length shares ≡ length shares₀)
 
 abbrev μ-loop : tie.MeasureT-loop
-μ-loop rank v shares₀ at row base i₀ shares i = 6 - i
+μ-loop table rank v shares₀ at row base i₀ shares i = 6 - i
 
 mul-row : tie.Need-mul-row Inv-loop μ-loop
 mul-row c = search needs
@@ -31,8 +31,8 @@ element-copy-out-shares c = search needs
 add-shares : tie.Need-add-shares Inv-loop μ-loop
 add-shares c = omega (arith, c .before .before .before .pre .2 (c .before .before .loop .i) (search needs))
 
-array-read-shares : tie.Need-array-read-shares Inv-loop μ-loop
-array-read-shares c = omega (arith, c .before .before .before .pre .2 (c .before .before .loop .i) (search needs))
+element-copy-out-shares-2 : tie.Need-element-copy-out-shares-2 Inv-loop μ-loop
+element-copy-out-shares-2 c = omega (arith, c .before .before .before .pre .2 (c .before .before .loop .i) (search needs))
 
 add-shares-2 : tie.Need-add-shares-2 Inv-loop μ-loop
 add-shares-2 c = search needs
@@ -64,7 +64,7 @@ share-spec =
     mul-shares
     element-copy-out-shares
     add-shares
-    array-read-shares
+    element-copy-out-shares-2
     add-shares-2
     element-write-shares
     add-i
