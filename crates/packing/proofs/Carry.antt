@@ -14,23 +14,37 @@ use Rattle.packing.specs.Most.{mostUses}
 use Rattle.packing.proofs.Sums.{is, sum-ext, sum-scale, sum-swap, sum-is, sum-some}
 use Rattle.packing.proofs.Most.{most-greatest}
 
--- how often x is used where each use of m becomes one of `turn m`
-abbrev turned : (ℕ → ℕ) → (ℕ → ℕ) → ℕ → ℕ
-turned turn u x = sum 64 (λ m. u m * is (turn m) x)
+-- how often x is used where each use of m, of those below n, becomes one of `turn m`
+abbrev pub turned : ℕ → (ℕ → ℕ) → (ℕ → ℕ) → ℕ → ℕ
+turned n turn u x = sum n (λ m. u m * is (turn m) x)
 
--- what the turned uses come to, use by use
-turned-sum : (turn u g : ℕ → ℕ) → ((m : ℕ) → m < 64 → 0 < u m → turn m < 64) → sum 64 (λ x. turned turn u x * g x) ≡ sum 64 (λ m. u m * g (turn m))
-turned-sum turn u g h =
-    sum-ext 64 (λ x. turned turn u x * g x) (λ x. sum 64 (λ m. u m * (is (turn m) x * g x))) (λ x l. out x)
-    ∙ sum-swap 64 64 (λ x m. u m * (is (turn m) x * g x))
-    ∙ sum-ext 64 (λ m. sum 64 (λ x. u m * (is (turn m) x * g x))) (λ m. u m * g (turn m)) (λ m l. sum-scale 64 (u m) (λ x. is (turn m) x * g x) ∙ each m l (lt-or-le 0 (u m)))
+-- what is used was some m
+pub turned-some : (n : ℕ) (turn u : ℕ → ℕ) (x : ℕ) → 0 < turned n turn u x → (m : ℕ) × (m < n) × (0 < u m) × (turn m ≡ x)
+turned-some n turn u x h =
+    let s = sum-some n (λ m. u m * is (turn m) x) h in
+    let t = used (u (s .0)) (turn (s .0)) x (s .2) in
+    (s .0, s .1, t .0, t .1)
   where
-    out : (x : ℕ) → turned turn u x * g x ≡ sum 64 (λ m. u m * (is (turn m) x * g x))
-    out x = omega (arith, sum-scale 64 (g x) (λ m. u m * is (turn m) x), sum-ext 64 (λ m. g x * (u m * is (turn m) x)) (λ m. u m * (is (turn m) x * g x)) (λ m l. omega arith))
+    used : (v y x : ℕ) → 0 < v * is y x → (0 < v) × (y ≡ x)
+    used v y x = when-cases (λ r. 0 < v * r → (0 < v) × (y ≡ x)) (eqb y x) (λ e h. (omega (arith, h), eqb-true y x e)) (λ e h. absurd (omega (arith, h)))
 
-    each : (m : ℕ) → m < 64 → (0 < u m) ⊎ (u m ≤ 0) → u m * sum 64 (λ x. is (turn m) x * g x) ≡ u m * g (turn m)
-    each m l (inl s) = ap (λ y. u m * y) (sum-is 64 (turn m) g (h m l s))
-    each m l (inr s) = let e : u m ≡ 0 = omega arith in rw e (omega arith)
+module _ (n k : ℕ) (turn u : ℕ → ℕ) (h : (m : ℕ) → m < n → 0 < u m → turn m < k) where
+  -- what the turned uses come to, use by use
+  pub turned-sum : (g : ℕ → ℕ) → sum k (λ x. turned n turn u x * g x) ≡ sum n (λ m. u m * g (turn m))
+  turned-sum g =
+      sum-ext k (λ x. turned n turn u x * g x) (λ x. sum n (λ m. u m * (is (turn m) x * g x))) (λ x l. out x)
+      ∙ sum-swap k n (λ x m. u m * (is (turn m) x * g x))
+      ∙ sum-ext n (λ m. sum k (λ x. u m * (is (turn m) x * g x))) (λ m. u m * g (turn m)) (λ m l. sum-scale k (u m) (λ x. is (turn m) x * g x) ∙ each m l (lt-or-le 0 (u m)))
+    where
+      out : (x : ℕ) → turned n turn u x * g x ≡ sum n (λ m. u m * (is (turn m) x * g x))
+      out x = omega (arith, sum-scale n (g x) (λ m. u m * is (turn m) x), sum-ext n (λ m. g x * (u m * is (turn m) x)) (λ m. u m * (is (turn m) x * g x)) (λ m l. omega arith))
+
+      each : (m : ℕ) → m < n → (0 < u m) ⊎ (u m ≤ 0) → u m * sum k (λ x. is (turn m) x * g x) ≡ u m * g (turn m)
+      each m l (inl s) = ap (λ y. u m * y) (sum-is k (turn m) g (h m l s))
+      each m l (inr s) = let e : u m ≡ 0 = omega arith in rw e (omega arith)
+
+  pub turned-total : sum k (turned n turn u) ≡ sum n u
+  turned-total = sum-ext k (turned n turn u) (λ x. turned n turn u x * 1) (λ x l. omega arith) ∙ turned-sum (λ x. 1) ∙ sum-ext n (λ m. u m * 1) u (λ m l. omega arith)
 
 -- a mask function that turns what is bad into what is worse, and keeps within the room there
 pub record Carries (bad worse : ℕ → Bool) (room more : ℕ → ℕ) : Type 0 where
@@ -43,21 +57,17 @@ module _ {bad worse : ℕ → Bool} {room more : ℕ → ℕ} (c : Carries bad w
   pub carried : {n : ℕ} → Reached bad room n → Reached worse more n
   carried r =
       let u = r .uses in
-      let sums : (g : ℕ → ℕ) → sum 64 (λ x. turned (c .turn) u x * g x) ≡ sum 64 (λ m. u m * g (c .turn m)) = λ g. turned-sum (c .turn) u g (λ m l s. c .inside m l (r .packing .only m l s)) in
+      let inside : (m : ℕ) → m < 64 → 0 < u m → c .turn m < 64 = λ m l s. c .inside m l (r .packing .only m l s) in
       record {
-        uses = turned (c .turn) u;
+        uses = turned 64 (c .turn) u;
         packing = record {
           only = λ x l h.
-              let s = sum-some 64 (λ m. u m * is (c .turn m) x) h in
-              let t = used (u (s .0)) (c .turn (s .0)) x (s .2) in
-              subst (λ y. usable worse y ≡ true) (t .1) (c .bads (s .0) (s .1) (r .packing .only (s .0) (s .1) (t .0)));
-          within = λ i l. omega (arith, sums (bit i), c .within u (r .packing) i l);
+              let s = turned-some 64 (c .turn) u x h in
+              subst (λ y. usable worse y ≡ true) (s .3) (c .bads (s .0) (s .1) (r .packing .only (s .0) (s .1) (s .2)));
+          within = λ i l. omega (arith, turned-sum 64 64 (c .turn) u inside (bit i), c .within u (r .packing) i l);
         };
-        total = sum-ext 64 (turned (c .turn) u) (λ x. turned (c .turn) u x * 1) (λ x l. omega arith) ∙ sums (λ x. 1) ∙ sum-ext 64 (λ m. u m * 1) u (λ m l. omega arith) ∙ r .total;
+        total = turned-total 64 64 (c .turn) u inside ∙ r .total;
       }
-    where
-      used : (v y x : ℕ) → 0 < v * is y x → (0 < v) × (y ≡ x)
-      used v y x = when-cases (λ r. 0 < v * r → (0 < v) × (y ≡ x)) (eqb y x) (λ e h. (omega (arith, h), eqb-true y x e)) (λ e h. absurd (omega (arith, h)))
 
   -- the most uses cannot fall
   pub carries-most : mostUses bad room ≤ mostUses worse more

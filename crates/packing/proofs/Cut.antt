@@ -1,23 +1,16 @@
--- Why a cut is right: the floors of the weightings are no more than what any kept combination weighs, so where the room weighs too
--- little for so many uses there are none. Assumes nothing.
-use Prim.Native.Nat.{ℕ, zero, suc, _+_, _-_, _*_, _≤_, _<_}
-use mathlib.Core.Path.{_≡_, refl, sym, ap, subst, _∙_}
-use mathlib.Core.Bool.{Bool, true, false}
+-- Why a cut is right: none of the first n kept combinations weighs less than the floor d, so where the room weighs too little for
+-- so many uses there are none. Assumes nothing.
+use Prim.Native.Nat.{ℕ, suc, _+_, _-_, _*_, _/_, _≤_, _<_}
+use mathlib.Core.Path.{_≡_, refl, sym, ap, _∙_}
 use mathlib.Core.List.{List}
 use mathlib.Core.Logic.{⊎-elim}
 use native.Mathlib.Omega.{arith}
-use native.Mathlib.Nat.{eq-or-lt-of-le}
+use native.Mathlib.Nat.{eq-or-lt-of-le, mul-le-mul-left, le-div-iff-mul-le}
 use lib.ListN.{getD}
-use borrow.Author.Tests.{ltb-true}
-use Rattle.search.specs.Find.{first}
-use Rattle.search.proofs.Find.{first-hit}
-use Rattle.packing.specs.Packing.{bit, usable}
-use Rattle.packing.specs.Most.{reach, flagged, capacity}
-use Rattle.packing.specs.Engine.{weight, Floor, Floors, Ceiling, Ready, cuts}
+use Rattle.packing.specs.Packing.{bit, sum}
+use Rattle.packing.specs.Engine.{nth, weight, Floor, Packed, HasRoom, Ceiling, Choices}
 use Rattle.packing.proofs.Sums.{sum-ext}
-use Rattle.packing.proofs.Plain.{reach-uses}
-use Rattle.packing.proofs.Linear.{weighed}
-use Rattle.packing.proofs.Most.{most-under}
+use Rattle.packing.proofs.Linear.{all-weigh, each-weighs}
 
 -- a weight goes by the amounts
 pub weight-ext : (shares : List ℕ) (v : ℕ) (a b : ℕ → ℕ) → ((i : ℕ) → i < 6 → a i ≡ b i) → weight shares v a ≡ weight shares v b
@@ -25,61 +18,66 @@ unfolding weight
 weight-ext shares v a b e = sum-ext 6 _ _ (λ i l. ap (λ x. getD shares (v * 6 + i) 0 * x) (e i l))
 
 module _ {kept shares : List ℕ} where
-  -- below 0 there is no combination
-  pub floor-start : (n v d : ℕ) → n ≡ 0 → Floor kept shares n v d
-  floor-start n v d e = record { least = λ m l u. absurd (omega arith) }
+  -- of no combinations
+  pub floor-start : (v d : ℕ) → Floor kept shares 0 v d
+  floor-start v d = record { least = λ j l. absurd (omega arith) }
 
-  -- one combination more, m
-  pub floor-on : {m v d r : ℕ} → Floor kept shares m v d → r ≤ d → (usable (flagged kept) m ≡ true → r ≤ weight shares v (λ i. bit i m)) → Floor kept shares (m + 1) v r
-  floor-on {m} {v} {d} {r} f l h = record {
-    least = λ x s u. ⊎-elim
-        (λ e. let q = h (ap (usable (flagged kept)) (sym e) ∙ u) in omega (arith, q, ap (λ y. weight shares v (λ i. bit i y)) e))
-        (λ t. omega (arith, f .least x t u))
-        (eq-or-lt-of-le (let t : x ≤ m = omega arith in t));
+  -- one combination more
+  pub floor-on : {n v d r : ℕ} → Floor kept shares n v d → r ≤ d → r ≤ weight shares v (λ i. bit i (nth kept n)) → Floor kept shares (n + 1) v r
+  floor-on {n} {v} {d} {r} f l h = record {
+    least = λ j s. ⊎-elim
+        (λ e. omega (arith, h, ap (λ y. weight shares v (λ i. bit i (nth kept y))) e))
+        (λ t. omega (arith, f .least j t))
+        (eq-or-lt-of-le (let t : j ≤ n = omega arith in t));
   }
 
-  -- the place of n and v
-  pub floor-place : {a b n v d : ℕ} → a ≡ n → b ≡ v → Floor kept shares a b d → Floor kept shares n v d
-  floor-place {a} {b} {n} {v} {d} e g f = subst (λ y. Floor kept shares y v d) e (subst (λ y. Floor kept shares a y d) g f)
-
--- a weighting that cuts: v is the first one, and there is one
-module _ (shares floors room : List ℕ) (n need v : ℕ) (found : v ≡ first (cuts shares floors n room need) 0 975) (there : v < 975) where
-  too-little : weight shares v (capacity room) < need * getD floors (n * 975 + v) 0
-  unfolding cuts
-  too-little = rw found (ltb-true _ _ (first-hit (cuts shares floors n room need) 0 975 (rw (← found) there)))
-
-  -- no use always has room
-  pub cut-some : 0 < need
-  cut-some = some need _ _ too-little
-    where
-      some : (k x y : ℕ) → x < k * y → 0 < k
-      some zero x y h = absurd (omega (arith, h))
-      some (suc k) x y h = omega arith
-
-  pub cut-reach : {kept : List ℕ} → Floors kept shares floors → n ≤ 64 → reach (flagged kept) n need (capacity room) ≡ false
+-- what the room weighs, for uses u of the first n kept combinations, of which none weighs less than d
+module _ (kept shares : List ℕ) (n v d : ℕ) (f : Floor kept shares n v d) (room u : ℕ → ℕ) where
+  pub weighs-all : Packed kept n room u → d * sum n u ≤ weight shares v room
   unfolding weight
-  cut-reach {kept} f below = none (reach (flagged kept) n need (capacity room)) refl
-    where
-      none : (b : Bool) → reach (flagged kept) n need (capacity room) ≡ b → b ≡ false
-      none false e = refl
-      none true e =
-          let d = getD floors (n * 975 + v) 0 in
-          let u = reach-uses (flagged kept) n need (capacity room) e in
-          let w = weighed (flagged kept) n (capacity room) (u .uses) (u .packing) (λ i. getD shares (v * 6 + i) 0) d (f .each n v below there .least) in
-          let q : d * need ≤ weight shares v (capacity room) = rw (u .total) at w in
-          absurd (omega (arith, too-little, q))
+  weighs-all p =
+      let a = each-weighs n (nth kept) u (λ i. getD shares (v * 6 + i) 0) d (λ j l s. f .least j l) in
+      let b = all-weigh n (nth kept) u (λ i. getD shares (v * 6 + i) 0) room (p .within) in
+      omega (arith, a, b)
 
--- one less, where a weighting cuts
-pub ceiling-on : {shares floors room : List ℕ} {need : ℕ} (v : ℕ) → Ceiling shares floors room need
-    → v ≡ first (cuts shares floors 64 room need) 0 975 → v < 975 → Ceiling shares floors room (need - 1)
-ceiling-on {shares} {floors} {room} {need} v c found there = record {
+  -- and of one more
+  pub weighs-more : Packed kept (suc n) room u → d * sum n u + u n * weight shares v (λ i. bit i (nth kept n)) ≤ weight shares v room
+  unfolding weight sum
+  weighs-more p =
+      let a = each-weighs n (nth kept) u (λ i. getD shares (v * 6 + i) 0) d (λ j l s. f .least j l) in
+      let b = all-weigh (suc n) (nth kept) u (λ i. getD shares (v * 6 + i) 0) room (p .within) in
+      omega (arith, a, b)
+
+-- a lower ceiling: d uses for each use weigh no more than the room
+pub ceiling-low : {kept shares : List ℕ} {n v d r s all : ℕ} {room : ℕ → ℕ} → Floor kept shares n v d → all ≡ weight shares v room → 0 < d
+    → s ≡ all / d → s ≤ r → Ceiling kept n room r → Ceiling kept n room s
+ceiling-low {kept} {shares} {n} {v} {d} {r} {s} {all} {room} f e some q l c = record {
   few = omega (arith, c .few);
-  bound = λ kept f. most-under (flagged kept) (capacity room) (c .bound kept f) (cut-reach shares floors room 64 need v found there f (omega arith));
+  bound = λ k h.
+      let w = weighs-all kept shares n v d f room (h .uses) (h .packed) in
+      let t : k * d ≤ all = omega (arith, ap (λ y. d * y) (h .total)) in
+      rw q (le-div-iff-mul-le some .1 t);
 }
 
--- what the search goes by, one combination or one use less
-pub lower-ready : {kept shares floors : List ℕ} {n need : ℕ} → Ready kept shares floors n need → Ready kept shares floors (n - 1) need
-lower-ready r = record { sound = r .sound; below = omega (arith, r .below); few = r .few }
+-- uses of the kept combination `last` that the weight of the room rules out, where the first last + 1 have `need` uses in all
+module _ {kept shares : List ℕ} {last v d w all need : ℕ} {room : ℕ → ℕ} (f : Floor kept shares last v d)
+    (e : w ≡ weight shares v (λ i. bit i (nth kept last))) (g : all ≡ weight shares v room) (u : ℕ → ℕ)
+    (p : Packed kept (suc last) room u) (t : sum (suc last) u ≡ need) where
+  -- those that come before weigh d each at least
+  weighed : d * sum last u + u last * w ≤ all
+  weighed = rw (e, g) (weighs-more kept shares last v d f room u p)
 
-pub fewer-ready : {kept shares floors : List ℕ} {n need : ℕ} → Ready kept shares floors n need → Ready kept shares floors n (need - 1)
-fewer-ready r = record { sound = r .sound; below = r .below; few = omega (arith, r .few) }
+  together : (sum last u + u last) * d ≡ need * d
+  unfolding sum
+  together = ap (λ y. y * d) t
+
+  pub cut-none : d ≤ w → all < need * d → ⊥
+  cut-none l h = omega (arith, together, weighed, mul-le-mul-left (u last) l)
+
+  pub cut-above : d < w → need * d ≤ all → u last < (all - need * d) / (w - d) + 1
+  cut-above l h =
+      let some : 0 < w - d = omega arith in
+      let more : w ≡ d + (w - d) = omega arith in
+      let y : u last * (w - d) ≤ all - need * d = omega (arith, together, weighed, ap (λ z. u last * z) more) in
+      let z : u last ≤ (all - need * d) / (w - d) = le-div-iff-mul-le some .1 y in
+      omega arith

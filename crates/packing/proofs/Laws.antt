@@ -23,7 +23,7 @@ pub bad-usable : (bad : ℕ → Bool) (m : ℕ) → 0 < m → bad m ≡ true →
 bad-usable bad m h e = rw (lt-ltb 0 m h) e
 
 -- what no use takes more of, no packing does
-used-mono : (u f g : ℕ → ℕ) → ((m : ℕ) → m < 64 → 0 < u m → f m ≤ g m) → sum 64 (λ m. u m * f m) ≤ sum 64 (λ m. u m * g m)
+pub used-mono : (u f g : ℕ → ℕ) → ((m : ℕ) → m < 64 → 0 < u m → f m ≤ g m) → sum 64 (λ m. u m * f m) ≤ sum 64 (λ m. u m * g m)
 used-mono u f g h = sum-mono 64 (λ m. u m * f m) (λ m. u m * g m) (λ m l. times (u m) (f m) (g m) (h m l))
   where
     times : (v x y : ℕ) → (0 < v → x ≤ y) → v * x ≤ v * y

@@ -8,4 +8,5 @@ pub mod Laws
 pub mod Loops
 pub mod Kept
 pub mod Cut
+pub mod Tries
 pub mod Sample

@@ -1,5 +1,5 @@
--- The linear bound: where every usable combination weighs at least d, what is packed weighs at least d for each use, and at
--- most what the room weighs. It holds for any weights. Assumes nothing.
+-- The linear bound: what is packed weighs at least d for each use of a combination that weighs at least d, and at most what the
+-- room weighs. It holds for any weights, and for any list of combinations. Assumes nothing.
 use Prim.Native.Nat.{ℕ, zero, suc, _*_, _≤_, _<_}
 use mathlib.Core.Path.{_≡_, refl, sym, _∙_}
 use mathlib.Core.Bool.{Bool, true}
@@ -15,19 +15,26 @@ uses-weigh : (d v x : ℕ) → (0 < v → d ≤ x) → d * v ≤ v * x
 uses-weigh d zero x h = omega arith
 uses-weigh d (suc v) x h = omega (arith, mul-le-mul-left (suc v) (h (omega arith)))
 
-module _ (bad : ℕ → Bool) (n : ℕ) (room u : ℕ → ℕ) (p : Below bad n room u) (w : ℕ → ℕ) where
+-- u j uses of the combination `mask j`, for each j below n
+module _ (n : ℕ) (mask u w : ℕ → ℕ) where
   -- the weight of all that is packed, by combinations and by active segments
-  packed : sum n (λ m. u m * sum 6 (λ i. w i * bit i m)) ≡ sum 6 (λ i. w i * sum n (λ m. u m * bit i m))
+  packed : sum n (λ j. u j * sum 6 (λ i. w i * bit i (mask j))) ≡ sum 6 (λ i. w i * sum n (λ j. u j * bit i (mask j)))
   packed =
-      sum-ext n (λ m. u m * sum 6 (λ i. w i * bit i m)) (λ m. sum 6 (λ i. u m * (w i * bit i m))) (λ m l. sym (sum-scale 6 (u m) (λ i. w i * bit i m)))
-      ∙ sum-swap n 6 (λ m i. u m * (w i * bit i m))
-      ∙ sum-ext 6 (λ i. sum n (λ m. u m * (w i * bit i m))) (λ i. w i * sum n (λ m. u m * bit i m)) (λ i l. sum-ext n (λ m. u m * (w i * bit i m)) (λ m. w i * (u m * bit i m)) (λ m s. omega arith) ∙ sum-scale n (w i) (λ m. u m * bit i m))
+      sum-ext n (λ j. u j * sum 6 (λ i. w i * bit i (mask j))) (λ j. sum 6 (λ i. u j * (w i * bit i (mask j)))) (λ j l. sym (sum-scale 6 (u j) (λ i. w i * bit i (mask j))))
+      ∙ sum-swap n 6 (λ j i. u j * (w i * bit i (mask j)))
+      ∙ sum-ext 6 (λ i. sum n (λ j. u j * (w i * bit i (mask j)))) (λ i. w i * sum n (λ j. u j * bit i (mask j))) (λ i l. sum-ext n (λ j. u j * (w i * bit i (mask j))) (λ j. w i * (u j * bit i (mask j))) (λ j s. omega arith) ∙ sum-scale n (w i) (λ j. u j * bit i (mask j)))
 
-  pub weighed : (d : ℕ) → ((m : ℕ) → m < n → usable bad m ≡ true → d ≤ sum 6 (λ i. w i * bit i m)) → d * sum n u ≤ sum 6 (λ i. w i * room i)
-  weighed d h =
-      let a = sum-mono n (λ m. d * u m) (λ m. u m * sum 6 (λ i. w i * bit i m)) (λ m l. uses-weigh d (u m) (sum 6 (λ i. w i * bit i m)) (λ s. h m l (p .only m l s))) in
-      let b = sum-mono 6 (λ i. w i * sum n (λ m. u m * bit i m)) (λ i. w i * room i) (λ i l. mul-le-mul-left (w i) (p .within i l)) in
-      omega (arith, a, b, packed, sum-scale n d u)
+  pub all-weigh : (room : ℕ → ℕ) → ((i : ℕ) → i < 6 → sum n (λ j. u j * bit i (mask j)) ≤ room i)
+      → sum n (λ j. u j * sum 6 (λ i. w i * bit i (mask j))) ≤ sum 6 (λ i. w i * room i)
+  all-weigh room h =
+      let b = sum-mono 6 (λ i. w i * sum n (λ j. u j * bit i (mask j))) (λ i. w i * room i) (λ i l. mul-le-mul-left (w i) (h i l)) in
+      omega (arith, b, packed)
+
+  pub each-weighs : (d : ℕ) → ((j : ℕ) → j < n → 0 < u j → d ≤ sum 6 (λ i. w i * bit i (mask j)))
+      → d * sum n u ≤ sum n (λ j. u j * sum 6 (λ i. w i * bit i (mask j)))
+  each-weighs d h =
+      let a = sum-mono n (λ j. d * u j) (λ j. u j * sum 6 (λ i. w i * bit i (mask j))) (λ j l. uses-weigh d (u j) (sum 6 (λ i. w i * bit i (mask j))) (h j l)) in
+      omega (arith, a, sum-scale n d u)
 
 -- a combination that is used takes at least 1 of the room
 pub usable-some : (bad : ℕ → Bool) (m : ℕ) → usable bad m ≡ true → 0 < m
@@ -36,5 +43,6 @@ usable-some bad (suc m) e = omega arith
 
 pub all-room : (bad : ℕ → Bool) (room u : ℕ → ℕ) → Below bad 64 room u → sum 64 u ≤ sum 6 room
 all-room bad room u p =
-    let h = weighed bad 64 room u p (λ i. 1) 1 (λ m l e. let b = some-bit 6 m (usable-some bad m e) l in omega (arith, b .2, sum-at 6 (λ i. 1 * bit i m) (b .0) (b .1))) in
-    omega (arith, h, sum-ext 6 (λ i. 1 * room i) room (λ i l. omega arith))
+    let h = each-weighs 64 (λ m. m) u (λ i. 1) 1 (λ m l s. let b = some-bit 6 m (usable-some bad m (p .only m l s)) l in omega (arith, b .2, sum-at 6 (λ i. 1 * bit i m) (b .0) (b .1))) in
+    let g = all-weigh 64 (λ m. m) u (λ i. 1) room (p .within) in
+    omega (arith, h, g, sum-ext 6 (λ i. 1 * room i) room (λ i l. omega arith))

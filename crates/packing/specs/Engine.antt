@@ -1,60 +1,84 @@
 -- What the parts of the search that cuts say of their results. The contract of `most_uses` needs none of it.
-use Prim.Native.Nat.{ℕ, _+_, _*_, _≤_, _<_}
+use Prim.Native.Nat.{ℕ, suc, _+_, _*_, _≤_, _<_}
 use mathlib.Core.Path.{_≡_}
-use mathlib.Core.Bool.{Bool, true, _&&_}
+use mathlib.Core.Bool.{Bool, true, false}
 use mathlib.Core.List.{List}
-use lib.ListN.{getD}
-use lib.Dec.{eqb, ltb}
+use lib.ListN.{length, getD}
+use lib.Dec.{eqb}
 use lib.Bits.{bitAnd}
-use Rattle.search.specs.Choice.{_when_else_}
 use Rattle.search.specs.Find.{first}
 use Rattle.table.specs.Limits.{maxOverloads}
 use Rattle.packing.specs.Packing.{bit, sum, usable, combinations}
-use Rattle.packing.specs.Most.{mostUses, flagged, capacity}
+use Rattle.packing.specs.Most.{flagged}
 
--- how many weightings there are
+-- how many weightings there are, and how many are chosen at most
 abbrev pub weightings : ℕ
 weightings = 975
+
+abbrev pub maxChosen : ℕ
+maxChosen = 160
 
 -- six bytes hold no more room
 abbrev pub maxRoom : ℕ
 maxRoom = 1530
 
--- s is kept, and each of its active segments is in m
+-- the kept combination j
+abbrev pub nth : List ℕ → ℕ → ℕ
+nth kept j = getD kept j 0
+
+-- each active segment of the kept combination j is in m
 abbrev pub part : List ℕ → ℕ → ℕ → Bool
-part kept m s = flagged kept s && eqb (bitAnd s m) s
+part kept m j = eqb (bitAnd (nth kept j) m) (nth kept j)
 
--- the first kept part of m, 64 if there is none
-abbrev pub partOf : List ℕ → ℕ → ℕ
-partOf kept m = first (part kept m) 1 63
+-- the first of `count` kept combinations that is a part of m, `count` if there is none
+abbrev pub partOf : List ℕ → ℕ → ℕ → ℕ
+partOf kept count m = first (part kept m) 0 count
 
--- 1 if m is flagged as bad and no kept combination is a part of it, else 0
-unfoldable pub keeps : List ℕ → List ℕ → ℕ → ℕ
-keeps bad kept m = 1 when flagged bad m && eqb (partOf kept m) combinations else 0
+-- of the combinations below m: only bad ones are kept, and each bad one has a kept part
+pub record Kept (bad kept : List ℕ) (count m : ℕ) : Type 0 where
+  pub few : count < m
+  pub below : m ≤ combinations
+  pub size : length kept ≡ combinations
+  pub bads : (j : ℕ) → j < count → (nth kept j < combinations) × (usable (flagged bad) (nth kept j) ≡ true)
+  pub parts : (x : ℕ) → x < m → usable (flagged bad) x ≡ true → partOf kept count x < count
+
+-- `uses` of the first n kept combinations, no active segment beyond its room
+pub record Packed (kept : List ℕ) (n : ℕ) (room uses : ℕ → ℕ) : Type 0 where
+  pub within : (i : ℕ) → i < maxOverloads → sum n (λ j. uses j * bit i (nth kept j)) ≤ room i
+
+-- k uses of the first n kept combinations have room
+pub record HasRoom (kept : List ℕ) (n : ℕ) (room : ℕ → ℕ) (k : ℕ) : Type 0 where
+  pub uses : ℕ → ℕ
+  pub packed : Packed kept n room uses
+  pub total : sum n uses ≡ k
+
+-- b says whether P holds
+pub record Tells (b : Bool) (P : Type 0) : Type 0 where
+  pub so : b ≡ true → P
+  pub not : b ≡ false → P → ⊥
+
+-- no packing of kept combinations has more uses than r
+pub record Ceiling (kept : List ℕ) (count : ℕ) (room : ℕ → ℕ) (r : ℕ) : Type 0 where
+  pub few : r ≤ maxRoom
+  pub bound : (k : ℕ) → HasRoom kept count room k → k ≤ r
 
 -- what `amount` of each active segment weighs by the weighting v
 unfoldable pub weight : List ℕ → ℕ → (ℕ → ℕ) → ℕ
 weight shares v amount = sum maxOverloads (λ i. getD shares (v * maxOverloads + i) 0 * amount i)
 
--- no kept combination below n weighs less than d by the weighting v
+-- none of the first n kept combinations weighs less than d by the weighting v
 pub record Floor (kept shares : List ℕ) (n v d : ℕ) : Type 0 where
-  pub least : (m : ℕ) → m < n → usable (flagged kept) m ≡ true → d ≤ weight shares v (λ i. bit i m)
+  pub least : (j : ℕ) → j < n → d ≤ weight shares v (λ i. bit i (nth kept j))
 
--- such a d for each n and v
-pub record Floors (kept shares floors : List ℕ) : Type 0 where
-  pub each : (n v : ℕ) → n ≤ combinations → v < weightings → Floor kept shares n v (getD floors (n * weightings + v) 0)
+-- r is the most uses of m, up to `need`, that the room of the first n active segments is enough for
+pub record Fitting (m : ℕ) (room : ℕ → ℕ) (need n r : ℕ) : Type 0 where
+  pub few : r ≤ need
+  pub enough : (i : ℕ) → i < n → r * bit i m ≤ room i
+  pub most : (y : ℕ) → y ≤ need → ((i : ℕ) → i < n → y * bit i m ≤ room i) → y ≤ r
 
--- by the weighting v the room weighs too little for `need` uses of kept combinations below n
-unfoldable pub cuts : List ℕ → List ℕ → ℕ → List ℕ → ℕ → ℕ → Bool
-cuts shares floors n room need v = ltb (weight shares v (capacity room)) (need * getD floors (n * weightings + v) 0)
-
--- no packing of kept combinations has more uses than r
-pub record Ceiling (shares floors room : List ℕ) (r : ℕ) : Type 0 where
-  pub few : r ≤ maxRoom
-  pub bound : (kept : List ℕ) → Floors kept shares floors → mostUses (flagged kept) (capacity room) ≤ r
-
--- what the search goes by
-pub record Ready (kept shares floors : List ℕ) (n need : ℕ) : Type 0 where
-  pub sound : Floors kept shares floors
-  pub below : n ≤ combinations
-  pub few : need ≤ maxRoom
+-- of the kept combination `last` fewer than x uses come into question, where the first last + 1 have `need` uses in all, and for each
+-- number below x there is room
+pub record Choices (kept : List ℕ) (last : ℕ) (room : ℕ → ℕ) (need x : ℕ) : Type 0 where
+  pub few : x ≤ need + 1
+  pub enough : (y : ℕ) → y < x → (i : ℕ) → i < maxOverloads → y * bit i (nth kept last) ≤ room i
+  pub fewer : (uses : ℕ → ℕ) → Packed kept (suc last) room uses → sum (suc last) uses ≡ need → uses last < x

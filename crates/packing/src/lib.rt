@@ -3,10 +3,10 @@ mod masks;
 mod weights;
 
 ghost use mathlib.Core.Path.{_≡_};
-ghost use Prim.Native.Nat.{_≤_};
-ghost use Rattle.packing.specs.Packing.{sum};
-ghost use Rattle.packing.specs.Most.{mostUses, reach, flagged, capacity};
-ghost use Rattle.packing.specs.Engine.{Ready, Ceiling, maxRoom};
+ghost use Prim.Native.Nat.{_≤_, _<_};
+ghost use Rattle.packing.specs.Packing.{sum, combinations};
+ghost use Rattle.packing.specs.Most.{mostUses, flagged, capacity};
+ghost use Rattle.packing.specs.Engine.{HasRoom, Tells, Ceiling, Choices, maxRoom, maxChosen};
 ghost use Rattle.table.specs.Limits.{maxOverloads};
 use table::Table;
 
@@ -26,54 +26,135 @@ fn total(room: &[u8; Table::OVERLOADS]) -> u32
     all
 }
 
-// The linear bound: no packing of the kept combinations has more uses.
-fn ceiling(
+// What the weighting v leaves of the bound r.
+fn lower_ceiling(
+    kept: &[usize; COMBINATIONS],
+    count: usize,
     shares: &[u8; weights::SHARES],
-    floors: &[u8; weights::FLOORS],
+    v: usize,
     room: &[u8; Table::OVERLOADS],
+    r: u32,
 ) -> u32
-    ensures { λ r. ⌜ Ceiling (now (shares .entry)) (now (floors .entry)) (now (room .entry)) r ⌝ }
+    requires { ⌜ (count ≤ combinations) × (v < maxChosen) ⌝ }
+    ensures { λ s. ⌜ (Ceiling (now (kept .entry)) count (capacity (now (room .entry))) r → Ceiling (now (kept .entry)) count (capacity (now (room .entry))) s) ⌝ }
 {
-    let mut need = total(room);
-    while weights::cutting(shares, floors, COMBINATIONS, room, need) < weights::WEIGHTINGS {
-        need -= 1;
+    let d = weights::floor(kept, count, shares, v);
+    if d == 0 {
+        return r;
     }
-    need
+    let most = weights::weigh(shares, v, room) / d;
+    if most < r { most } else { r }
 }
 
-// Whether `need` uses of kept combinations below n have room: the last of these is used once more, or not at all. Where a
-// weighting shows that they have not, nothing is tried.
-fn has_room(
-    kept: &[u8; COMBINATIONS],
+// The linear bound, no more than `all`: no packing of the kept combinations has more uses, if none has more than `all`.
+fn ceiling(
+    kept: &[usize; COMBINATIONS],
+    count: usize,
     shares: &[u8; weights::SHARES],
-    floors: &[u8; weights::FLOORS],
+    used: usize,
+    room: &[u8; Table::OVERLOADS],
+    all: u32,
+) -> u32
+    requires { ⌜ (count ≤ combinations) × (used ≤ maxChosen) ⌝ }
+    ensures { λ r. ⌜ (Ceiling (now (kept .entry)) count (capacity (now (room .entry))) all → Ceiling (now (kept .entry)) count (capacity (now (room .entry))) r) ⌝ }
+{
+    let mut r = all;
+    let mut v: usize = 0;
+    while v < used {
+        r = lower_ceiling(kept, count, shares, v, room, r);
+        v += 1;
+    }
+    r
+}
+
+// What the weighting v leaves of the choices x: with y uses of the kept combination `last`, what the room weighs must be enough for
+// these, and for d times the uses of those before it.
+fn lower_choices(
+    kept: &[usize; COMBINATIONS],
+    shares: &[u8; weights::SHARES],
+    v: usize,
+    last: usize,
+    room: &[u8; Table::OVERLOADS],
+    need: u32,
+    x: u32,
+) -> u32
+    requires { ⌜ (v < maxChosen) × (last < combinations) × (need ≤ maxRoom) ⌝ }
+    ensures { λ r. ⌜ (Choices (now (kept .entry)) last (capacity (now (room .entry))) need x → Choices (now (kept .entry)) last (capacity (now (room .entry))) need r) ⌝ }
+{
+    let d = weights::floor(kept, last, shares, v);
+    let w = weights::weigh(shares, v, &masks::bits(kept[last]));
+    if w < d {
+        return x;
+    }
+    let all = weights::weigh(shares, v, room);
+    if all < need * d {
+        return 0;
+    }
+    if w == d {
+        return x;
+    }
+    let y = (all - need * d) / (w - d) + 1;
+    if y < x { y } else { x }
+}
+
+// For `need` uses of the kept combinations up to `last`: one more than the most uses of `last` that nothing rules out, 0 if there is
+// no room for `need` uses.
+fn choices(
+    kept: &[usize; COMBINATIONS],
+    shares: &[u8; weights::SHARES],
+    used: usize,
+    last: usize,
+    room: &[u8; Table::OVERLOADS],
+    need: u32,
+) -> u32
+    requires { ⌜ (used ≤ maxChosen) × (last < combinations) × (need ≤ maxRoom) ⌝ }
+    ensures { λ r. ⌜ Choices (now (kept .entry)) last (capacity (now (room .entry))) need r ⌝ }
+{
+    let mut x = masks::fitting(room, kept[last], need) + 1;
+    let mut v: usize = 0;
+    while v < used {
+        x = lower_choices(kept, shares, v, last, room, need, x);
+        v += 1;
+    }
+    x
+}
+
+// Whether `need` uses of the first n kept combinations have room. The last of these is used as often as nothing rules out, then
+// once less, and so on, and the rest is left to those before it.
+fn has_room(
+    kept: &[usize; COMBINATIONS],
+    shares: &[u8; weights::SHARES],
+    used: usize,
     n: usize,
     room: [u8; Table::OVERLOADS],
     need: u32,
 ) -> bool
-    requires { ⌜ Ready (now kept) (now shares) (now floors) n need ⌝ }
-    ensures { λ r. ⌜ r ≡ reach (flagged (now (kept .entry))) n need (capacity room) ⌝ }
+    requires { ⌜ (used ≤ maxChosen) × (n ≤ combinations) × (need ≤ maxRoom) ⌝ }
+    ensures { λ r. ⌜ Tells r (HasRoom (now (kept .entry)) n (capacity room) need) ⌝ }
 {
     if need == 0 {
         return true;
     }
-    if n <= 1 {
+    if n == 0 {
         return false;
     }
-    let m = n - 1;
-    if kept[m] != 1 {
-        return has_room(kept, shares, floors, m, room, need);
+    let last = n - 1;
+    let most = choices(kept, shares, used, last, &room, need);
+    let mut x = most;
+    while 0 < x {
+        x -= 1;
+        if has_room(
+            kept,
+            shares,
+            used,
+            last,
+            masks::spend(&room, kept[last], x),
+            need - x,
+        ) {
+            return true;
+        }
     }
-    if weights::cutting(shares, floors, n, &room, need) < weights::WEIGHTINGS {
-        return false;
-    }
-    if masks::lacking(&room, m) < Table::OVERLOADS {
-        return has_room(kept, shares, floors, m, room, need);
-    }
-    if has_room(kept, shares, floors, n, masks::spend(&room, m), need - 1) {
-        return true;
-    }
-    has_room(kept, shares, floors, m, room, need)
+    false
 }
 
 // The most uses any packing has of the combinations that `bad` flags with 1, with the capacities `room`. The flag of the empty
@@ -81,11 +162,12 @@ fn has_room(
 pub fn most_uses(bad: &[u8; COMBINATIONS], room: &[u8; Table::OVERLOADS]) -> u32
     ensures { λ r. ⌜ r ≡ mostUses (flagged (now (bad .entry))) (capacity (now (room .entry))) ⌝ }
 {
-    let kept = masks::minimal(bad);
-    let shares = weights::shares(&kept);
-    let floors = weights::floors(&kept, &shares);
-    let mut need = ceiling(&shares, &floors, room);
-    while !has_room(&kept, &shares, &floors, COMBINATIONS, *room, need) {
+    let mut kept = [0usize; COMBINATIONS];
+    let count = masks::minimal(bad, &mut kept);
+    let mut shares = [0u8; weights::SHARES];
+    let used = weights::choose(&kept, count, &mut shares);
+    let mut need = ceiling(&kept, count, &shares, used, room, total(room));
+    while !has_room(&kept, &shares, used, count, *room, need) {
         need -= 1;
     }
     need

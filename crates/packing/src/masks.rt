@@ -1,14 +1,13 @@
-// A combination is a mask, one bit for each active segment; a set of combinations is a flag for each.
+// A combination is a mask, one bit for each active segment; the kept combinations are a list of masks.
 use crate::COMBINATIONS;
+use crate::weights;
 use table::Table;
 ghost use mathlib.Core.Path.{_≡_};
-ghost use mathlib.Core.Bool.{true};
-ghost use Prim.Native.Nat.{ℕ, _<_};
-ghost use lib.ListN.{getD};
-ghost use Rattle.search.specs.Find.{first};
+ghost use Prim.Native.Nat.{ℕ, _+_, _*_, _<_, _≤_, _-_};
+ghost use lib.ListN.{length, getD};
 ghost use Rattle.packing.specs.Packing.{bit, combinations};
-ghost use Rattle.packing.specs.Most.{mostUses, flagged, capacity, lacks, fits, less};
-ghost use Rattle.packing.specs.Engine.{part, partOf, keeps};
+ghost use Rattle.packing.specs.Most.{capacity};
+ghost use Rattle.packing.specs.Engine.{partOf, Kept, Fitting, maxRoom};
 ghost use Rattle.table.specs.Limits.{maxOverloads};
 
 // 1 if the active segment i is in the combination m, else 0.
@@ -32,82 +31,86 @@ pub(crate) fn bits(m: usize) -> [u8; Table::OVERLOADS]
     out
 }
 
-// The first active segment of m that has no room, 6 if each has.
-pub(crate) fn lacking(room: &[u8; Table::OVERLOADS], m: usize) -> usize
-    ensures { λ r. ⌜ r ≡ first (lacks m (capacity (now (room .entry)))) 0 maxOverloads ⌝ }
+// One active segment more, i: the lesser of x and the room of i, if it is in m.
+fn lesser(room: &[u8; Table::OVERLOADS], m: usize, i: usize, x: u32) -> u32
+    requires { ⌜ i < maxOverloads ⌝ }
+    ensures { λ r. ⌜ ((need : ℕ) → Fitting m (capacity (now (room .entry))) need i x → Fitting m (capacity (now (room .entry))) need (i + 1) r) ⌝ }
 {
-    let mut i: usize = 0;
-    while i < Table::OVERLOADS {
-        if room[i] < has(m, i) {
-            return i;
-        }
-        i += 1;
+    if has(m, i) == 0 {
+        return x;
     }
-    i
+    let most = weights::wide(room[i]);
+    if most < x { most } else { x }
 }
 
-// The room that one use of m leaves.
-pub(crate) fn spend(room: &[u8; Table::OVERLOADS], m: usize) -> [u8; Table::OVERLOADS]
-    requires { ⌜ fits m (capacity (now room)) ≡ true ⌝ }
-    ensures { λ r. ⌜ ((i : ℕ) → i < maxOverloads → capacity r i ≡ less m (capacity (now (room .entry))) i) ⌝ }
+// How often m can be used at most, up to `need` times.
+pub(crate) fn fitting(room: &[u8; Table::OVERLOADS], m: usize, need: u32) -> u32
+    ensures { λ r. ⌜ Fitting m (capacity (now (room .entry))) need maxOverloads r ⌝ }
+{
+    let mut x = need;
+    let mut i: usize = 0;
+    while i < Table::OVERLOADS {
+        x = lesser(room, m, i, x);
+        i += 1;
+    }
+    x
+}
+
+// The room that x uses of m leave.
+pub(crate) fn spend(room: &[u8; Table::OVERLOADS], m: usize, x: u32) -> [u8; Table::OVERLOADS]
+    requires { ⌜ (x ≤ maxRoom) × ((i : ℕ) → i < maxOverloads → x * bit i m ≤ capacity (now room) i) ⌝ }
+    ensures { λ r. ⌜ ((i : ℕ) → i < maxOverloads → capacity r i ≡ capacity (now (room .entry)) i - x * bit i m) ⌝ }
 {
     let mut out = [0u8; Table::OVERLOADS];
     let mut i: usize = 0;
     while i < Table::OVERLOADS {
-        out[i] = room[i] - has(m, i);
+        out[i] = (weights::wide(room[i]) - x * weights::wide(has(m, i))) as u8;
         i += 1;
     }
     out
 }
 
-// Whether s is kept and each of its active segments is in m.
-fn inside(kept: &[u8; COMBINATIONS], s: usize, m: usize) -> bool
-    requires { ⌜ s < combinations ⌝ }
-    ensures { λ r. ⌜ r ≡ part (now (kept .entry)) m s ⌝ }
+// The first of the kept combinations that is a part of m, `count` if there is none.
+pub(crate) fn part_of(kept: &[usize; COMBINATIONS], count: usize, m: usize) -> usize
+    requires { ⌜ count ≤ combinations ⌝ }
+    ensures { λ r. ⌜ r ≡ partOf (now (kept .entry)) count m ⌝ }
 {
-    if kept[s] != 1 {
-        return false;
-    }
-    s & m == s
-}
-
-// The first kept combination that is a part of m, 64 if there is none.
-pub(crate) fn part_of(kept: &[u8; COMBINATIONS], m: usize) -> usize
-    ensures { λ r. ⌜ r ≡ partOf (now (kept .entry)) m ⌝ }
-{
-    let mut s: usize = 1;
-    while s < COMBINATIONS {
-        if inside(kept, s, m) {
-            return s;
+    let mut j: usize = 0;
+    while j < count {
+        let s = kept[j];
+        if s & m == s {
+            return j;
         }
-        s += 1;
+        j += 1;
     }
-    s
+    j
 }
 
-// 1 if m is bad and no kept combination is a part of it, else 0.
-fn keep(bad: &[u8; COMBINATIONS], kept: &[u8; COMBINATIONS], m: usize) -> u8
-    requires { ⌜ m < combinations ⌝ }
-    ensures { λ r. ⌜ r ≡ keeps (now (bad .entry)) (now (kept .entry)) m ⌝ }
+// Keeps m too, if it is bad and no kept combination is a part of it, and says how many are kept.
+fn keep(bad: &[u8; COMBINATIONS], kept: &mut [usize; COMBINATIONS], count: usize, m: usize) -> usize
+    requires { ⌜ (0 < m) × (m < combinations) × Kept (now bad) (now kept) count m ⌝ }
+    ensures { λ r. ⌜ Kept (now (bad .entry)) (now (kept .exit)) r (m + 1) ⌝ }
 {
     if bad[m] != 1 {
-        return 0;
+        return count;
     }
-    if part_of(kept, m) < COMBINATIONS {
-        return 0;
+    if part_of(kept, count, m) < count {
+        return count;
     }
-    1
+    kept[count] = m;
+    count + 1
 }
 
-// The bad combinations that have no smaller bad one in them. Nothing is lost by using these alone.
-pub(crate) fn minimal(bad: &[u8; COMBINATIONS]) -> [u8; COMBINATIONS]
-    ensures { λ r. ⌜ ((room : ℕ → ℕ) → mostUses (flagged r) room ≡ mostUses (flagged (now (bad .entry))) room) ⌝ }
+// Keeps the bad combinations that have no smaller bad one in them, and says how many. Nothing is lost by using these alone.
+pub(crate) fn minimal(bad: &[u8; COMBINATIONS], kept: &mut [usize; COMBINATIONS]) -> usize
+    requires { ⌜ length (now kept) ≡ combinations ⌝ }
+    ensures { λ r. ⌜ Kept (now (bad .entry)) (now (kept .exit)) r combinations ⌝ }
 {
-    let mut kept = [0u8; COMBINATIONS];
+    let mut count: usize = 0;
     let mut m: usize = 1;
     while m < COMBINATIONS {
-        kept[m] = keep(bad, &kept, m);
+        count = keep(bad, kept, count, m);
         m += 1;
     }
-    kept
+    count
 }

@@ -1,59 +1,61 @@
-// Weights, which show how many uses the room is enough for: where each kept combination weighs at least d, and the room weighs
-// less than need times d, there is no room for need uses. This holds for any weights.
+// Weights, which show how many uses the room is enough for: where each of the kept combinations weighs at least d, and the room
+// weighs less than need times d, there is no room for need uses. This holds for any weights.
 use crate::COMBINATIONS;
 use crate::masks;
 use table::Table;
 ghost use mathlib.Core.Path.{_≡_};
-ghost use Prim.Native.Nat.{ℕ, _+_, _<_, _≤_};
+ghost use Prim.Native.Nat.{ℕ, _<_, _≤_};
 ghost use lib.ListN.{getD};
-ghost use Rattle.search.specs.Find.{first};
+ghost use Rattle.packing.specs.Packing.{bit, combinations};
 ghost use Rattle.packing.specs.Most.{capacity};
-ghost use Rattle.packing.specs.Engine.{weight, weightings, maxRoom, cuts, Floor, Floors};
-ghost use Rattle.packing.specs.Packing.{combinations};
+ghost use Rattle.packing.specs.Engine.{weight, weightings, maxChosen, Floor};
 ghost use Rattle.table.specs.Limits.{maxOverloads};
 
-pub(crate) const WEIGHTINGS: usize = 975;
+const WEIGHTINGS: usize = 975;
 
-pub(crate) const SHARES: usize = WEIGHTINGS * Table::OVERLOADS;
+// How many of them are chosen at most.
+pub(crate) const CHOSEN: usize = 160;
 
-pub(crate) const FLOORS: usize = (COMBINATIONS + 1) * WEIGHTINGS;
+pub(crate) const SHARES: usize = CHOSEN * Table::OVERLOADS;
+
+const DIGITS: usize = WEIGHTINGS * Table::OVERLOADS;
 
 // The weightings, six digits each, one for each active segment. For any set of combinations, the weights by which each of them
 // weighs at least 1 make a polyhedron, and the best bound that any weights give comes from one of its corners. These are the
 // corners, as whole numbers, for all sets of combinations of six active segments, these in falling order of `holders`, equal ones
-// in any order. A wrong digit would cost time, and nothing else.
-const WEIGHTS: [u8; SHARES] =
-    *b"000001000010000100001000010000100000000011000101000110001001001010001100010001010010010100011000100001\
-    100010100100101000110000000111001011001101001110010011010101010110011001011010011100100011100101100110\
-    101001101010101100110001110010110100111000001111010111011011011101011110100111101011101101101110110011\
-    110101110110111001111010111100001112001121001211002111010112010121010211011012011021011102011111011120\
-    011201011210012011012101012110020111021011021101021110100112100121100211101012101021101102101111101120\
-    101201101210102011102101102110110012110021110102110111110120110201110210111002111011111020111101111110\
-    111200112001112010112100120011120101120110121001121010121100200111201011201101201110210011210101210110\
-    211001211010211100011112011121011211012111021111101112101121101211102111110112110121110211111012111021\
-    111102111111111120111201111210112011112101112110120111121011121101121110201111210111211011211101211110\
-    011122011212011221012112012121012211013111021112021121021211022111031111101122101212101221102112102121\
-    102211103111110122110212110221111022111112111121111202111211111220112012112021112102112111112120112201\
-    112210120112120121120211121012121021121102121111121120121201121210122011122101122110130111201112201121\
-    201211202111210112210121210211211012211021211102211111211120211201211210212011212101212110220111221011\
-    221101221110301111310111311011311101311110011231011321012131012311013121013211021113021131021311023111\
-    031112031121031211032111102311103211111122111212111221112112112121112211120311121112121121121211122111\
-    123011130211131111132011201131201311203111210131210311211031211112211121211211211301212111213011213101\
-    221111230111231011231101231110301112301121301211302111310112310121310211311012311021311102311111311120\
-    311201311210312011312101312110320111321011321101321110011223011232011322012123012132012213012231012312\
-    012321013122013212013221021123021132021213021231021312021321022113022131022311023112023121023211031122\
-    031212031221032112032121032211101223101232101322102123102132102213102231102312102321103122103212103221\
-    110223110232110322111222112023112032112122112203112212112221112230112302112311112320113022113202113211\
-    113220120123120132120213120231120312120321121023121032121122121203121212121221121230121302121311121320\
-    122013122031122103122112122121122130122211122301122310123012123021123102123111123120123201123210130122\
-    130212130221131022131121131202131211131220132012132021132102132111132120132201132210201123201132201213\
-    201231201312201321202113202131202311203112203121203211210123210132210213210231210312210321211023211032\
-    211122211203211212211221211230211302211320212013212031212103212112212121212130212211212301212310213012\
-    213021213102213111213120213201213210220113220131220311221013221031221103221112221121221130221211221301\
-    221310222111223011223101223110230112230121230211231012231021231102231111231120231201231210232011232101\
-    232110301122301212301221302112302121302211310122310212310221311022311112311121311202311211311220312012\
-    312021312102312111312120312201312210320112320121320211321012321021321102321111321120321201321210322011\
-    322101322110411111111223111232111322112123112132112213112231112312112321113122113212113221121123121132\
+// in any order. Those whose last digits are 0 come first. A wrong digit would cost time, and nothing else.
+const WEIGHTS: [u8; DIGITS] =
+    *b"100000010000110000001000011000101000111000000100001100010100100100011100101100110100111100111200112100\
+    121100211100000010000110001010010010100010001110010110011010100110101010110010011110101110110110111010\
+    011120011210012110021110101120101210102110110120110210111020111110112010120110121010201110210110211010\
+    111120111210112110121110211110111220112120112210121120121210122110211120211210212110221110311110231110\
+    311120311210312110321110112230112320113220121230121320122130122310123120123210131220132120132210211230\
+    211320212130212310213120213210221130221310223110231120231210232110311220312120312210321120321210322110\
+    000001000011000101001001010001100001000111001011001101010011010101011001100011100101101001110001001111\
+    010111011011011101100111101011101101110011110101111001001112001121001211002111010112010121010211011012\
+    011021011102011111011201012011012101020111021011021101100112100121100211101012101021101102101111101201\
+    102011102101110012110021110102110111110201111002111011111101112001120011120101121001200111201011201101\
+    210011210101211001011112011121011211012111021111101112101121101211102111110112110121110211111012111021\
+    111102111111111201112011112101120111121011121101201111210111211011211101011122011212011221012112012121\
+    012211013111021112021121021211022111031111101122101212101221102112102121102211103111110122110212110221\
+    111022111112111121111202111211112012112021112102112111112201120112120121120211121012121021121102121111\
+    121201122011122101130111201112201121201211202111210112210121210211211012211021211102211111211201212011\
+    212101220111221011221101301111310111311011311101011231011321012131012311013121013211021113021131021311\
+    023111031112031121031211032111102311103211111122111212111221112112112121112211120311121112121121121211\
+    122111123011130211131111132011201131201311203111210131210311211031211112211121211211211301212111213011\
+    213101221111230111231011231101301112301121301211302111310112310121310211311012311021311102311111311201\
+    312011312101320111321011321101011223011232011322012123012132012213012231012312012321013122013212013221\
+    021123021132021213021231021312021321022113022131022311023112023121023211031122031212031221032112032121\
+    032211101223101232101322102123102132102213102231102312102321103122103212103221110223110232110322111222\
+    112023112032112122112203112212112221112302112311113022113202113211120123120132120213120231120312120321\
+    121023121032121122121203121212121221121302121311122013122031122103122112122121122211122301123012123021\
+    123102123111123201130122130212130221131022131121131202131211132012132021132102132111132201201123201132\
+    201213201231201312201321202113202131202311203112203121203211210123210132210213210231210312210321211023\
+    211032211122211203211212211221211302212013212031212103212112212121212211212301213012213021213102213111\
+    213201220113220131220311221013221031221103221112221121221211221301222111223011223101230112230121230211\
+    231012231021231102231111231201232011232101301122301212301221302112302121302211310122310212310221311022\
+    311112311121311202311211312012312021312102312111312201320112320121320211321012321021321102321111321201\
+    322011322101411111111223111232111322112123112132112213112231112312112321113122113212113221121123121132\
     121213121231121312121321122113122131122311123112123121123211131122131212131221132112132121132211211123\
     211132211213211231211312211321212113212131212311213112213121213211221113221131221311223111231112231121\
     231211232111311122311212311221312112312121312211313111321112321121321211322111331111421111112232112322\
@@ -90,31 +92,44 @@ pub(crate) fn wide(x: u8) -> u32
 }
 
 // How many combinations have i in them and a kept one too.
-fn holders(kept: &[u8; COMBINATIONS], i: usize) -> u8
-    requires { ⌜ i < maxOverloads ⌝ }
+fn holders(kept: &[usize; COMBINATIONS], count: usize, i: usize) -> u8
+    requires { ⌜ (count ≤ combinations) × (i < maxOverloads) ⌝ }
 {
-    let mut count: u8 = 0;
+    let mut held: u8 = 0;
     let mut m: usize = 1;
     while m < COMBINATIONS {
-        if masks::part_of(kept, m) < COMBINATIONS {
-            count += masks::has(m, i);
+        if masks::part_of(kept, count, m) < count {
+            held += masks::has(m, i);
         }
         m += 1;
     }
-    count
+    held
+}
+
+// The `holders` of each active segment.
+fn all_holders(kept: &[usize; COMBINATIONS], count: usize) -> [u8; Table::OVERLOADS]
+    requires { ⌜ count ≤ combinations ⌝ }
+{
+    let mut out = [0u8; Table::OVERLOADS];
+    let mut i: usize = 0;
+    while i < Table::OVERLOADS {
+        out[i] = holders(kept, count, i);
+        i += 1;
+    }
+    out
 }
 
 // How many active segments come before i in falling order of `holders`.
-fn rank(kept: &[u8; COMBINATIONS], i: usize) -> u8
+fn rank(held: &[u8; Table::OVERLOADS], i: usize) -> usize
     requires { ⌜ i < maxOverloads ⌝ }
     ensures { λ r. ⌜ r < maxOverloads ⌝ }
 {
-    let own = holders(kept, i);
-    let mut before: u8 = 0;
+    let own = held[i];
+    let mut before: usize = 0;
     let mut step: usize = 1;
     while step < Table::OVERLOADS {
         let j = (i + step) % Table::OVERLOADS;
-        let other = holders(kept, j);
+        let other = held[j];
         if own < other || own == other && j < i {
             before += 1;
         }
@@ -123,34 +138,129 @@ fn rank(kept: &[u8; COMBINATIONS], i: usize) -> u8
     before
 }
 
-fn ranks(kept: &[u8; COMBINATIONS]) -> [u8; Table::OVERLOADS]
+fn ranks(held: &[u8; Table::OVERLOADS]) -> [usize; Table::OVERLOADS]
     ensures { λ r. ⌜ ((i : ℕ) → i < maxOverloads → getD r i 0 < maxOverloads) ⌝ }
 {
-    let mut out = [0u8; Table::OVERLOADS];
+    let mut out = [0usize; Table::OVERLOADS];
     let mut i: usize = 0;
     while i < Table::OVERLOADS {
-        out[i] = rank(kept, i);
+        out[i] = rank(held, i);
         i += 1;
     }
     out
 }
 
-// The weightings with their digits where the active segments stand: six numbers each.
-pub(crate) fn shares(kept: &[u8; COMBINATIONS]) -> [u8; SHARES] {
-    let rank = ranks(kept);
-    let mut out = [0u8; SHARES];
-    let mut at: usize = 0;
-    while at < SHARES {
-        let i = at % Table::OVERLOADS;
-        out[at] = WEIGHTS[at - i + rank[i] as usize] & 15;
-        at += 1;
+// How many weightings have digits above 0 only for the first `segments` in falling order of `holders`.
+fn first_rows(segments: u32) -> usize
+    ensures { λ r. ⌜ r ≤ weightings ⌝ }
+{
+    match segments {
+        0 => 0,
+        1 => 1,
+        2 => 3,
+        3 => 7,
+        4 => 19,
+        5 => 102,
+        _ => WEIGHTINGS,
     }
-    out
+}
+
+// How many active segments stand in kept combinations.
+fn segments(kept: &[usize; COMBINATIONS], count: usize) -> u32
+    requires { ⌜ count ≤ combinations ⌝ }
+{
+    let mut all: usize = 0;
+    let mut j: usize = 0;
+    while j < count {
+        all |= kept[j];
+        j += 1;
+    }
+    usize::count_ones(all)
+}
+
+// The row v of the table as the weighting `at` of `shares`, its digits where the active segments stand.
+fn share(
+    table: &[u8; DIGITS],
+    rank: &[usize; Table::OVERLOADS],
+    v: usize,
+    shares: &mut [u8; SHARES],
+    at: usize,
+)
+    requires { ⌜ (v < weightings) × (at < maxChosen) × ((i : ℕ) → i < maxOverloads → getD (now rank) i 0 < maxOverloads) ⌝ }
+{
+    let row = v * Table::OVERLOADS;
+    let base = at * Table::OVERLOADS;
+    let mut i: usize = 0;
+    while i < Table::OVERLOADS {
+        shares[base + i] = table[row + rank[i]] & 15;
+        i += 1;
+    }
+}
+
+// How many digits of the weighting v are above 0.
+fn digits(shares: &[u8; SHARES], v: usize) -> usize
+    requires { ⌜ v < maxChosen ⌝ }
+{
+    let base = v * Table::OVERLOADS;
+    let mut some: usize = 0;
+    let mut i: usize = 0;
+    while i < Table::OVERLOADS {
+        if 0 < shares[base + i] {
+            some += 1;
+        }
+        i += 1;
+    }
+    some
+}
+
+// Whether the weighting v may be a corner for the first n kept combinations, for some n: as many of these weigh least as there are
+// digits above 0. Other weightings are no use.
+fn worth(kept: &[usize; COMBINATIONS], count: usize, shares: &[u8; SHARES], v: usize) -> bool
+    requires { ⌜ (count ≤ combinations) × (v < maxChosen) ⌝ }
+{
+    let some = digits(shares, v);
+    let mut least: u32 = 255;
+    let mut equal: usize = 0;
+    let mut j: usize = 0;
+    while j < count {
+        let w = weigh(shares, v, &masks::bits(kept[j]));
+        if w < least {
+            least = w;
+            equal = 1;
+        } else if w == least {
+            equal += 1;
+        }
+        if 0 < least && some <= equal {
+            return true;
+        }
+        j += 1;
+    }
+    false
+}
+
+// Chooses the weightings that are worth it for the kept combinations, and says how many.
+pub(crate) fn choose(kept: &[usize; COMBINATIONS], count: usize, shares: &mut [u8; SHARES]) -> usize
+    requires { ⌜ count ≤ combinations ⌝ }
+    ensures { λ r. ⌜ r ≤ maxChosen ⌝ }
+{
+    let table = WEIGHTS;
+    let rank = ranks(&all_holders(kept, count));
+    let rows = first_rows(segments(kept, count));
+    let mut used: usize = 0;
+    let mut v: usize = 0;
+    while v < rows && used < CHOSEN {
+        share(&table, &rank, v, shares, used);
+        if worth(kept, count, shares, used) {
+            used += 1;
+        }
+        v += 1;
+    }
+    used
 }
 
 // What `amount` of each active segment weighs by the weighting v.
-fn weigh(shares: &[u8; SHARES], v: usize, amount: &[u8; Table::OVERLOADS]) -> u32
-    requires { ⌜ v < weightings ⌝ }
+pub(crate) fn weigh(shares: &[u8; SHARES], v: usize, amount: &[u8; Table::OVERLOADS]) -> u32
+    requires { ⌜ v < maxChosen ⌝ }
     ensures { λ r. ⌜ (r ≡ weight (now (shares .entry)) v (capacity (now (amount .entry)))) × (r ≤ 390150) ⌝ }
 {
     let base = v * Table::OVERLOADS;
@@ -163,56 +273,25 @@ fn weigh(shares: &[u8; SHARES], v: usize, amount: &[u8; Table::OVERLOADS]) -> u3
     sum
 }
 
-// The lesser of d and what m weighs by the weighting v, if it is kept.
-fn lower(kept: &[u8; COMBINATIONS], shares: &[u8; SHARES], m: usize, v: usize, d: u8) -> u8
-    requires { ⌜ (m < combinations) × (v < weightings) ⌝ }
-    ensures { λ r. ⌜ (Floor (now (kept .entry)) (now (shares .entry)) m v d → Floor (now (kept .entry)) (now (shares .entry)) (m + 1) v r) ⌝ }
+// The lesser of d and what the combination m weighs by the weighting v.
+fn lower(shares: &[u8; SHARES], v: usize, m: usize, d: u32) -> u32
+    requires { ⌜ v < maxChosen ⌝ }
+    ensures { λ r. ⌜ (r ≤ d) × (r ≤ weight (now (shares .entry)) v (λ i. bit i m)) ⌝ }
 {
-    if kept[m] != 1 {
-        return d;
-    }
     let w = weigh(shares, v, &masks::bits(m));
-    if w < wide(d) { w as u8 } else { d }
+    if w < d { w } else { d }
 }
 
-// For each n and v the least weight by the weighting v of a kept combination below n, 255 if there is none.
-pub(crate) fn floors(kept: &[u8; COMBINATIONS], shares: &[u8; SHARES]) -> [u8; FLOORS]
-    ensures { λ r. ⌜ Floors (now (kept .entry)) (now (shares .entry)) r ⌝ }
+// What each of the first n kept combinations weighs at least by the weighting v.
+pub(crate) fn floor(kept: &[usize; COMBINATIONS], n: usize, shares: &[u8; SHARES], v: usize) -> u32
+    requires { ⌜ (n ≤ combinations) × (v < maxChosen) ⌝ }
+    ensures { λ r. ⌜ (Floor (now (kept .entry)) (now (shares .entry)) n v r) × (r ≤ 255) ⌝ }
 {
-    let mut out = [255u8; FLOORS];
-    let mut at: usize = WEIGHTINGS;
-    while at < FLOORS {
-        let before = at - WEIGHTINGS;
-        out[at] = lower(
-            kept,
-            shares,
-            before / WEIGHTINGS,
-            before % WEIGHTINGS,
-            out[before],
-        );
-        at += 1;
+    let mut d: u32 = 255;
+    let mut j: usize = 0;
+    while j < n {
+        d = lower(shares, v, kept[j], d);
+        j += 1;
     }
-    out
-}
-
-// The first weighting by which the room weighs too little for `need` uses of kept combinations below n, 975 if there is none.
-pub(crate) fn cutting(
-    shares: &[u8; SHARES],
-    floors: &[u8; FLOORS],
-    n: usize,
-    room: &[u8; Table::OVERLOADS],
-    need: u32,
-) -> usize
-    requires { ⌜ (n ≤ combinations) × (need ≤ maxRoom) ⌝ }
-    ensures { λ r. ⌜ r ≡ first (cuts (now (shares .entry)) (now (floors .entry)) n (now (room .entry)) need) 0 weightings ⌝ }
-{
-    let base = n * WEIGHTINGS;
-    let mut v: usize = 0;
-    while v < WEIGHTINGS {
-        if weigh(shares, v, room) < need * wide(floors[base + v]) {
-            return v;
-        }
-        v += 1;
-    }
-    v
+    d
 }

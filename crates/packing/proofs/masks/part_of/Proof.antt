@@ -1,35 +1,38 @@
--- No kept combination before s is a part of m.
-use Prim.Native.Nat.{_-_}
-use mathlib.Core.Path.{sym, _∙_}
+-- No kept combination before j is a part of m.
 use borrow.Author.Needs.{needs}
+use Prim.Native.Nat.{_-_, _≤_}
+use borrow.Author.Tests.{eq-eqb, ne-eqb}
 use Rattle.packing.specs.Engine.{part}
 use Rattle.packing.proofs.Loops.{Passed, passed-start, passed-on, passed-hit, passed-end}
 use Rattle.packing.proofs.masks.part_of.Statement.{statement}
 use Rattle.packing.proofs.masks.part_of.Tie as tie
 
 abbrev Inv-loop : tie.InvT-loop
-Inv-loop kept m s₀ s = Passed (part kept m) 1 63 s
+Inv-loop kept count m j₀ j = Passed (part kept m) 0 count j
 
 abbrev μ-loop : tie.MeasureT-loop
-μ-loop kept m s₀ s = 64 - s
+μ-loop kept count m j₀ j = count - j
 
 loop-holds : tie.Need-loop-holds Inv-loop μ-loop
-loop-holds c = passed-start _ 1 63
+loop-holds c = passed-start _ 0 _
 
-inside-requires : tie.Need-inside-requires Inv-loop μ-loop
-inside-requires c κs = search needs
+mul-s : tie.Need-mul-s Inv-loop μ-loop
+mul-s c = search needs
+
+element-copy-out-s : tie.Need-element-copy-out-s Inv-loop μ-loop
+element-copy-out-s c = search needs
 
 returns : tie.Need-returns Inv-loop μ-loop
-returns c = passed-hit (c .before .before .before .loop .inv) (search needs) (sym (c .before .inside .ensures) ∙ c .if1 .taken)
+returns c = passed-hit (c .before .before .before .loop .inv) (search needs) (eq-eqb _ _ (c .if1 .taken))
 
-add-s : tie.Need-add-s Inv-loop μ-loop
-add-s c = search needs
+add-j : tie.Need-add-j Inv-loop μ-loop
+add-j c = search needs
 
 loop-less : tie.Need-loop-less Inv-loop μ-loop
 loop-less c = search needs
 
 loop-again : tie.Need-loop-again Inv-loop μ-loop
-loop-again c = passed-on (c .before .before .before .loop .inv) (search needs) (sym (c .before .inside .ensures) ∙ c .if1 .left)
+loop-again c = passed-on (c .before .before .before .loop .inv) (search needs) (ne-eqb _ _ (c .if1 .left))
 
 returns-2 : tie.Need-returns-2 Inv-loop μ-loop
 returns-2 c = passed-end (c .before .loop .inv) (search needs)
@@ -41,9 +44,10 @@ part-of-spec =
     Inv-loop
     μ-loop
     loop-holds
-    inside-requires
+    mul-s
+    element-copy-out-s
     returns
-    add-s
+    add-j
     loop-less
     loop-again
     returns-2)

@@ -1,34 +1,49 @@
 -- The places before i hold the room that is left.
-use Prim.Native.Nat.{_-_}
+use borrow.Author.Needs.{needs}
+use Prim.Native.Nat.{_-_, _*_, _≤_}
 use mathlib.Core.Path.{_≡_}
 use native.Mathlib.Omega.{arith}
-use borrow.Author.Needs.{needs}
+use Rattle.packing.specs.Packing.{bit}
 use Rattle.packing.specs.Most.{capacity}
-use Rattle.packing.proofs.Plain.{fits-room}
 use Rattle.packing.proofs.Loops.{Filled, filled-on}
 use Rattle.packing.proofs.masks.spend.Statement.{statement}
 use Rattle.packing.proofs.masks.spend.Tie as tie
 
 abbrev Inv-loop : tie.InvT-loop
-Inv-loop room m out₀ i₀ out i = Filled (λ k x. x ≡ Rattle.packing.specs.Most.less m (capacity room) k) 6 out i
+Inv-loop room m x out₀ i₀ out i = Filled (λ k y. y ≡ capacity room k - x * bit k m) 6 out i
 
 abbrev μ-loop : tie.MeasureT-loop
-μ-loop room m out₀ i₀ out i = 6 - i
+μ-loop room m x out₀ i₀ out i = 6 - i
 
 loop-holds : tie.Need-loop-holds Inv-loop μ-loop
 loop-holds c = search needs
 
-element-copy-out-out : tie.Need-element-copy-out-out Inv-loop μ-loop
-element-copy-out-out c = search needs
+element-copy-out-wide : tie.Need-element-copy-out-wide Inv-loop μ-loop
+element-copy-out-wide c = search needs
+
+wide-requires : tie.Need-wide-requires Inv-loop μ-loop
+wide-requires c κs = search needs
 
 has-requires : tie.Need-has-requires Inv-loop μ-loop
 has-requires c κs = search needs
 
+wide-requires-2 : tie.Need-wide-requires-2 Inv-loop μ-loop
+wide-requires-2 c κs = search needs
+
+-- what is spent is there
+spent : (c : tie.After-wide2 Inv-loop μ-loop) → c .before .before .before .before .before .before .args .x * c .wide2 .result ≤ c .before .before .wide .result
+spent c =
+    rw (c .wide2 .ensures .0, c .before .has .ensures, c .before .before .wide .ensures .0)
+    (c .before .before .before .before .before .before .pre .1 (c .before .before .before .before .before .loop .i) (search needs))
+
+mul-out : tie.Need-mul-out Inv-loop μ-loop
+mul-out c = omega (arith, spent c, c .before .before .wide .ensures .1)
+
 sub-out : tie.Need-sub-out Inv-loop μ-loop
-sub-out c =
-    let a = c .before .before .before in
-    let s = a .before in
-    omega (arith, fits-room (s .args .m) (capacity (s .args .room .now)) (s .pre) (a .loop .i) (search needs))
+sub-out c = spent c
+
+cast-out : tie.Need-cast-out Inv-loop μ-loop
+cast-out c = omega (arith, c .before .before .wide .ensures .1)
 
 array-write-out : tie.Need-array-write-out Inv-loop μ-loop
 array-write-out c = search needs
@@ -40,7 +55,9 @@ loop-less : tie.Need-loop-less Inv-loop μ-loop
 loop-less c = search needs
 
 loop-again : tie.Need-loop-again Inv-loop μ-loop
-loop-again c = filled-on (c .before .before .before .loop .inv) (search needs) (omega arith)
+loop-again c =
+    filled-on (c .before .before .before .before .before .loop .inv) (search needs)
+    (rw (c .wide2 .ensures .0, c .before .has .ensures, c .before .before .wide .ensures .0))
 
 returns : tie.Need-returns Inv-loop μ-loop
 returns c = λ i l. c .before .loop .inv .done i (search needs)
@@ -52,9 +69,13 @@ spend-spec =
     Inv-loop
     μ-loop
     loop-holds
-    element-copy-out-out
+    element-copy-out-wide
+    wide-requires
     has-requires
+    wide-requires-2
+    mul-out
     sub-out
+    cast-out
     array-write-out
     add-i
     loop-less

@@ -1,16 +1,16 @@
 -- The count is below m.
+use borrow.Author.Needs.{needs}
 use Prim.Native.Nat.{_-_, _<_, _≤_}
 use mathlib.Core.Logic.{⊎-elim}
 use native.Mathlib.Omega.{arith}
-use borrow.Author.Needs.{needs}
 use Rattle.packing.proofs.weights.holders.Statement.{statement}
 use Rattle.packing.proofs.weights.holders.Tie as tie
 
 abbrev Inv-loop : tie.InvT-loop
-Inv-loop kept i count₀ m₀ count m = (count < m) × (m ≤ 64)
+Inv-loop kept count i held₀ m₀ held m = (held < m) × (m ≤ 64)
 
 abbrev μ-loop : tie.MeasureT-loop
-μ-loop kept i count₀ m₀ count m = 64 - m
+μ-loop kept count i held₀ m₀ held m = 64 - m
 
 loop-holds : tie.Need-loop-holds Inv-loop μ-loop
 loop-holds c = search needs
@@ -21,8 +21,8 @@ part-of-requires c κs = search needs
 has-requires : tie.Need-has-requires Inv-loop μ-loop
 has-requires c κs = search needs
 
-add-count : tie.Need-add-count Inv-loop μ-loop
-add-count c = omega arith
+add-held : tie.Need-add-held Inv-loop μ-loop
+add-held c = omega arith
 
 add-m : tie.Need-add-m Inv-loop μ-loop
 add-m c = search needs
@@ -45,7 +45,7 @@ holders-spec =
     loop-holds
     part-of-requires
     has-requires
-    add-count
+    add-held
     add-m
     loop-less
     loop-again

@@ -1,19 +1,19 @@
 -- Fewer active segments come before i than steps were taken.
+use borrow.Author.Needs.{needs}
 use Prim.Native.Nat.{_-_, _<_, _≤_}
 use mathlib.Core.Logic.{⊎-elim}
 use native.Mathlib.Omega.{arith}
-use borrow.Author.Needs.{needs}
 use Rattle.packing.proofs.weights.rank.Statement.{statement}
 use Rattle.packing.proofs.weights.rank.Tie as tie
 
 abbrev Inv-loop : tie.InvT-loop
-Inv-loop kept i own before₀ step₀ before step = (before < step) × (step ≤ 6)
+Inv-loop held i own before₀ step₀ before step = (before < step) × (step ≤ 6)
 
 abbrev μ-loop : tie.MeasureT-loop
-μ-loop kept i own before₀ step₀ before step = 6 - step
+μ-loop held i own before₀ step₀ before step = 6 - step
 
-holders-requires : tie.Need-holders-requires Inv-loop μ-loop
-holders-requires c κs = search needs
+element-copy-out-own : tie.Need-element-copy-out-own Inv-loop μ-loop
+element-copy-out-own c = search needs
 
 loop-holds : tie.Need-loop-holds Inv-loop μ-loop
 loop-holds c = search needs
@@ -21,8 +21,8 @@ loop-holds c = search needs
 add-j : tie.Need-add-j Inv-loop μ-loop
 add-j c = omega arith
 
-holders-requires-2 : tie.Need-holders-requires-2 Inv-loop μ-loop
-holders-requires-2 c κs = search needs
+element-copy-out-other : tie.Need-element-copy-out-other Inv-loop μ-loop
+element-copy-out-other c = search needs
 
 add-before : tie.Need-add-before Inv-loop μ-loop
 add-before c = omega arith
@@ -45,10 +45,10 @@ rank-spec =
     (tie.spec
     Inv-loop
     μ-loop
-    holders-requires
+    element-copy-out-own
     loop-holds
     add-j
-    holders-requires-2
+    element-copy-out-other
     add-before
     add-step
     loop-less

@@ -1,21 +1,24 @@
 -- The places before i hold ranks.
-use Prim.Native.Nat.{_-_, _<_}
 use borrow.Author.Needs.{needs}
+use Prim.Native.Nat.{_-_, _<_}
 use Rattle.packing.proofs.Loops.{Filled, filled-on}
 use Rattle.packing.proofs.weights.ranks.Statement.{statement}
 use Rattle.packing.proofs.weights.ranks.Tie as tie
 
 abbrev Inv-loop : tie.InvT-loop
-Inv-loop kept out₀ i₀ out i = Filled (λ k x. x < 6) 6 out i
+Inv-loop held out₀ i₀ out i = Filled (λ k x. x < 6) 6 out i
 
 abbrev μ-loop : tie.MeasureT-loop
-μ-loop kept out₀ i₀ out i = 6 - i
+μ-loop held out₀ i₀ out i = 6 - i
 
 loop-holds : tie.Need-loop-holds Inv-loop μ-loop
 loop-holds c = search needs
 
 rank-requires : tie.Need-rank-requires Inv-loop μ-loop
 rank-requires c κs = search needs
+
+mul-out : tie.Need-mul-out Inv-loop μ-loop
+mul-out c = search needs
 
 array-write-out : tie.Need-array-write-out Inv-loop μ-loop
 array-write-out c = search needs
@@ -40,6 +43,7 @@ ranks-spec =
     μ-loop
     loop-holds
     rank-requires
+    mul-out
     array-write-out
     add-i
     loop-less

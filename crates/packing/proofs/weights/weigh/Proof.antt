@@ -1,9 +1,9 @@
 -- The shares before i, each times its amount, are added up.
+use borrow.Author.Needs.{needs}
 use Prim.Native.Nat.{ℕ, _+_, _-_, _*_, _≤_}
 use mathlib.Core.Path.{ap₂}
 use native.Mathlib.Omega.{arith}
 use native.Mathlib.Nat.{mul-le-mul}
-use borrow.Author.Needs.{needs}
 use lib.ListN.{getD}
 use Rattle.packing.specs.Engine.{weight}
 use Rattle.packing.proofs.Loops.{Added, added-start, added-on, added-end}
@@ -15,6 +15,10 @@ Inv-loop shares v amount base sum₀ i₀ sum i = Added (λ k. getD shares (v * 
 
 abbrev μ-loop : tie.MeasureT-loop
 μ-loop shares v amount base sum₀ i₀ sum i = 6 - i
+
+-- a share times an amount
+product : {x y : ℕ} → x ≤ 255 → y ≤ 255 → x * y ≤ 65025
+product h k = mul-le-mul h k
 
 mul-base : tie.Need-mul-base Inv-loop μ-loop
 mul-base c = search needs
@@ -36,10 +40,6 @@ element-copy-out-wide-2 c = search needs
 
 wide-requires-2 : tie.Need-wide-requires-2 Inv-loop μ-loop
 wide-requires-2 c κs = search needs
-
--- a share times an amount
-product : {x y : ℕ} → x ≤ 255 → y ≤ 255 → x * y ≤ 65025
-product h k = mul-le-mul h k
 
 mul-sum : tie.Need-mul-sum Inv-loop μ-loop
 mul-sum c = let p : c .before .before .wide .result * c .wide2 .result ≤ 65025 = product (omega arith) (omega arith) in omega arith

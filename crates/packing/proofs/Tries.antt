@@ -1,0 +1,119 @@
+-- How often a kept combination is tried: the uses that come into question, fewer with each try that fails. Assumes nothing.
+use Prim.Native.Nat.{ℕ, zero, suc, _+_, _-_, _*_, _≤_, _<_}
+use mathlib.Core.Path.{_≡_, refl, sym, ap, _∙_}
+use mathlib.Core.Bool.{true, false}
+use mathlib.Core.List.{List}
+use mathlib.Core.Logic.{⊎-elim}
+use native.Mathlib.Omega.{arith}
+use native.Mathlib.Nat.{eq-or-lt-of-le, mul-le-mul-right}
+use lib.Dec.{eqb}
+use borrow.Author.Tests.{eq-eqb, ne-eqb}
+use Rattle.search.specs.Choice.{_when_else_}
+use Rattle.search.proofs.Choice.{when-yes, when-no, true-not-false}
+use Rattle.packing.specs.Packing.{bit, sum}
+use Rattle.packing.specs.Engine.{nth, Fitting, Packed, HasRoom, Tells, Ceiling, Choices}
+use Rattle.packing.proofs.Sums.{sum-ext, sum-zero, sum-at}
+
+-- no use always has room
+pub none-fit : (kept : List ℕ) (n : ℕ) (room : ℕ → ℕ) → HasRoom kept n room 0
+none-fit kept n room = record {
+  uses = λ j. 0;
+  packed = record { within = λ i l. omega (arith, sum-zero n (λ j. 0 * bit i (nth kept j)) (λ j s. omega arith)) };
+  total = sum-zero n (λ j. 0) (λ j s. refl);
+}
+
+-- so what has no room is some use
+pub some-fit : {kept : List ℕ} {n : ℕ} {room : ℕ → ℕ} (k : ℕ) → (HasRoom kept n room k → ⊥) → 0 < k
+some-fit {kept} {n} {room} zero h = absurd (h (none-fit kept n room))
+some-fit (suc k) h = omega arith
+
+-- no combination has no use
+pub empty-fit : {kept : List ℕ} {n k : ℕ} {room : ℕ → ℕ} → n ≡ 0 → HasRoom kept n room k → k ≡ 0
+unfolding sum
+empty-fit e g = let h = rw e at g in omega (arith, h .total)
+
+pub tells-so : {P : Type 0} → P → Tells true P
+tells-so p = record { so = λ e. p; not = λ e. absurd (true-not-false refl e) }
+
+pub tells-not : {P : Type 0} → (P → ⊥) → Tells false P
+tells-not n = record { so = λ e. absurd (true-not-false e refl); not = λ e. n }
+
+-- one use less
+pub ceiling-fewer : {kept : List ℕ} {n r : ℕ} {room : ℕ → ℕ} → Ceiling kept n room r → (HasRoom kept n room r → ⊥) → Ceiling kept n room (r - 1)
+ceiling-fewer {kept} {n} {r} {room} c none = record {
+  few = omega (arith, c .few);
+  bound = λ k h. ⊎-elim (λ e. absurd (none (rw e at h))) (λ l. omega arith) (eq-or-lt-of-le (c .bound k h));
+}
+
+module _ {m : ℕ} {room : ℕ → ℕ} {need : ℕ} where
+  pub fitting-start : Fitting m room need 0 need
+  fitting-start = record { few = omega arith; enough = λ i l. absurd (omega arith); most = λ y l h. l }
+
+  -- one active segment more
+  pub fitting-on : {i x r : ℕ} → Fitting m room need i x → r ≤ x → r * bit i m ≤ room i → ((y : ℕ) → y ≤ x → y * bit i m ≤ room i → y ≤ r) → Fitting m room need (i + 1) r
+  fitting-on {i} {x} {r} f l h most = record {
+    few = omega (arith, f .few);
+    enough = λ j s. ⊎-elim
+        (λ e. rw e h)
+        (λ t. omega (arith, f .enough j t, mul-le-mul-right (bit j m) l))
+        (eq-or-lt-of-le (let t : j ≤ i = omega arith in t));
+    most = λ y a b. most y (f .most y a (λ j s. b j (omega arith))) (b i (omega arith));
+  }
+
+-- what a packing uses of a kept combination has room
+own-room : {kept : List ℕ} {n : ℕ} {room : ℕ → ℕ} (j : ℕ) (u : ℕ → ℕ) → Packed kept n room u → j < n → (i : ℕ) → i < 6 → u j * bit i (nth kept j) ≤ room i
+own-room {kept} {n} j u p s i l = omega (arith, p .within i l, sum-at n (λ x. u x * bit i (nth kept x)) j s)
+
+module _ {kept : List ℕ} {last : ℕ} {room : ℕ → ℕ} {need : ℕ} where
+  pub choices-start : {r : ℕ} → Fitting (nth kept last) room need 6 r → Choices kept last room need (r + 1)
+  choices-start {r} f = record {
+    few = omega (arith, f .few);
+    enough = λ y s i l. let h : y ≤ r = omega arith in omega (arith, f .enough i l, mul-le-mul-right (bit i (nth kept last)) h);
+    fewer = λ u p t. omega (arith, f .most (u last) (omega (arith, t, sum-at (suc last) u last (omega arith))) (own-room last u p (omega arith)));
+  }
+
+  -- fewer come into question
+  pub choices-less : {x r : ℕ} → r ≤ x → ((u : ℕ → ℕ) → Packed kept (suc last) room u → sum (suc last) u ≡ need → u last < r)
+      → Choices kept last room need x → Choices kept last room need r
+  choices-less l h c = record { few = omega (arith, c .few); enough = λ y s. c .enough y (omega arith); fewer = h }
+
+  -- x - 1 uses were tried: there is no room for the rest
+  pub choices-tried : {x : ℕ} (left : ℕ → ℕ) → 0 < x → ((i : ℕ) → i < 6 → left i ≡ room i - (x - 1) * bit i (nth kept last))
+      → (HasRoom kept last left (need - (x - 1)) → ⊥) → Choices kept last room need x → Choices kept last room need (x - 1)
+  unfolding sum
+  choices-tried {x} left some e none c = choices-less (omega arith)
+      (λ u p t. ⊎-elim
+      (λ q. absurd (none record {
+        uses = u;
+        packed = record { within = λ i l. omega (arith, p .within i l, e i l, ap (λ z. z * bit i (nth kept last)) q) };
+        total = omega (arith, t);
+      }))
+      (λ q. q)
+      (eq-or-lt-of-le (let h : u last ≤ x - 1 = omega (arith, c .fewer u p t) in h)))
+      c
+
+  -- nothing is left
+  pub choices-end : {n x : ℕ} → n ≡ suc last → x ≤ 0 → Choices kept last room need x → HasRoom kept n room need → ⊥
+  choices-end e l c g = let h = rw e at g in omega (arith, c .fewer (h .uses) (h .packed) (h .total))
+
+  -- there is room for the rest
+  pub choices-found : {n : ℕ} (y : ℕ) (left : ℕ → ℕ) → n ≡ suc last → y ≤ need → ((i : ℕ) → i < 6 → y * bit i (nth kept last) ≤ room i)
+      → ((i : ℕ) → i < 6 → left i ≡ room i - y * bit i (nth kept last)) → HasRoom kept last left (need - y) → HasRoom kept n room need
+  unfolding sum
+  choices-found y left size few enough e h =
+      rw size record {
+        uses = uses;
+        packed = record {
+          within = λ i l. omega (arith, h .packed .within i l, e i l, enough i l, ap (λ z. z * bit i (nth kept last)) at-last, sum-ext last (λ j. uses j * bit i (nth kept j)) (λ j. h .uses j * bit i (nth kept j)) (λ j s. ap (λ z. z * bit i (nth kept j)) (before j s)));
+        };
+        total = omega (arith, h .total, at-last, sum-ext last uses (h .uses) before);
+      }
+    where
+      uses : ℕ → ℕ
+      uses j = y when eqb last j else h .uses j
+
+      at-last : uses last ≡ y
+      at-last = when-yes y (h .uses last) (eq-eqb last last refl)
+
+      before : (j : ℕ) → j < last → uses j ≡ h .uses j
+      before j s = when-no y (h .uses j) (ne-eqb last j (λ q. omega arith))
