@@ -33,10 +33,6 @@ if [ "$program" = bench ]; then
     # shellcheck source=compare/glpk.sh
     . "$here/glpk.sh"
     glpk_get "$top/target/glpk" && with=(-DWITH_GLPK "$here/packing_glpk.c" "${glpk_arguments[@]}")
-    # An emulator goes through `rep movsb` byte by byte, which no processor does: copies are made without it, on both sides.
-    if ! c_is_x86_64; then
-        export GLIBC_TUNABLES=glibc.cpu.x86_rep_movsb_threshold=1000000:glibc.cpu.x86_rep_stosb_threshold=1000000
-    fi
 fi
 c_build "$room/$program" "$here/$program.c" "$here/generate.c" "$here/analyzer.c" "$library" "${with[@]}" || fail "$program was not built"
 c_run "$room/$program" "$@"
