@@ -5,8 +5,8 @@ use mathlib.Core.List.{List, [], _∷_, _++_}
 use native.Mathlib.Omega.{arith}
 use native.Mathlib.Numerals.{add-one}
 use native.Mathlib.Nat.{le-trans}
-use lib.ListN.{length, getD, take, drop, length-append}
-use lib.Seq.{paste, slice, take-nil, take-take, take-at, drop-at, take-append-le, length-take-le, take-suc, drop-append-le, take-paste}
+use lib.ListN.{length, getD, take, drop, length-append, length-drop}
+use lib.Seq.{paste, slice, take-nil, take-take, take-at, drop-at, take-append-le, length-take-le, take-suc, drop-append-le, take-paste, length-paste-head}
 
 module _ {A : Type 0} where
   -- a part of a list goes by the elements up to its end alone
@@ -44,3 +44,8 @@ module _ {A : Type 0} where
   slice-more from j l z h k =
       let n : from ≤ length (take j l) = omega (arith, length-take-le j l (omega arith)) in
       ap (λ i. slice from i l) (add-one j) ∙ ap (drop from) (take-suc l j z k) ∙ drop-append-le from (take j l) (getD l j z ∷ []) n
+
+-- a part pasted over another keeps the length
+pub length-paste : (d : List ℕ) (at : ℕ) (s : List ℕ) (n : ℕ) → at + n ≤ length d → n ≤ length s → length (paste d at s n) ≡ length d
+length-paste d at s n h k =
+    omega (arith, length-append (take at d ++ take n s) (drop (at + n) d), length-paste-head d at s n (omega arith) k, length-drop (at + n) d)

@@ -9,6 +9,7 @@ use table::Table;
 ghost use mathlib.Core.Path.{_≡_};
 ghost use mathlib.Core.List.{[], _∷_, map};
 ghost use Prim.Native.Nat.{_+_, _*_, _-_, _≤_, _<_};
+ghost use lib.ListN.{length};
 ghost use lib.Seq.{paste, slice};
 ghost use Rattle.table.specs.Limits.{maxChains, maxDistances};
 ghost use Rattle.table.specs.Find.{rowOf, rows};
@@ -50,20 +51,15 @@ fn term(a: Row, b: Row) -> Term
 }
 
 // A list's places put in among the others'.
-fn put(
-    mut lists: [u32; Load::PLACES],
-    at: usize,
-    list: [u32; Table::DISTANCES],
-) -> [u32; Load::PLACES]
-    requires { ⌜ at + maxDistances ≤ maxChains * maxDistances ⌝ }
-    ensures { λ r. ⌜ r ≡ paste lists at list maxDistances ⌝ }
+fn put(lists: &mut [u32; Load::PLACES], at: usize, list: [u32; Table::DISTANCES])
+    requires { ⌜ (at + maxDistances ≤ maxChains * maxDistances) × (length (now lists) ≡ maxChains * maxDistances) ⌝ }
+    ensures { λ _. ⌜ (now (lists .exit) ≡ paste (now (lists .entry)) at list maxDistances) × (length list ≡ maxDistances) ⌝ }
 {
     let mut j: usize = 0;
     while j < Table::DISTANCES {
         lists[at + j] = list[j];
         j += 1;
     }
-    lists
 }
 
 impl Load {
@@ -86,28 +82,8 @@ impl Load {
         }
     }
 
-    // A chain a more beside b: what it adds once, and its distances where its η counts.
-    fn with(mut self, a: Row, b: Row) -> Self
-        requires { ⌜ Sound self × GoodRow a × GoodRow b × (self .count < maxChains) × (self .once + dearest ≤ most) ⌝ }
-        ensures { λ r. ⌜ Joined self (viewOf a b ∷ []) r ⌝ }
-    {
-        let x = term(a, b);
-        self.once = self.once + x.once;
-        if x.rate == 0 {
-            return self;
-        }
-        let at = self.count;
-        let list = a.list;
-        let lists = self.lists;
-        let lists = put(lists, at * Table::DISTANCES, list);
-        self.rates[at] = x.rate;
-        self.lengths[at] = a.listed;
-        self.lists = lists;
-        self.count = at + 1;
-        self
-    }
-
-    // The chains from `from` up to `to` beside b, those with overload mark only where `overload` says so.
+    // The chains from `from` up to `to` beside b, those with overload mark only where `overload` says so: of each what it adds
+    // once, and its distances where its η counts.
     fn beside(self, t: Table, b: Row, from: usize, to: usize, overload: bool) -> Self
         requires { ⌜ Sound self × GoodTable t × GoodRow b × (from ≤ to) × (to ≤ t .count) × (self .count + (to - from) ≤ maxChains) × (self .once + (to - from) * dearest ≤ most) ⌝ }
         ensures { λ r. ⌜ Joined self (counted overload (map (λ a. viewOf a b) (slice from to (rows t)))) r ⌝ }
@@ -118,7 +94,16 @@ impl Load {
             let a = t.row[j];
             j += 1;
             if overload || a.overload == 0 {
-                l = l.with(a, b);
+                let x = term(a, b);
+                l.once = l.once + x.once;
+                if x.rate != 0 {
+                    let at = l.count;
+                    let list = a.list;
+                    put(&mut l.lists, at * Table::DISTANCES, list);
+                    l.rates[at] = x.rate;
+                    l.lengths[at] = a.listed;
+                    l.count = at + 1;
+                }
             }
         }
         l
