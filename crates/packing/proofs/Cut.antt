@@ -22,6 +22,10 @@ module _ {kept shares : List ℕ} where
   pub floor-start : (v d : ℕ) → Floor kept shares 0 v d
   floor-start v d = record { least = λ j l. absurd (omega arith) }
 
+  -- nothing weighs less than 0
+  pub floor-none : (n v : ℕ) → Floor kept shares n v 0
+  floor-none n v = record { least = λ j l. omega arith }
+
   -- one combination more
   pub floor-on : {n v d r : ℕ} → Floor kept shares n v d → r ≤ d → r ≤ weight shares v (λ i. bit i (nth kept n)) → Floor kept shares (n + 1) v r
   floor-on {n} {v} {d} {r} f l h = record {
