@@ -1,14 +1,14 @@
 -- Why a cut is right: none of the first n kept combinations weighs less than the floor d, so where the room weighs too little for
 -- so many uses there are none. Assumes nothing.
 use Prim.Native.Nat.{ℕ, suc, _+_, _-_, _*_, _/_, _≤_, _<_}
-use mathlib.Core.Path.{_≡_, refl, sym, ap, _∙_}
+use mathlib.Core.Path.{_≡_, ap}
 use mathlib.Core.List.{List}
 use mathlib.Core.Logic.{⊎-elim}
 use native.Mathlib.Omega.{arith}
 use native.Mathlib.Nat.{eq-or-lt-of-le, mul-le-mul-left, le-div-iff-mul-le}
 use lib.ListN.{getD}
 use Rattle.packing.specs.Packing.{bit, sum}
-use Rattle.packing.specs.Engine.{nth, weight, Floor, Packed, HasRoom, Ceiling, Choices}
+use Rattle.packing.specs.Engine.{nth, weight, Floor, Packed, Ceiling}
 use Rattle.packing.proofs.Sums.{sum-ext}
 use Rattle.packing.proofs.Linear.{all-weigh, each-weighs}
 

@@ -161,20 +161,20 @@ fn has_room(
         return false;
     }
     let last = n - 1;
-    let most = choices(kept, shares, used, last, &room, need);
-    let mut x = most;
+    let mut x = choices(kept, shares, used, last, &room, need);
     while 0 < x {
-        x -= 1;
+        let uses = x - 1;
         if has_room(
             kept,
             shares,
             used,
             last,
-            masks::spend(&room, kept[last], x),
-            need - x,
+            masks::spend(&room, kept[last], uses),
+            need - uses,
         ) {
             return true;
         }
+        x -= 1;
     }
     false
 }

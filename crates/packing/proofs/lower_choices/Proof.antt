@@ -58,7 +58,7 @@ mul-if3 c = omega (arith, few (c .before))
 returns-3 : tie.Need-returns-3
 returns-3 c =
     λ h. choices-less (omega arith)
-    (λ u p t. absurd (cut-none (c .before .before .floor .ensures .0) (weighs (c .before .before .before .before .before)) (c .before .before .before .before .weigh2 .ensures .0) u p t (c .before .before .floor .ensures .1) (c .if3 .taken)))
+    (λ u p t. absurd (cut-none (c .before .before .floor .ensures .0) (weighs (c .before .before .before .before .before)) (c .before .before .before .before .weigh2 .ensures .0) u p t (omega (arith, c .before .before .floor .ensures .1)) (omega (arith, c .if3 .taken))))
     h
 
 returns-4 : tie.Need-returns-4
