@@ -1,14 +1,14 @@
 -- Why a cut is right: none of the first n kept combinations weighs less than the floor d, so where the room weighs too little for
 -- so many uses there are none. Assumes nothing.
 use Prim.Native.Nat.{ℕ, suc, _+_, _-_, _*_, _/_, _≤_, _<_}
-use mathlib.Core.Path.{_≡_, refl, sym, ap, _∙_}
+use mathlib.Core.Path.{_≡_, ap}
 use mathlib.Core.List.{List}
 use mathlib.Core.Logic.{⊎-elim}
 use native.Mathlib.Omega.{arith}
 use native.Mathlib.Nat.{eq-or-lt-of-le, mul-le-mul-left, le-div-iff-mul-le}
 use lib.ListN.{getD}
 use Rattle.packing.specs.Packing.{bit, sum}
-use Rattle.packing.specs.Engine.{nth, weight, Floor, Packed, HasRoom, Ceiling, Choices}
+use Rattle.packing.specs.Engine.{nth, weight, Floor, Packed, Ceiling}
 use Rattle.packing.proofs.Sums.{sum-ext}
 use Rattle.packing.proofs.Linear.{all-weigh, each-weighs}
 
@@ -21,6 +21,10 @@ module _ {kept shares : List ℕ} where
   -- of no combinations
   pub floor-start : (v d : ℕ) → Floor kept shares 0 v d
   floor-start v d = record { least = λ j l. absurd (omega arith) }
+
+  -- nothing weighs less than 0
+  pub floor-none : (n v : ℕ) → Floor kept shares n v 0
+  floor-none n v = record { least = λ j l. omega arith }
 
   -- one combination more
   pub floor-on : {n v d r : ℕ} → Floor kept shares n v d → r ≤ d → r ≤ weight shares v (λ i. bit i (nth kept n)) → Floor kept shares (n + 1) v r

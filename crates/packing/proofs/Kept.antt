@@ -1,18 +1,16 @@
 -- The bad combinations with no smaller bad one in them, kept one by one: every bad one so far has a kept part, so the kept ones
 -- have as many uses as the bad ones. Assumes nothing.
-use Prim.Native.Nat.{ℕ, _+_, _*_, _≤_, _<_}
-use mathlib.Core.Path.{_≡_, refl, sym, ap, subst, _∙_}
+use Prim.Native.Nat.{ℕ, _+_, _≤_, _<_}
+use mathlib.Core.Path.{_≡_, sym, ap, subst, _∙_}
 use mathlib.Core.Bool.{Bool, true, false}
 use mathlib.Core.List.{List}
 use mathlib.Core.Logic.{⊎-elim}
 use native.Mathlib.Omega.{arith}
 use native.Mathlib.Nat.{eq-or-lt-of-le}
-use lib.ListN.{length, getD, set, length-set}
+use lib.ListN.{length, set, length-set}
 use lib.Seq.{getD-set-same, getD-set-other}
 use lib.Bits.{bitAnd, and-self}
-use lib.Dec.{eqb}
 use borrow.Author.Tests.{eqb-true, eq-eqb}
-use Rattle.search.specs.Find.{first}
 use Rattle.search.proofs.Choice.{true-not-false, lt-or-le}
 use Rattle.search.proofs.Find.{first-miss, first-hit}
 use Rattle.packing.specs.Packing.{bit, sum, usable, Reached}

@@ -36,17 +36,6 @@ parts-room : (bad : ℕ → Bool) (room more turn : ℕ → ℕ) → ((m : ℕ) 
 parts-room bad room more turn parts wider u p i l =
     omega (arith, used-mono u (λ m. bit i (turn m)) (bit i) (λ m s h. parts m s (p .only m s h) i), p .within i l, wider i l)
 
--- each bad combination has a bad one of the others in it: the others do as well
-pub most-parts : (bad fewer : ℕ → Bool) (room part : ℕ → ℕ)
-    → ((m : ℕ) → m < 64 → usable bad m ≡ true → (part m < 64) × (usable fewer (part m) ≡ true) × ((i : ℕ) → bit i (part m) ≤ bit i m))
-    → mostUses bad room ≤ mostUses fewer room
-most-parts bad fewer room part h = carries-most record {
-  turn = part;
-  inside = λ m l e. h m l e .0;
-  bads = λ m l e. h m l e .1;
-  within = parts-room bad room room part (λ m l e. h m l e .2) (λ i l. omega arith);
-}
-
 pub most-rises : (bad worse : ℕ → Bool) (room more : ℕ → ℕ) → ((m : ℕ) → 0 < m → m < 64 → bad m ≡ true → worse m ≡ true)
     → ((i : ℕ) → i < 6 → room i ≤ more i) → mostUses bad room ≤ mostUses worse more
 most-rises bad worse room more h wider = carries-most record {

@@ -1,12 +1,9 @@
 -- The most uses: `mostUses` is the greatest number of uses that a packing has, whatever the packing. Assumes nothing.
-use Prim.Native.Nat.{ℕ, zero, suc, _-_, _≤_}
+use Prim.Native.Nat.{ℕ, zero, suc, _≤_}
 use mathlib.Core.Path.{_≡_, refl}
-use mathlib.Core.Bool.{Bool, true, false}
-use mathlib.Core.Logic.{⊎-elim}
+use mathlib.Core.Bool.{Bool, true}
 use native.Mathlib.Omega.{arith}
-use native.Mathlib.Nat.{eq-or-lt-of-le}
 use Rattle.search.specs.Find.{Greatest}
-use Rattle.search.proofs.Choice.{true-not-false}
 use Rattle.search.proofs.Find.{last-hit, last-max, greatest-unique}
 use Rattle.packing.specs.Packing.{sum, Packing, Reached}
 use Rattle.packing.specs.Most.{reach, mostUses}
@@ -55,14 +52,3 @@ module _ (bad : ℕ → Bool) (capacity : ℕ → ℕ) where
 
   pub most-room : mostUses bad capacity ≤ sum 6 capacity
   most-room = reached-room (most-greatest .holds)
-
-  -- a number that is no less, and has no room, is greater
-  pub most-under : {n : ℕ} → mostUses bad capacity ≤ n → reach bad 64 n capacity ≡ false → mostUses bad capacity ≤ n - 1
-  most-under {n} l e = ⊎-elim
-      (λ h. absurd (true-not-false (most-reached n h) e))
-      (λ h. omega arith)
-      (eq-or-lt-of-le l)
-
-  -- and one that has room is the most
-  pub most-at : {n : ℕ} → mostUses bad capacity ≤ n → reach bad 64 n capacity ≡ true → n ≡ mostUses bad capacity
-  most-at {n} l e = let h = most-greatest .above n (reached e) in omega arith

@@ -6,12 +6,12 @@ use mathlib.Core.Bool.{Bool, true, false, _||_, or-true, and-false}
 use mathlib.Core.Logic.{_⊎_, inl, inr, ⊎-elim}
 use native.Mathlib.Omega.{arith}
 use native.Mathlib.Nat.{eq-or-lt-of-le, le-of-suc-le-suc}
-use lib.Dec.{ltb, eqb}
-use borrow.Author.Tests.{ltb-true, lt-ltb, ltb-false, eqb-true, eq-eqb, ne-eqb}
+use lib.Dec.{eqb}
+use borrow.Author.Tests.{ltb-true, ltb-false, eqb-true, eq-eqb, ne-eqb}
 use Rattle.search.proofs.Choice.{true-not-false, lt-or-le, when-yes, when-no, when-cases}
 use Rattle.search.specs.Find.{first}
 use Rattle.search.specs.Choice.{_when_else_}
-use Rattle.search.proofs.Find.{first-le, first-miss, first-none}
+use Rattle.search.proofs.Find.{first-miss, first-none}
 use Rattle.packing.specs.Packing.{bit, sum, usable}
 use Rattle.packing.specs.Most.{lacks, fits, less, reach}
 use Rattle.packing.proofs.Sums.{is, is-other, sum-add, sum-is, sum-ext, sum-zero}
@@ -35,13 +35,6 @@ fits-room m room h i l =
 pub room-fits : (m : ℕ) (room : ℕ → ℕ) → ((i : ℕ) → i < 6 → bit i m ≤ room i) → fits m room ≡ true
 room-fits m room h = eq-eqb _ 6 (first-none (lacks m room) 0 6 (λ i a b e. omega (arith, ltb-true (room i) (bit i m) e, h i b)))
 
--- by the first active segment that lacks room
-pub lacking-full : (m : ℕ) (room : ℕ → ℕ) {r : ℕ} → r ≡ first (lacks m room) 0 6 → r < 6 → fits m room ≡ false
-lacking-full m room e h = ne-eqb (first (lacks m room) 0 6) 6 (λ q. omega arith)
-
-pub lacking-fits : (m : ℕ) (room : ℕ → ℕ) {r : ℕ} → r ≡ first (lacks m room) 0 6 → 6 ≤ r → fits m room ≡ true
-lacking-fits m room e h = eq-eqb (first (lacks m room) 0 6) 6 (omega (arith, first-le (lacks m room) 0 6))
-
 -- m once more
 abbrev more : ℕ → (ℕ → ℕ) → ℕ → ℕ
 more m u x = is m x + u x
@@ -64,11 +57,6 @@ or-cases false b e = inr e
 pub reach-end : (bad : ℕ → Bool) (k : ℕ) (room : ℕ → ℕ) → reach bad 0 (suc k) room ≡ false
 unfolding reach
 reach-end bad k room = refl
-
-pub reach-some : (bad : ℕ → Bool) (n k : ℕ) (room : ℕ → ℕ) → reach bad n k room ≡ false → 0 < k
-unfolding reach
-reach-some bad n zero room e = absurd (true-not-false refl e)
-reach-some bad n (suc k) room e = omega arith
 
 -- the steps of the search
 module _ (bad : ℕ → Bool) (m k : ℕ) (room : ℕ → ℕ) where
@@ -187,58 +175,3 @@ uses-reach bad (suc m) (suc k) room u p e =
     (λ h. inl (uses-reach bad m (suc k) room u (lower bad m room u p) (omega arith)))
     (lt-or-le 0 (u m)))
     (usable bad m) refl (fits m room) refl
-
--- the search goes by the room of the six active segments
-both : (x y : Bool) → (x ≡ true → y ≡ true) → (y ≡ true → x ≡ true) → x ≡ y
-both true y f g = sym (f refl)
-both false true f g = g refl
-both false false f g = refl
-
-pub reach-ext : (bad : ℕ → Bool) (n k : ℕ) (room other : ℕ → ℕ) → ((i : ℕ) → i < 6 → room i ≡ other i) → reach bad n k room ≡ reach bad n k other
-reach-ext bad n k room other e = both _ _ (moved room other e) (moved other room (λ i l. sym (e i l)))
-  where
-    moved : (a b : ℕ → ℕ) → ((i : ℕ) → i < 6 → a i ≡ b i) → reach bad n k a ≡ true → reach bad n k b ≡ true
-    moved a b e h =
-        let u = reach-uses bad n k a h in
-        uses-reach bad n k b (u .uses) (record { only = u .packing .only; within = λ i l. omega (arith, u .packing .within i l, e i l) }) (u .total)
-
--- the steps as the code takes them
-module _ (bad : ℕ → Bool) where
-  pub step-done : (n k : ℕ) (room : ℕ → ℕ) → k ≡ 0 → true ≡ reach bad n k room
-  unfolding reach
-  step-done n k room e = rw e refl
-
-  pub step-end : (n k : ℕ) (room : ℕ → ℕ) → (k ≡ 0 → ⊥) → n ≤ 1 → false ≡ reach bad n k room
-  step-end n zero room h l = absurd (h refl)
-  step-end zero (suc k) room h l = sym (reach-end bad k room)
-  step-end (suc zero) (suc k) room h l = sym (reach-good bad 0 k room refl ∙ reach-end bad k room)
-  step-end (suc (suc n)) (suc k) room h l = absurd (omega arith)
-
-  pub step-good : (n k : ℕ) (room : ℕ → ℕ) → 1 < n → bad (n - 1) ≡ false → reach bad n k room ≡ reach bad (n - 1) k room
-  step-good n zero room h e = sym (step-done n 0 room refl) ∙ step-done (n - 1) 0 room refl
-  step-good zero (suc k) room h e = absurd (omega arith)
-  step-good (suc m) (suc k) room h e =
-      let q : suc m - 1 ≡ m = omega arith in
-      rw q (reach-good bad m k room (rw (sym q, e) (and-false (ltb 0 (suc m - 1)))))
-
-  pub step-full : (n k : ℕ) (room : ℕ → ℕ) → 1 < n → fits (n - 1) room ≡ false → reach bad n k room ≡ reach bad (n - 1) k room
-  step-full n zero room h e = sym (step-done n 0 room refl) ∙ step-done (n - 1) 0 room refl
-  step-full zero (suc k) room h e = absurd (omega arith)
-  step-full (suc m) (suc k) room h e =
-      let q : suc m - 1 ≡ m = omega arith in
-      rw q (reach-full bad m k room (rw q at e))
-
-  -- `once` says whether k - 1 more have room once n - 1 is used, and it says b
-  pub step-use : (n k : ℕ) (room left : ℕ → ℕ) (once b : Bool) → (k ≡ 0 → ⊥) → 1 < n → bad (n - 1) ≡ true → fits (n - 1) room ≡ true
-      → ((i : ℕ) → i < 6 → left i ≡ less (n - 1) room i) → once ≡ reach bad n (k - 1) left → once ≡ b
-      → reach bad n k room ≡ (b || reach bad (n - 1) k room)
-  step-use n zero room left once b z h e f g o s = absurd (z refl)
-  step-use zero (suc k) room left once b z h e f g o s = absurd (omega arith)
-  step-use (suc m) (suc k) room left once b z h e f g o s =
-      let q : suc m - 1 ≡ m = omega arith in
-      let r : suc k - 1 ≡ k = omega arith in
-      let some : 0 < m = omega arith in
-      let p : b ≡ reach bad (suc m) k (less m room) =
-      sym s ∙ o ∙ ap (λ j. reach bad (suc m) j left) r
-      ∙ reach-ext bad (suc m) k left (less m room) (λ i l. g i l ∙ ap (λ x. less x room i) q) in
-      rw (q, p) (reach-use bad m k room (rw (lt-ltb 0 m some) (rw q at e)) (rw q at f))

@@ -1,6 +1,6 @@
 -- How often a kept combination is tried: the uses that come into question, fewer with each try that fails. Assumes nothing.
 use Prim.Native.Nat.{ℕ, zero, suc, _+_, _-_, _*_, _≤_, _<_}
-use mathlib.Core.Path.{_≡_, refl, sym, ap, _∙_}
+use mathlib.Core.Path.{_≡_, refl, ap}
 use mathlib.Core.Bool.{true, false}
 use mathlib.Core.List.{List}
 use mathlib.Core.Logic.{⊎-elim}
@@ -77,18 +77,18 @@ module _ {kept : List ℕ} {last : ℕ} {room : ℕ → ℕ} {need : ℕ} where
       → Choices kept last room need x → Choices kept last room need r
   choices-less l h c = record { few = omega (arith, c .few); enough = λ y s. c .enough y (omega arith); fewer = h }
 
-  -- x - 1 uses were tried: there is no room for the rest
-  pub choices-tried : {x : ℕ} (left : ℕ → ℕ) → 0 < x → ((i : ℕ) → i < 6 → left i ≡ room i - (x - 1) * bit i (nth kept last))
-      → (HasRoom kept last left (need - (x - 1)) → ⊥) → Choices kept last room need x → Choices kept last room need (x - 1)
+  -- x - 1 uses were tried, and there is no room for the rest: r is one less at most
+  pub choices-tried : {x r : ℕ} (left : ℕ → ℕ) → r ≤ x → x ≤ r + 1 → ((i : ℕ) → i < 6 → left i ≡ room i - (x - 1) * bit i (nth kept last))
+      → (HasRoom kept last left (need - (x - 1)) → ⊥) → Choices kept last room need x → Choices kept last room need r
   unfolding sum
-  choices-tried {x} left some e none c = choices-less (omega arith)
+  choices-tried {x} {r} left less one e none c = choices-less less
       (λ u p t. ⊎-elim
       (λ q. absurd (none record {
         uses = u;
         packed = record { within = λ i l. omega (arith, p .within i l, e i l, ap (λ z. z * bit i (nth kept last)) q) };
         total = omega (arith, t);
       }))
-      (λ q. q)
+      (λ q. omega arith)
       (eq-or-lt-of-le (let h : u last ≤ x - 1 = omega (arith, c .fewer u p t) in h)))
       c
 

@@ -22,6 +22,10 @@ maxChosen = 160
 abbrev pub maxRoom : ℕ
 maxRoom = 1530
 
+-- no room weighs more, by any bytes as weights
+abbrev pub maxWeight : ℕ
+maxWeight = 390150
+
 -- the kept combination j
 abbrev pub nth : List ℕ → ℕ → ℕ
 nth kept j = getD kept j 0

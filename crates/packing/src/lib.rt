@@ -3,10 +3,10 @@ mod masks;
 mod weights;
 
 ghost use mathlib.Core.Path.{_≡_};
-ghost use Prim.Native.Nat.{_≤_, _<_};
+ghost use Prim.Native.Nat.{_+_, _≤_, _<_};
 ghost use Rattle.packing.specs.Packing.{sum, combinations};
 ghost use Rattle.packing.specs.Most.{mostUses, flagged, capacity};
-ghost use Rattle.packing.specs.Engine.{HasRoom, Tells, Ceiling, Choices, maxRoom, maxChosen};
+ghost use Rattle.packing.specs.Engine.{HasRoom, Tells, Ceiling, Choices, maxRoom, maxChosen, maxWeight};
 ghost use Rattle.table.specs.Limits.{maxOverloads};
 use table::Table;
 
@@ -38,11 +38,15 @@ fn lower_ceiling(
     requires { ⌜ (count ≤ combinations) × (v < maxChosen) ⌝ }
     ensures { λ s. ⌜ (Ceiling (now (kept .entry)) count (capacity (now (room .entry))) r → Ceiling (now (kept .entry)) count (capacity (now (room .entry))) s) ⌝ }
 {
-    let d = weights::floor(kept, count, shares, v);
+    if r == 0 {
+        return r;
+    }
+    let all = weights::weigh(shares, v, room);
+    let d = weights::floor(kept, count, shares, v, 255, all / r);
     if d == 0 {
         return r;
     }
-    let most = weights::weigh(shares, v, room) / d;
+    let most = all / d;
     if most < r { most } else { r }
 }
 
@@ -67,6 +71,21 @@ fn ceiling(
     r
 }
 
+// Up to which floor d a weighting rules none of 0, 1, .., x uses of a combination of weight w out, where the room weighs `all`:
+// x uses of weight w and need - x uses of weight d still have room. A wrong number would cost time, and nothing else.
+fn idle(all: u32, w: u32, need: u32, x: u32) -> u32
+    requires { ⌜ (w ≤ maxWeight) × (x ≤ maxRoom) ⌝ }
+{
+    if need <= x {
+        return w;
+    }
+    let spent = w * x;
+    if all < spent {
+        return w;
+    }
+    (all - spent) / (need - x)
+}
+
 // What the weighting v leaves of the choices x: with y uses of the kept combination `last`, what the room weighs must be enough for
 // these, and for d times the uses of those before it.
 fn lower_choices(
@@ -78,19 +97,22 @@ fn lower_choices(
     need: u32,
     x: u32,
 ) -> u32
-    requires { ⌜ (v < maxChosen) × (last < combinations) × (need ≤ maxRoom) ⌝ }
+    requires { ⌜ (v < maxChosen) × (last < combinations) × (need ≤ maxRoom) × (x ≤ need + 1) ⌝ }
     ensures { λ r. ⌜ (Choices (now (kept .entry)) last (capacity (now (room .entry))) need x → Choices (now (kept .entry)) last (capacity (now (room .entry))) need r) ⌝ }
 {
-    let d = weights::floor(kept, last, shares, v);
-    let w = weights::weigh(shares, v, &masks::bits(kept[last]));
-    if w < d {
+    if x == 0 {
         return x;
     }
+    let w = weights::weigh(shares, v, &masks::bits(kept[last]));
     let all = weights::weigh(shares, v, room);
+    let d = weights::floor(kept, last, shares, v, w, idle(all, w, need, x - 1));
+    if d == 0 {
+        return x;
+    }
     if all < need * d {
         return 0;
     }
-    if w == d {
+    if d == w {
         return x;
     }
     let y = (all - need * d) / (w - d) + 1;
@@ -139,20 +161,20 @@ fn has_room(
         return false;
     }
     let last = n - 1;
-    let most = choices(kept, shares, used, last, &room, need);
-    let mut x = most;
+    let mut x = choices(kept, shares, used, last, &room, need);
     while 0 < x {
-        x -= 1;
+        let uses = x - 1;
         if has_room(
             kept,
             shares,
             used,
             last,
-            masks::spend(&room, kept[last], x),
-            need - x,
+            masks::spend(&room, kept[last], uses),
+            need - uses,
         ) {
             return true;
         }
+        x -= 1;
     }
     false
 }

@@ -8,7 +8,7 @@ ghost use Prim.Native.Nat.{ℕ, _<_, _≤_};
 ghost use lib.ListN.{getD};
 ghost use Rattle.packing.specs.Packing.{bit, combinations};
 ghost use Rattle.packing.specs.Most.{capacity};
-ghost use Rattle.packing.specs.Engine.{weight, weightings, maxChosen, Floor};
+ghost use Rattle.packing.specs.Engine.{weight, weightings, maxChosen, maxWeight, Floor};
 ghost use Rattle.table.specs.Limits.{maxOverloads};
 
 const WEIGHTINGS: usize = 975;
@@ -224,13 +224,16 @@ fn worth(kept: &[usize; COMBINATIONS], count: usize, shares: &[u8; SHARES], v: u
     let mut j: usize = 0;
     while j < count {
         let w = weigh(shares, v, &masks::bits(kept[j]));
+        if w == 0 {
+            return false;
+        }
         if w < least {
             least = w;
             equal = 1;
         } else if w == least {
             equal += 1;
         }
-        if 0 < least && some <= equal {
+        if some <= equal {
             return true;
         }
         j += 1;
@@ -261,7 +264,7 @@ pub(crate) fn choose(kept: &[usize; COMBINATIONS], count: usize, shares: &mut [u
 // What `amount` of each active segment weighs by the weighting v.
 pub(crate) fn weigh(shares: &[u8; SHARES], v: usize, amount: &[u8; Table::OVERLOADS]) -> u32
     requires { ⌜ v < maxChosen ⌝ }
-    ensures { λ r. ⌜ (r ≡ weight (now (shares .entry)) v (capacity (now (amount .entry)))) × (r ≤ 390150) ⌝ }
+    ensures { λ r. ⌜ (r ≡ weight (now (shares .entry)) v (capacity (now (amount .entry)))) × (r ≤ maxWeight) ⌝ }
 {
     let base = v * Table::OVERLOADS;
     let mut sum: u32 = 0;
@@ -282,14 +285,24 @@ fn lower(shares: &[u8; SHARES], v: usize, m: usize, d: u32) -> u32
     if w < d { w } else { d }
 }
 
-// What each of the first n kept combinations weighs at least by the weighting v.
-pub(crate) fn floor(kept: &[usize; COMBINATIONS], n: usize, shares: &[u8; SHARES], v: usize) -> u32
+// What each of the first n kept combinations weighs at least by the weighting v, up to `most`; 0 once it is no more than `idle`.
+pub(crate) fn floor(
+    kept: &[usize; COMBINATIONS],
+    n: usize,
+    shares: &[u8; SHARES],
+    v: usize,
+    most: u32,
+    idle: u32,
+) -> u32
     requires { ⌜ (n ≤ combinations) × (v < maxChosen) ⌝ }
-    ensures { λ r. ⌜ (Floor (now (kept .entry)) (now (shares .entry)) n v r) × (r ≤ 255) ⌝ }
+    ensures { λ r. ⌜ (Floor (now (kept .entry)) (now (shares .entry)) n v r) × (r ≤ most) ⌝ }
 {
-    let mut d: u32 = 255;
+    let mut d = most;
     let mut j: usize = 0;
     while j < n {
+        if d <= idle {
+            return 0;
+        }
         d = lower(shares, v, kept[j], d);
         j += 1;
     }

@@ -1,13 +1,12 @@
 -- By what is tried: fewer uses of the last kept combination come into question with each turn. The measure is n.
-use Prim.Native.Nat.{ℕ, suc, _-_, _*_, _≤_, _<_}
-use mathlib.Core.Path.{_≡_, sym, subst}
+use Prim.Native.Nat.{ℕ, _-_, _<_}
+use mathlib.Core.Path.{sym, subst}
 use native.Mathlib.Omega.{arith}
 use borrow.Author.Needs.{needs}
 use borrow.Fn.Kinds.{In}
 use borrow.Fn.PlainCycle.{Measures, is, falls, and}
-use Rattle.packing.specs.Packing.{bit}
 use Rattle.packing.specs.Most.{capacity}
-use Rattle.packing.specs.Engine.{nth, HasRoom, Choices}
+use Rattle.packing.specs.Engine.{HasRoom, Choices}
 use Rattle.packing.proofs.Tries.{none-fit, empty-fit, tells-so, tells-not, choices-tried, choices-end, choices-found}
 use Rattle.packing.proofs.has_room.Reads as has-room
 use Rattle.packing.proofs.has_room.Kinds as kinds
@@ -38,10 +37,10 @@ known t = (
 )
 
 abbrev Inv-loop : lts.InvT-loop
-Inv-loop kept shares used n need room last most x₀ x = Choices kept last (capacity room) need x
+Inv-loop kept shares used n need room last x₀ x = Choices kept last (capacity room) need x
 
 abbrev μ-loop : lts.MeasureT-loop
-μ-loop kept shares used n need room last most x₀ x = x
+μ-loop kept shares used n need room last x₀ x = x
 
 returns : (t : ℕ) → lts.Need-returns (known t) (has-room-at t) has-room.Post Inv-loop μ-loop
 returns t c = tells-so (subst (HasRoom _ _ _) (sym (c .if1 .taken)) (none-fit _ _ _))
@@ -58,8 +57,8 @@ choices-requires t c κs = let p = c .before .before .before .pre .1 in (p .0, o
 loop-holds : (t : ℕ) → lts.Need-loop-holds (known t) (has-room-at t) has-room.Post Inv-loop μ-loop
 loop-holds t c = c .choices .ensures
 
-sub-x : (t : ℕ) → lts.Need-sub-x (known t) (has-room-at t) has-room.Post Inv-loop μ-loop
-sub-x t c = search needs
+sub-uses : (t : ℕ) → lts.Need-sub-uses (known t) (has-room-at t) has-room.Post Inv-loop μ-loop
+sub-uses t c = search needs
 
 mul-spend : (t : ℕ) → lts.Need-mul-spend (known t) (has-room-at t) has-room.Post Inv-loop μ-loop
 mul-spend t c = search needs
@@ -87,11 +86,14 @@ returns-3 t c =
     let some = c .before .before .before .before .before .loop-test .taken in
     tells-so (choices-found (x - 1) _ (omega (arith, c .before .before .before .before .before .before .before .before .before .if2 .left)) (omega (arith, l .inv .few, some)) (l .inv .enough (x - 1) (omega (arith, some))) (c .before .before .spend .ensures) (c .before .has-room .ensures .so (c .if3 .taken)))
 
+sub-x : (t : ℕ) → lts.Need-sub-x (known t) (has-room-at t) has-room.Post Inv-loop μ-loop
+sub-x t c = search needs
+
 loop-less : (t : ℕ) → lts.Need-loop-less (known t) (has-room-at t) has-room.Post Inv-loop μ-loop
 loop-less t c = omega (arith, c .before .before .before .before .before .loop-test .taken)
 
 loop-again : (t : ℕ) → lts.Need-loop-again (known t) (has-room-at t) has-room.Post Inv-loop μ-loop
-loop-again t c = choices-tried _ (c .before .before .before .before .before .loop-test .taken) (c .before .before .spend .ensures) (c .before .has-room .ensures .not (c .if3 .left)) (c .before .before .before .before .before .before .loop .inv)
+loop-again t c = choices-tried _ (omega arith) (omega (arith, c .before .before .before .before .before .loop-test .taken)) (c .before .before .spend .ensures) (c .before .has-room .ensures .not (c .if3 .left)) (c .before .before .before .before .before .before .loop .inv)
 
 returns-4 : (t : ℕ) → lts.Need-returns-4 (known t) (has-room-at t) has-room.Post Inv-loop μ-loop
 returns-4 t c = tells-not (choices-end (omega (arith, c .before .before .before .before .if2 .left)) (c .loop-test .left) (c .before .loop .inv))
@@ -107,13 +109,14 @@ pub +has-room-spec : {M : Type 1} → statement M
     (sub-last t)
     (choices-requires t)
     (loop-holds t)
-    (sub-x t)
+    (sub-uses t)
     (mul-spend t)
     (element-copy-out-spend t)
     (spend-requires t)
     (sub-has-room t)
     (has-room-requires t)
     (returns-3 t)
+    (sub-x t)
     (loop-less t)
     (loop-again t)
     (returns-4 t)

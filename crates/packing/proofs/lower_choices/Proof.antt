@@ -1,6 +1,6 @@
 -- By the weights of the kept combination `last` and of those before it.
 use borrow.Author.Needs.{needs}
-use Prim.Native.Nat.{_*_, _-_, _/_, _≤_, _<_}
+use Prim.Native.Nat.{_*_, _-_, _≤_}
 use mathlib.Core.Path.{_≡_, _∙_}
 use native.Mathlib.Omega.{arith}
 use native.Mathlib.Nat.{mul-le-mul, div-le-self}
@@ -15,8 +15,15 @@ use Rattle.packing.proofs.lower_choices.Tie as tie
 weighs : (c : tie.After-weigh) → c .weigh .result ≡ weight (c .before .before .before .before .before .args .shares .now) (c .before .before .before .before .before .args .v) (λ i. bit i (nth (c .before .before .before .before .before .args .kept .now) (c .before .before .before .before .before .args .last)))
 weighs c = c .weigh .ensures .0 ∙ weight-ext _ _ _ _ (c .before .before .bits .ensures)
 
-floor-requires : tie.Need-floor-requires
-floor-requires c κs = search needs
+-- `need` times d is small
+few : (c : tie.After-floor) → c .before .before .before .before .before .before .before .before .args .need * c .floor .result ≤ 596929500
+few c =
+    let s = c .before .before .before .before .before .before .before .before in
+    let d : c .floor .result ≤ 390150 = omega (arith, c .floor .ensures .1, c .before .before .before .weigh .ensures .1) in
+    mul-le-mul (s .pre .2) d
+
+returns : tie.Need-returns
+returns c = search needs
 
 mul-bits : tie.Need-mul-bits
 mul-bits c = search needs
@@ -30,60 +37,82 @@ bits-requires c κs = search needs
 weigh-requires : tie.Need-weigh-requires
 weigh-requires c κs = search needs
 
-returns : tie.Need-returns
-returns c = search needs
-
 weigh-requires-2 : tie.Need-weigh-requires-2
 weigh-requires-2 c κs = search needs
 
--- `need` times d is small
-few : (c : tie.After-weigh2) → c .before .before .before .before .before .before .before .args .need * c .before .before .before .before .before .before .floor .result ≤ 390150
-few c = mul-le-mul (let h : c .before .before .before .before .before .before .before .args .need ≤ 1530 = omega arith in h) (c .before .before .before .before .before .before .floor .ensures .1)
+sub-idle : tie.Need-sub-idle
+sub-idle c = search needs
 
-mul-if2 : tie.Need-mul-if2
-mul-if2 c = omega (arith, few c)
+idle-requires : tie.Need-idle-requires
+idle-requires c κs = search needs
+
+floor-requires : tie.Need-floor-requires
+floor-requires c κs = search needs
 
 returns-2 : tie.Need-returns-2
-returns-2 c = λ h. choices-less (omega arith) (λ u p t. absurd (cut-none (c .before .before .before .before .before .before .before .floor .ensures .0) (weighs (c .before .before .before)) (c .before .weigh2 .ensures .0) u p t (c .before .before .if1 .left) (c .if2 .taken))) h
+returns-2 c = search needs
+
+mul-if3 : tie.Need-mul-if3
+mul-if3 c = omega (arith, few (c .before))
 
 returns-3 : tie.Need-returns-3
-returns-3 c = search needs
+returns-3 c =
+    λ h. choices-less (omega arith)
+    (λ u p t. absurd (cut-none (c .before .before .floor .ensures .0) (weighs (c .before .before .before .before .before)) (c .before .before .before .before .weigh2 .ensures .0) u p t (omega (arith, c .before .before .floor .ensures .1)) (omega (arith, c .if3 .taken))))
+    h
+
+returns-4 : tie.Need-returns-4
+returns-4 c = search needs
 
 mul-y : tie.Need-mul-y
-mul-y c = omega (arith, few (c .before .before))
+mul-y c = omega (arith, few (c .before .before .before))
 
 sub-y : tie.Need-sub-y
 sub-y c = search needs
+
+sub-y-2 : tie.Need-sub-y-2
+sub-y-2 c = search needs
 
 div-y : tie.Need-div-y
 div-y c = search needs
 
 add-y : tie.Need-add-y
-add-y c = let q = div-le-self (c .before .before .weigh2 .result - c .before .before .before .before .before .before .before .before .before .args .need * c .before .before .before .before .before .before .before .before .floor .result) (c .before .before .before .before .weigh .result - c .before .before .before .before .before .before .before .before .floor .result) in omega (arith, q, c .before .before .weigh2 .ensures .1)
-
-returns-4 : tie.Need-returns-4
-returns-4 c = λ h. choices-less (omega arith) (λ u p t. cut-above (c .before .before .before .before .before .before .before .before .before .floor .ensures .0) (weighs (c .before .before .before .before .before)) (c .before .before .before .weigh2 .ensures .0) u p t (omega (arith, c .before .before .before .before .if1 .left, c .before .if3 .left)) (c .before .before .if2 .left)) h
+add-y c =
+    let f = c .before .before .before in
+    let s = c .before .before .before .before .before .before .before .before .before .before .before in
+    let q = div-le-self (c .before .before .before .before .before .weigh2 .result - s .args .need * f .floor .result) (c .before .before .before .before .before .before .weigh .result - f .floor .result) in
+    omega (arith, q, c .before .before .before .before .before .weigh2 .ensures .1)
 
 returns-5 : tie.Need-returns-5
-returns-5 c = search needs
+returns-5 c =
+    λ h. choices-less (omega arith)
+    (λ u p t. cut-above (c .before .before .before .before .floor .ensures .0) (weighs (c .before .before .before .before .before .before .before)) (c .before .before .before .before .before .before .weigh2 .ensures .0) u p t (omega (arith, c .before .before .before .before .floor .ensures .1, c .before .if4 .left)) (c .before .before .if3 .left))
+    h
+
+returns-6 : tie.Need-returns-6
+returns-6 c = search needs
 
 pub lower-choices-spec : {M : Type 1} → statement M
 lower-choices-spec =
     tie.close
     (tie.spec
-    floor-requires
+    returns
     mul-bits
     element-copy-out-bits
     bits-requires
     weigh-requires
-    returns
     weigh-requires-2
-    mul-if2
+    sub-idle
+    idle-requires
+    floor-requires
     returns-2
+    mul-if3
     returns-3
+    returns-4
     mul-y
     sub-y
+    sub-y-2
     div-y
     add-y
-    returns-4
-    returns-5)
+    returns-5
+    returns-6)

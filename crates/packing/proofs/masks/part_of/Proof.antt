@@ -1,8 +1,10 @@
 -- No kept combination before j is a part of m.
+use Prim.Native.Nat.{ℕ, _-_}
+use native.Mathlib.Omega.{arith}
 use borrow.Author.Needs.{needs}
-use Prim.Native.Nat.{_-_, _≤_}
 use borrow.Author.Tests.{eq-eqb, ne-eqb}
-use Rattle.packing.specs.Engine.{part}
+use lib.Bits.{bitAnd}
+use Rattle.packing.specs.Engine.{nth, part}
 use Rattle.packing.proofs.Loops.{Passed, passed-start, passed-on, passed-hit, passed-end}
 use Rattle.packing.proofs.masks.part_of.Statement.{statement}
 use Rattle.packing.proofs.masks.part_of.Tie as tie
@@ -12,6 +14,13 @@ Inv-loop kept count m j₀ j = Passed (part kept m) 0 count j
 
 abbrev μ-loop : tie.MeasureT-loop
 μ-loop kept count m j₀ j = count - j
+
+-- the kept combination j, and its part in m
+abbrev own : tie.After-s Inv-loop μ-loop → ℕ
+own c = nth (c .before .before .before .args .kept .now) (c .before .before .loop .j)
+
+abbrev shared : tie.After-s Inv-loop μ-loop → ℕ
+shared c = bitAnd (own c) (c .before .before .before .args .m)
 
 loop-holds : tie.Need-loop-holds Inv-loop μ-loop
 loop-holds c = passed-start _ 0 _
@@ -23,7 +32,7 @@ element-copy-out-s : tie.Need-element-copy-out-s Inv-loop μ-loop
 element-copy-out-s c = search needs
 
 returns : tie.Need-returns Inv-loop μ-loop
-returns c = passed-hit (c .before .before .before .loop .inv) (search needs) (eq-eqb _ _ (c .if1 .taken))
+returns c = passed-hit (c .before .before .before .loop .inv) (search needs) (eq-eqb (shared (c .before)) (own (c .before)) (omega (arith, c .if1 .taken)))
 
 add-j : tie.Need-add-j Inv-loop μ-loop
 add-j c = search needs
@@ -32,7 +41,7 @@ loop-less : tie.Need-loop-less Inv-loop μ-loop
 loop-less c = search needs
 
 loop-again : tie.Need-loop-again Inv-loop μ-loop
-loop-again c = passed-on (c .before .before .before .loop .inv) (search needs) (ne-eqb _ _ (c .if1 .left))
+loop-again c = passed-on (c .before .before .before .loop .inv) (search needs) (ne-eqb (shared (c .before)) (own (c .before)) (λ e. omega (arith, e, c .if1 .left)))
 
 returns-2 : tie.Need-returns-2 Inv-loop μ-loop
 returns-2 c = passed-end (c .before .loop .inv) (search needs)

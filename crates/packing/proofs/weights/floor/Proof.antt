@@ -4,18 +4,21 @@ use Prim.Native.Nat.{_-_, _≤_}
 use mathlib.Core.Path.{_≡_}
 use native.Mathlib.Omega.{arith}
 use Rattle.packing.specs.Engine.{Floor}
-use Rattle.packing.proofs.Cut.{floor-start, floor-on}
+use Rattle.packing.proofs.Cut.{floor-start, floor-none, floor-on}
 use Rattle.packing.proofs.weights.floor.Statement.{statement}
 use Rattle.packing.proofs.weights.floor.Tie as tie
 
 abbrev Inv-loop : tie.InvT-loop
-Inv-loop kept n shares v d₀ j₀ d j = (j ≤ n) × (d ≤ 255) × Floor kept shares j v d
+Inv-loop kept n shares v most idle d₀ j₀ d j = (j ≤ n) × (d ≤ most) × Floor kept shares j v d
 
 abbrev μ-loop : tie.MeasureT-loop
-μ-loop kept n shares v d₀ j₀ d j = n - j
+μ-loop kept n shares v most idle d₀ j₀ d j = n - j
 
 loop-holds : tie.Need-loop-holds Inv-loop μ-loop
 loop-holds c = (search needs, search needs, floor-start _ _)
+
+returns : tie.Need-returns Inv-loop μ-loop
+returns c = (floor-none _ _, search needs)
 
 mul-lower : tie.Need-mul-lower Inv-loop μ-loop
 mul-lower c = search needs
@@ -34,11 +37,11 @@ loop-less c = search needs
 
 loop-again : tie.Need-loop-again Inv-loop μ-loop
 loop-again c =
-    let i = c .before .before .before .loop .inv in
+    let i = c .before .before .before .before .loop .inv in
     (search needs, omega (arith, c .lower .ensures .0, i .1), floor-on (i .2) (c .lower .ensures .0) (c .lower .ensures .1))
 
-returns : tie.Need-returns Inv-loop μ-loop
-returns c =
+returns-2 : tie.Need-returns-2 Inv-loop μ-loop
+returns-2 c =
     let i = c .before .loop .inv in
     let e : c .before .loop .j ≡ c .before .before .args .n = omega (arith, i .0) in
     (rw e at (i .2), i .1)
@@ -50,10 +53,11 @@ floor-spec =
     Inv-loop
     μ-loop
     loop-holds
+    returns
     mul-lower
     element-copy-out-lower
     lower-requires
     add-j
     loop-less
     loop-again
-    returns)
+    returns-2)

@@ -30,11 +30,14 @@ bits-requires c κs = search needs
 weigh-requires : tie.Need-weigh-requires Inv-loop μ-loop
 weigh-requires c κs = search needs
 
+returns : tie.Need-returns Inv-loop μ-loop
+returns c = search needs
+
 add-equal : tie.Need-add-equal Inv-loop μ-loop
 add-equal c = omega arith
 
-returns : tie.Need-returns Inv-loop μ-loop
-returns c = search needs
+returns-2 : tie.Need-returns-2 Inv-loop μ-loop
+returns-2 c = search needs
 
 add-j : tie.Need-add-j Inv-loop μ-loop
 add-j c = search needs
@@ -43,10 +46,10 @@ loop-less : tie.Need-loop-less Inv-loop μ-loop
 loop-less c = search needs
 
 loop-again : tie.Need-loop-again Inv-loop μ-loop
-loop-again c = ⊎-elim (λ w. omega arith) (⊎-elim (λ w. omega arith) (λ w. omega arith)) (c .before .if1 .came)
+loop-again c = ⊎-elim (λ w. omega arith) (⊎-elim (λ w. omega arith) (λ w. omega arith)) (c .before .if2 .came)
 
-returns-2 : tie.Need-returns-2 Inv-loop μ-loop
-returns-2 c = search needs
+returns-3 : tie.Need-returns-3 Inv-loop μ-loop
+returns-3 c = search needs
 
 pub worth-spec : {M : Type 1} → statement M
 worth-spec =
@@ -60,9 +63,10 @@ worth-spec =
     element-copy-out-bits
     bits-requires
     weigh-requires
-    add-equal
     returns
+    add-equal
+    returns-2
     add-j
     loop-less
     loop-again
-    returns-2)
+    returns-3)
