@@ -91,14 +91,37 @@ pub(crate) fn wide(x: u8) -> u32
     x as u32
 }
 
-// How many combinations have i in them and a kept one too.
-fn holders(kept: &[usize; COMBINATIONS], count: usize, i: usize) -> u8
+// The active segments that stand in kept combinations, as a combination.
+fn together(kept: &[usize; COMBINATIONS], count: usize) -> usize
+    requires { ⌜ count ≤ combinations ⌝ }
+{
+    let mut all: usize = 0;
+    let mut j: usize = 0;
+    while j < count {
+        all |= kept[j];
+        j += 1;
+    }
+    all
+}
+
+// Whether m is a combination of active segments of `all`, and has a kept one in it.
+fn holds(kept: &[usize; COMBINATIONS], count: usize, all: usize, m: usize) -> bool
+    requires { ⌜ count ≤ combinations ⌝ }
+{
+    if m & all != m {
+        return false;
+    }
+    masks::part_of(kept, count, m) < count
+}
+
+// How many combinations of active segments of `all` have i in them, and a kept one too.
+fn holders(kept: &[usize; COMBINATIONS], count: usize, all: usize, i: usize) -> u8
     requires { ⌜ (count ≤ combinations) × (i < maxOverloads) ⌝ }
 {
     let mut held: u8 = 0;
     let mut m: usize = 1;
-    while m < COMBINATIONS {
-        if masks::part_of(kept, count, m) < count {
+    while m < COMBINATIONS && m <= all {
+        if holds(kept, count, all, m) {
             held += masks::has(m, i);
         }
         m += 1;
@@ -107,13 +130,13 @@ fn holders(kept: &[usize; COMBINATIONS], count: usize, i: usize) -> u8
 }
 
 // The `holders` of each active segment.
-fn all_holders(kept: &[usize; COMBINATIONS], count: usize) -> [u8; Table::OVERLOADS]
+fn all_holders(kept: &[usize; COMBINATIONS], count: usize, all: usize) -> [u8; Table::OVERLOADS]
     requires { ⌜ count ≤ combinations ⌝ }
 {
     let mut out = [0u8; Table::OVERLOADS];
     let mut i: usize = 0;
     while i < Table::OVERLOADS {
-        out[i] = holders(kept, count, i);
+        out[i] = holders(kept, count, all, i);
         i += 1;
     }
     out
@@ -163,19 +186,6 @@ fn first_rows(segments: u32) -> usize
         5 => 102,
         _ => WEIGHTINGS,
     }
-}
-
-// How many active segments stand in kept combinations.
-fn segments(kept: &[usize; COMBINATIONS], count: usize) -> u32
-    requires { ⌜ count ≤ combinations ⌝ }
-{
-    let mut all: usize = 0;
-    let mut j: usize = 0;
-    while j < count {
-        all |= kept[j];
-        j += 1;
-    }
-    usize::count_ones(all)
 }
 
 // The row v of the table as the weighting `at` of `shares`, its digits where the active segments stand.
@@ -247,8 +257,9 @@ pub(crate) fn choose(kept: &[usize; COMBINATIONS], count: usize, shares: &mut [u
     ensures { λ r. ⌜ r ≤ maxChosen ⌝ }
 {
     let table = WEIGHTS;
-    let rank = ranks(&all_holders(kept, count));
-    let rows = first_rows(segments(kept, count));
+    let all = together(kept, count);
+    let rank = ranks(&all_holders(kept, count, all));
+    let rows = first_rows(usize::count_ones(all));
     let mut used: usize = 0;
     let mut v: usize = 0;
     while v < rows && used < CHOSEN {

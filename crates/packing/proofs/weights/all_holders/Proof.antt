@@ -8,10 +8,10 @@ use Rattle.packing.proofs.weights.all_holders.Statement.{statement}
 use Rattle.packing.proofs.weights.all_holders.Tie as tie
 
 abbrev Inv-loop : tie.InvT-loop
-Inv-loop kept count out₀ i₀ out i = (i ≤ 6) × (length out ≡ 6)
+Inv-loop kept count all out₀ i₀ out i = (i ≤ 6) × (length out ≡ 6)
 
 abbrev μ-loop : tie.MeasureT-loop
-μ-loop kept count out₀ i₀ out i = 6 - i
+μ-loop kept count all out₀ i₀ out i = 6 - i
 
 loop-holds : tie.Need-loop-holds Inv-loop μ-loop
 loop-holds c = search needs

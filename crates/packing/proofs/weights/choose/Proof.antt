@@ -8,19 +8,19 @@ use Rattle.packing.proofs.weights.choose.Statement.{statement}
 use Rattle.packing.proofs.weights.choose.Tie as tie
 
 abbrev Inv-loop : tie.InvT-loop
-Inv-loop kept count shares₀ table rank rows used₀ v₀ shares used v = (v ≤ rows) × (used ≤ 160)
+Inv-loop kept count shares₀ table all rank rows used₀ v₀ shares used v = (v ≤ rows) × (used ≤ 160)
 
 abbrev μ-loop : tie.MeasureT-loop
-μ-loop kept count shares₀ table rank rows used₀ v₀ shares used v = rows - v
+μ-loop kept count shares₀ table all rank rows used₀ v₀ shares used v = rows - v
+
+together-requires : tie.Need-together-requires Inv-loop μ-loop
+together-requires c κs = search needs
 
 all-holders-requires : tie.Need-all-holders-requires Inv-loop μ-loop
 all-holders-requires c κs = search needs
 
 ranks-requires : tie.Need-ranks-requires Inv-loop μ-loop
 ranks-requires c κs = search needs
-
-segments-requires : tie.Need-segments-requires Inv-loop μ-loop
-segments-requires c κs = search needs
 
 first-rows-requires : tie.Need-first-rows-requires Inv-loop μ-loop
 first-rows-requires c κs = search needs
@@ -58,9 +58,9 @@ choose-spec =
     (tie.spec
     Inv-loop
     μ-loop
+    together-requires
     all-holders-requires
     ranks-requires
-    segments-requires
     first-rows-requires
     loop-holds
     share-requires

@@ -7,16 +7,16 @@ use Rattle.packing.proofs.weights.holders.Statement.{statement}
 use Rattle.packing.proofs.weights.holders.Tie as tie
 
 abbrev Inv-loop : tie.InvT-loop
-Inv-loop kept count i held₀ m₀ held m = (held < m) × (m ≤ 64)
+Inv-loop kept count all i held₀ m₀ held m = (held < m) × (m ≤ 64)
 
 abbrev μ-loop : tie.MeasureT-loop
-μ-loop kept count i held₀ m₀ held m = 64 - m
+μ-loop kept count all i held₀ m₀ held m = 64 - m
 
 loop-holds : tie.Need-loop-holds Inv-loop μ-loop
 loop-holds c = search needs
 
-part-of-requires : tie.Need-part-of-requires Inv-loop μ-loop
-part-of-requires c κs = search needs
+holds-requires : tie.Need-holds-requires Inv-loop μ-loop
+holds-requires c κs = search needs
 
 has-requires : tie.Need-has-requires Inv-loop μ-loop
 has-requires c κs = search needs
@@ -31,10 +31,13 @@ loop-less : tie.Need-loop-less Inv-loop μ-loop
 loop-less c = search needs
 
 loop-again : tie.Need-loop-again Inv-loop μ-loop
-loop-again c = ⊎-elim (λ w. omega arith) (λ w. omega arith) (c .if1 .came)
+loop-again c = ⊎-elim (λ w. omega arith) (λ w. omega arith) (c .if2 .came)
 
 returns : tie.Need-returns Inv-loop μ-loop
 returns c = search needs
+
+returns-2 : tie.Need-returns-2 Inv-loop μ-loop
+returns-2 c = search needs
 
 pub holders-spec : {M : Type 1} → statement M
 holders-spec =
@@ -43,10 +46,11 @@ holders-spec =
     Inv-loop
     μ-loop
     loop-holds
-    part-of-requires
+    holds-requires
     has-requires
     add-held
     add-m
     loop-less
     loop-again
-    returns)
+    returns
+    returns-2)

@@ -1,8 +1,8 @@
 -- Only places.
 use borrow.Author.Needs.{needs}
 use Prim.Native.Nat.{_-_, _≤_}
-use Rattle.packing.proofs.weights.segments.Statement.{statement}
-use Rattle.packing.proofs.weights.segments.Tie as tie
+use Rattle.packing.proofs.weights.together.Statement.{statement}
+use Rattle.packing.proofs.weights.together.Tie as tie
 
 abbrev Inv-loop : tie.InvT-loop
 Inv-loop kept count all₀ j₀ all j = j ≤ count
@@ -31,8 +31,8 @@ loop-again c = search needs
 returns : tie.Need-returns Inv-loop μ-loop
 returns c = search needs
 
-pub segments-spec : {M : Type 1} → statement M
-segments-spec =
+pub together-spec : {M : Type 1} → statement M
+together-spec =
     tie.close
     (tie.spec
     Inv-loop
