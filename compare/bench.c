@@ -14,8 +14,11 @@
 #include <string.h>
 #include <time.h>
 
-enum { LATENCY, MISSES, SEGMENT, SAVE };
-enum { MOST_CALLS = 512, MOST_TABLES = 32, ROUNDS = 5 };
+/* The report's text as the library has it, in libreport_entry.a: its length. */
+size_t mishtodran_report(const uint8_t *table, size_t table_len, uint8_t *out);
+
+enum { LATENCY, MISSES, SEGMENT, SAVE, REPORT };
+enum { MOST_CALLS = 512, MOST_TABLES = 32, ROUNDS = 5, ROOM = 1123 }; /* ROOM: of an answer, and the longest report */
 
 static const double LEAST_SECONDS = 0.05; /* of one run */
 
@@ -43,10 +46,17 @@ struct side {
     uint32_t (*misses)(const uint8_t *, size_t, uint32_t, uint32_t, uint8_t *, size_t);
     uint32_t (*segment)(const uint8_t *, size_t, uint32_t, uint32_t, uint32_t, uint8_t *, size_t);
     uint32_t (*save)(uint8_t *, size_t, uint64_t, const uint8_t *, size_t, const uint8_t *, size_t, uint8_t *, size_t);
+    size_t (*report)(const uint8_t *, size_t, uint8_t *);
 };
 
-static const struct side proved = {mishtodran_latency, mishtodran_misses, mishtodran_segment, mishtodran_save};
-static const struct side plain = {plain_latency, plain_misses, plain_segment, plain_save};
+static size_t plain_report_text(const uint8_t *table, size_t table_len, uint8_t *out)
+{
+    return plain_report(table, table_len, (char *)out, ROOM);
+}
+
+static const struct side proved = {mishtodran_latency, mishtodran_misses, mishtodran_segment, mishtodran_save,
+                                   mishtodran_report};
+static const struct side plain = {plain_latency, plain_misses, plain_segment, plain_save, plain_report_text};
 
 /* The deadline of a table's first chain becomes another, and then what it was. */
 static uint32_t save_and_back(const struct side *side, const struct call *call, uint8_t *answer)
@@ -72,6 +82,8 @@ static uint32_t run_call(const struct side *side, const struct call *call, uint8
         return side->misses(bytes, length, call->number[0], call->number[1], answer, 4);
     case SEGMENT:
         return side->segment(bytes, length, call->number[0], call->number[1], call->number[2], answer, 8);
+    case REPORT:
+        return (uint32_t)side->report(bytes, length, answer);
     default:
         return save_and_back(side, call, answer);
     }
@@ -88,7 +100,7 @@ static double now(void)
 
 static double seconds_for(const struct side *side, const struct bench_case *what, unsigned long times)
 {
-    uint8_t answer[16];
+    uint8_t answer[ROOM];
     double start = now();
     for (unsigned long i = 0; i < times; i++)
         for (unsigned n = 0; n < what->calls; n++)
@@ -114,7 +126,7 @@ static double least(double a, double b) { return a < b ? a : b; }
 static bool agree(const struct bench_case *what)
 {
     for (unsigned i = 0; i < what->calls; i++) {
-        uint8_t one[16] = {0}, other[16] = {0};
+        uint8_t one[ROOM] = {0}, other[ROOM] = {0};
         if (run_call(&proved, &what->call[i], one) != run_call(&plain, &what->call[i], other) ||
             memcmp(one, other, sizeof one) != 0)
             return false;
@@ -174,6 +186,15 @@ static void measure_all(const char *name, unsigned entry, struct stored *first, 
     measure(&what);
 }
 
+static void measure_reports(const char *name, struct stored *first, unsigned count)
+{
+    static struct bench_case what;
+    what = (struct bench_case){.name = name, .calls = count};
+    for (unsigned t = 0; t < count; t++)
+        what.call[t] = (struct call){.entry = REPORT, .table = &first[t]};
+    measure(&what);
+}
+
 static void usual_cases(struct source *source)
 {
     struct stored *sample = keep(sample_table());
@@ -193,6 +214,9 @@ static void usual_cases(struct source *source)
     measure_all("misses, random tables of 16 chains, k 10", MISSES, random, 16, 10);
     measure_one("two saves, sample", SAVE, sample, 0, 0, 0);
     measure_one("two saves, full table", SAVE, full, 0, 0, 0);
+    measure_one("report, sample", REPORT, sample, 0, 0, 0);
+    measure_one("report, case study", REPORT, study, 0, 0, 0);
+    measure_reports("report, random tables of 16 chains", random, 16);
 }
 
 /* ---- Slow cases ---- */

@@ -1,6 +1,7 @@
 -- What an accepted row gives: its distances are good ones, and its largest distances are bounded. Assumes nothing.
 use Prim.Native.Nat.{ℕ, _+_, _*_, _-_, _≤_}
 use mathlib.Core.Path.{_≡_, sym, _∙_}
+use mathlib.Core.List.{List}
 use mathlib.Core.Logic.{⊎-elim}
 use native.Mathlib.Omega.{arith}
 use native.Mathlib.Nat.{mul-le-mul, sub-le}
@@ -10,6 +11,8 @@ use Rattle.search.proofs.Choice.{lt-or-le}
 use Rattle.table.specs.Limits.{maxGap}
 use Rattle.table.specs.Good.{GoodRow}
 use Rattle.table.specs.declared.Row.{Row}
+use Rattle.table.specs.Record.{listedAt, rowAt}
+use Rattle.table.specs.Taken.{Stands}
 use Rattle.arrivals.specs.Arrivals.{distances, GoodDistances, largest}
 
 module _ {r : Row} (good : GoodRow r) where
@@ -41,3 +44,12 @@ module _ {r : Row} (good : GoodRow r) where
   pub largest-near : (k : ℕ) → largest r k ≤ k * maxGap
   unfolding largest
   largest-near k = mul-le-mul (sub-le k 1) (good .gap-max)
+
+-- the chain whose record stands in the bytes
+module _ {s : List ℕ} {at : ℕ} (there : Stands s at) where
+  pub stands-distances : GoodDistances (distances (rowAt s at))
+  stands-distances = good-distances (there .good)
+
+  pub stands-length : length (distances (rowAt s at)) ≡ listedAt s at
+  unfolding rowAt
+  stands-length = distances-length (there .good)

@@ -60,3 +60,8 @@ module _ {ds : List ℕ} (good : GoodDistances ds) where
       let u : j < length ds = mod-lt n (good .some) in
       subst₂ P (sym (δ-turns i j (omega arith)) ∙ ap (δ ds) (omega arith)) (sym (δ-turns i (suc j) u) ∙ ap (δ ds) (omega arith))
       (f (i * asListed ds (length ds)) j u)
+
+  -- a list of one distance: each activation after the first is a turn
+  pub δ-single : length ds ≡ 1 → (n : ℕ) → 0 < n → δ ds n ≡ (n - 1) * asListed ds 1
+  unfolding asListed
+  δ-single e n h = ap (δ ds) (omega (arith, ap (λ l. (n - 1) * l) e)) ∙ δ-turns (n - 1) 0 zero-le ∙ omega (arith, ap (λ l. (n - 1) * asListed ds l) e)

@@ -17,7 +17,7 @@ use Rattle.table.specs.Good.{GoodTable}
 use Rattle.table.specs.Read.{accepted, readTable, numberOf}
 use Rattle.table.specs.declared.Row.{Row}
 use Rattle.table.specs.declared.Table.{Table}
-use Rattle.table.proofs.Accepted.{accepted-good}
+use Rattle.table.proofs.Accepted.{taken}
 use Rattle.segments.specs.View.{viewOf}
 use Rattle.windows.specs.Demand.{othersOf}
 use Rattle.windows.specs.Latency.{boundOf, latencyOf}
@@ -27,7 +27,7 @@ use Rattle.misses.specs.Overloads.{overloads}
 use Rattle.misses.specs.Misses.{missesIn, missesAt, missesOf}
 use Rattle.misses.specs.declared.Answer.the-variants.{Refused as Unanswered}
 use Rattle.misses.proofs.Answers as misses
-use Rattle.saving.specs.Save.{tableOf}
+use Rattle.table.specs.Taken.{tableOf}
 use Rattle.saving.proofs.Verdicts.{read-accepted}
 use Rattle.saving.proofs.Splits.{rowIn}
 use Rattle.saving.proofs.Records.{record-row}
@@ -36,7 +36,7 @@ use Rattle.demands.specs.Stored as stored
 
 -- an accepted table is good, and reads back
 pub table-good : {s : List ℕ} → IsTable s → GoodTable (tableOf s)
-table-good {s} h = accepted-good s (h .bytes) (h .accepted)
+table-good {s} h = taken s (h .bytes) (h .accepted) .good
 
 pub table-read : {s : List ℕ} → IsTable s → readTable s ≡ accepted (tableOf s)
 table-read {s} h = read-accepted s (ap numberOf (h .accepted))

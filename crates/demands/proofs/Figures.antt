@@ -32,7 +32,7 @@ use Rattle.windows.proofs.Besides.{others-paced}
 use Rattle.windows.proofs.Walks.{Open, windows-end, windows-open}
 use Rattle.windows.proofs.Latencies.{latency-greatest}
 use Rattle.windows.proofs.Closing as closing
-use Rattle.saving.specs.Save.{tableOf}
+use Rattle.table.specs.Taken.{tableOf}
 use Rattle.demands.specs.Stored.{Has, at, chainOf}
 use Rattle.demands.specs.Stored as stored
 use Rattle.demands.specs.Figures.{count, OpenTo, NoWindow, NoClose, Closes, Means}

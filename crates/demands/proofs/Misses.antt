@@ -36,7 +36,7 @@ use Rattle.misses.specs.declared.Answer.{Answer}
 use Rattle.misses.specs.declared.Answer.the-variants.{Misses, Refused}
 use Rattle.misses.proofs.Starts.{starts}
 use Rattle.misses.proofs.Answers as answers
-use Rattle.saving.specs.Save.{tableOf}
+use Rattle.table.specs.Taken.{tableOf}
 use Rattle.demands.specs.Stored.{Has, at, chainOf, othersOf}
 use Rattle.demands.specs.Figures.{Exactly}
 use Rattle.demands.specs.Misses.{views, marked, pieces, full, IsBad, MayAsk, Figured, lastOf, Few, Once, Fine, Capped, Most, Says, Right}

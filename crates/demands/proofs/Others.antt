@@ -22,7 +22,7 @@ use Rattle.windows.proofs.Views.{alike-bound}
 use Rattle.misses.specs.Overloads.{overloads}
 use Rattle.misses.specs.Misses.{missesIn}
 use Rattle.misses.proofs.Views.{alike-misses}
-use Rattle.saving.specs.Save.{tableOf}
+use Rattle.table.specs.Taken.{tableOf}
 use Rattle.saving.proofs.Splits.{rowIn}
 use Rattle.demands.specs.Stored.{IsTable, Has, at, chainOf, othersOf}
 use Rattle.demands.specs.Misses.{Right}

@@ -24,7 +24,7 @@ use Rattle.windows.specs.declared.Window.the-variants.{At}
 use Rattle.windows.proofs.Starred as windows
 use Rattle.misses.specs.Misses.{badOf, roomOf}
 use Rattle.misses.proofs.Starred as misses
-use Rattle.saving.specs.Save.{tableOf}
+use Rattle.table.specs.Taken.{tableOf}
 use Rattle.demands.specs.Stored.{chainOf, othersOf}
 use Rattle.demands.specs.Misses as words
 use Rattle.demands.specs.Starred.{sample, edge, past, chain1, others1, chain3, task, Starred}

@@ -12,7 +12,7 @@ use Rattle.segments.specs.Tasks.{Task, tasksOf, costOf, floorOf, tailOf, below,
 use Rattle.segments.specs.Segments.{cutSegments}
 use Rattle.windows.specs.Latency.{latencyOf}
 use Rattle.misses.specs.Misses.{missesOf}
-use Rattle.saving.specs.Save.{tableOf}
+use Rattle.table.specs.Taken.{tableOf}
 use Rattle.demands.specs.Stored.{IsTable, Has, chainOf, bytesOf, othersOf}
 
 -- the segments of a chain a against a chain b, each as its active segments

@@ -7,7 +7,8 @@ use Rattle.table.specs.Find.{rowOf, findOf}
 use Rattle.table.specs.Read.{readTable}
 use Rattle.table.specs.declared.Row.{Row}
 use Rattle.table.specs.declared.Verdict.the-variants.{Accepted}
-use Rattle.saving.specs.Save.{tableOf, recordOf}
+use Rattle.saving.specs.Save.{recordOf}
+use Rattle.table.specs.Taken.{tableOf}
 use Rattle.windows.specs.Demand.{others}
 
 -- a byte string that is read as an accepted table

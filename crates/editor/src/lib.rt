@@ -1,7 +1,6 @@
 // The C editor's entries (document 01, 'The C editor and the report'): numbers and byte slices only. Each returns 0 or the
 // refusal's number; refused, every byte lent stays.
 ghost use mathlib.Core.Path.{_≡_};
-ghost use lib.IntN.{ℤ};
 ghost use Rattle.windows.specs.Latency as latency;
 ghost use Rattle.misses.specs.Misses as miss;
 ghost use Rattle.segments.specs.Query as segment;

@@ -8,10 +8,10 @@ use native.Mathlib.Numerals.{add-one}
 use lib.Dec.{eqb}
 use borrow.Author.Tests.{eq-eqb, ne-eqb}
 use lib.ListN.{length, getD, take, set, length-append, length-map}
-use lib.Seq.{take-suc, take-all, getD-take, take-take, length-take-le}
+use lib.Seq.{take-suc, take-all, getD-take, take-take, length-take-le, set-out}
 use Rattle.search.specs.Choice.{_when_else_}
 use Rattle.search.proofs.Choice.{when-yes, when-no}
-use Rattle.table.specs.Limits.{maxTasks, maxCapacity}
+use Rattle.table.specs.Limits.{maxTasks, maxOverloads, maxCapacity}
 use Rattle.table.specs.Find.{none, rowOf, rows}
 use Rattle.table.specs.Good.{GoodTable}
 use Rattle.table.specs.declared.Row.{Row}
@@ -20,15 +20,27 @@ use Rattle.arrivals.specs.Arrivals.{distances, η}
 use Rattle.segments.specs.Actives.{Active, nothing, activesOf}
 use Rattle.segments.specs.Held.{arraysOf}
 use Rattle.segments.specs.Items.{itemOf, itemsOf}
+use Rattle.segments.specs.Tasks.{floorOf, tailOf}
 use Rattle.segments.specs.declared.Actives.{Actives}
 use Rattle.segments.proofs.Standing.{array-at}
 use Rattle.segments.proofs.Bounds.{actives-few}
 use Rattle.misses.specs.Overloads.{Overload, overload, overloads, Piece, piece, piecesFrom, piecesOf, capacitiesOf}
-use Rattle.misses.specs.Held.{six, heldAs, gathered, plus}
+use Rattle.misses.specs.Held.{six, heldAs, gathered}
 use Rattle.misses.specs.declared.Pieces.{Pieces}
-use Rattle.misses.proofs.Sixes.{six-put}
+use Rattle.misses.proofs.Sixes.{six-length, six-put}
 
--- one active segment more
+-- one active segment more, of the chain that comes next
+abbrev pub plus : Pieces → ℕ → ℕ → ℕ → Pieces
+plus p segment cost capacity =
+    record {
+      chains = p .chains;
+      count = p .count + 1;
+      chain = set (p .chain) (p .count) (p .chains);
+      segment = set (p .segment) (p .count) segment;
+      cost = set (p .cost) (p .count) cost;
+      capacity = set (p .capacity) (p .count) capacity;
+    }
+
 six-map : {A : Type 0} (f : A → ℕ) (l : List A) (a : A) (n : ℕ) → n ≡ length l → six (map f (l ++ (a ∷ []))) ≡ set (six (map f l)) n (f a)
 six-map f l a n e =
     ap six (map-append f l (a ∷ [])) ∙ six-put (map f l) (f a) ∙ ap (λ k. set (six (map f l)) k (f a)) (length-map l f ∙ sym e)
@@ -42,6 +54,21 @@ held-put ps cs p c e =
       six-map (λ x. x .cost) ps p (length ps) refl,
       six-map (min (maxCapacity + 1)) cs c (length ps) (sym e),
       length-append,
+    )
+
+-- past six only the count grows
+abbrev pub longer : Pieces → Pieces
+longer p = record { chains = p .chains; count = p .count + 1; chain = p .chain; segment = p .segment; cost = p .cost; capacity = p .capacity }
+
+plus-past : (p : Pieces) (n : ℕ) (ps : List Piece) (cs : List ℕ) → p ≡ heldAs n ps cs → maxOverloads ≤ p .count → (segment cost capacity : ℕ)
+    → plus p segment cost capacity ≡ longer p
+plus-past p n ps cs e h segment cost capacity =
+    let out : (l m : List ℕ) (x : ℕ) → l ≡ six m → set l (p .count) x ≡ l = λ l m x f. set-out l (p .count) x (omega (arith, ap length f, six-length m)) in
+    rw (
+      out (p .chain) (map (λ x. x .chain) ps) (p .chains) (ap (λ x. x .chain) e),
+      out (p .segment) (map (λ x. x .segment) ps) segment (ap (λ x. x .segment) e),
+      out (p .cost) (map (λ x. x .cost) ps) cost (ap (λ x. x .cost) e),
+      out (p .capacity) (map (min (maxCapacity + 1)) cs) capacity (ap (λ x. x .capacity) e),
     )
 
 -- a chain's active segments one by one: i of those found are held, after what was held before, with the capacity `most`
@@ -74,6 +101,12 @@ adds-on found most before p i a h n ps cs l c k e f g =
     rw (a n ps cs l c k e f g, j, d, g, map-taken (λ x. piece n (itemOf x)) l i nothing lt, map-taken (λ x. c) l i nothing lt)
     (sym (held-put (ps ++ taken l n i) (cs ++ map (λ x. c) (take i l)) (piece n (itemOf s)) c (length-both _ _ (take i l) ps cs k))
     ∙ ap₂ (heldAs n) (append-assoc ps (taken l n i) _) (append-assoc cs (map (λ x. c) (take i l)) _))
+
+pub adds-past : (found : Actives) (most : ℕ) (before p : Pieces) (i : ℕ) → Adds found most before p i → i < found .count → maxOverloads ≤ p .count
+    → Adds found most before (longer p) (i + 1)
+adds-past found most before p i a h past n ps cs l c k e f g =
+    sym (plus-past p n (ps ++ taken l n i) (cs ++ map (λ s. c) (take i l)) (a n ps cs l c k e f g) past (getD (found .segment) i 0) (getD (found .cost) i 0) most)
+    ∙ adds-on found most before p i a h n ps cs l c k e f g
 
 -- one chain more
 pieces-more : (n : ℕ) (os : List Overload) (o : Overload) → piecesFrom n (os ++ (o ∷ [])) ≡ piecesFrom n os ++ map (piece (n + length os)) (o .items)
@@ -181,7 +214,7 @@ module _ (table : Table) (b : Row) (t : ℕ) (good : GoodTable table) (p : Piece
         is = is ∙ ap (gathered t) o;
         inside = omega arith;
         chains = omega (arith, ap (λ x. x .chains) is, length-append before (overload a b ∷ []), ap (λ x. x .chains) (gone .is), gone .chains);
-        few = omega (arith, ap (λ x. x .count) is, ap length (pieces-more 0 before (overload a b)), length-append (piecesOf before) (map (piece (0 + length before)) (itemsOf a b)), length-map (itemsOf a b) (piece (0 + length before)), length-map (activesOf a b) itemOf, actives-few a b (good .row j more), ap (λ x. x .count) (gone .is), gone .few);
+        few = omega (arith, ap (λ x. x .count) is, ap length (pieces-more 0 before (overload a b)), length-append (piecesOf before) (map (piece (0 + length before)) (itemsOf a b)), length-map (itemsOf a b) (piece (0 + length before)), length-map (activesOf a b) itemOf, actives-few a (floorOf b) (tailOf b) (good .row j more), ap (λ x. x .count) (gone .is), gone .few);
       }
 
 pub gone-all : (table : Table) (b : Row) (t : ℕ) (p : Pieces) (j : ℕ) → Gone table b t p j → table .count ≤ j → p ≡ gathered t (overloads b (rows table))

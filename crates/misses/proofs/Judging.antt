@@ -16,8 +16,7 @@ use Rattle.table.specs.declared.Table.{Table}
 use Rattle.arrivals.specs.Arrivals.{distances, largest}
 use Rattle.segments.specs.View.{View}
 use Rattle.windows.specs.Demand.{demandOf, typical, others, othersOf}
-use Rattle.windows.specs.Load.{most, ownOf, demandIn, counted, Loads}
-use Rattle.windows.specs.declared.Load.{Load}
+use Rattle.windows.specs.Load.{Load, most, counted, Loads}
 use Rattle.windows.proofs.Besides.{others-good}
 use Rattle.packing.specs.Most.{mostUses, capacity}
 use Rattle.packing.proofs.Laws.{most-same, most-bound}
@@ -26,7 +25,7 @@ use Rattle.misses.specs.Overloads.{Overload, overloads, piecesOf}
 use Rattle.misses.specs.Bad.{over, bad}
 use Rattle.misses.specs.Misses.{badOf, roomOf, byFigures}
 use Rattle.misses.specs.Held.{gathered, piecesIn, Few, Asked}
-use Rattle.misses.specs.Settling.{beyond}
+use Rattle.misses.specs.Settling.{overIn, beyond}
 use Rattle.misses.specs.declared.Pieces.{Pieces}
 use Rattle.misses.specs.declared.Answer.{Answer}
 use Rattle.misses.specs.declared.Answer.the-variants.{Misses, Refused}
@@ -37,7 +36,7 @@ use Rattle.misses.proofs.Loading.{loads-over, loads-room}
 use Rattle.misses.proofs.Starts.{starts}
 use Rattle.misses.proofs.Answers.{none-late, too-many, starts-again, without, too-roomy, packs}
 
-module _ (t : Table) (good : GoodTable t) (at : ℕ) (there : at < t .count) (k close latency late last : ℕ) (asked : Asked (rowOf t at) k close latency late last) where
+module _ {t : Table} (good : GoodTable t) (at : ℕ) (there : at < t .count) {k close latency late last : ℕ} (asked : Asked (rowOf t at) k close latency late last) where
   abbrev b : Row
   b = rowOf t at
 
@@ -56,7 +55,7 @@ module _ (t : Table) (good : GoodTable t) (at : ℕ) (there : at < t .count) (k 
   pub judged-late : late ≡ 0 → Misses 0 ≡ answer
   judged-late e = sym (none-late b views os k close latency late last e)
 
-  module _ (some-late : late ≡ 0 → ⊥) (p : Pieces) (gathers : p ≡ gathered ((k - 1) * b .gap + latency) (overloads b (rows t))) where
+  module _ (some-late : late ≡ 0 → ⊥) {p : Pieces} (gathers : p ≡ gathered ((k - 1) * b .gap + latency) (overloads b (rows t))) where
     is : p ≡ gathered (largest b k + latency) os
     unfolding largest
     is = gathers ∙ ap (gathered ((k - 1) * b .gap + latency)) beside
@@ -70,7 +69,7 @@ module _ (t : Table) (good : GoodTable t) (at : ℕ) (there : at < t .count) (k 
     pub judged-many : maxOverloads < p .count → Refused 18 ≡ answer
     judged-many h = sym (too-many b views os k close latency late last some-late (omega (arith, count)))
 
-    module _ (six : p .count ≤ maxOverloads) (again : Bool) (starting : again ≡ some (starts last) (overloads b (rows t))) where
+    module _ (six : p .count ≤ maxOverloads) {again : Bool} (starting : again ≡ some (starts last) (overloads b (rows t))) where
       few : length (piecesOf os) ≤ maxOverloads
       few = omega (arith, count)
 
@@ -83,9 +82,9 @@ module _ (t : Table) (good : GoodTable t) (at : ℕ) (there : at < t .count) (k 
       pub judged-again : again ≡ true → Refused 19 ≡ answer
       judged-again e = sym (starts-again b views os k close latency late last some-late few (sym twice ∙ e))
 
-      module _ (once : again ≡ false) (l : Load) (loads : Loads b (counted false views) l) where
+      module _ (once : again ≡ false) {l : Load} (loads : Loads b (counted false views) l) where
         abbrev test : ℕ → Bool
-        test = over (demandIn l) (ownOf l) (b .deadline) close
+        test = overIn l (b .deadline) close
 
         same : test ≡ over (demandOf b (typical views)) (distances b) (b .deadline) close
         same = fun-ext (λ c. loads-over loads (b .deadline) close c)
@@ -93,7 +92,7 @@ module _ (t : Table) (good : GoodTable t) (at : ℕ) (there : at < t .count) (k 
         pub judged-room : l .once + beyond ≤ most
         judged-room = loads-room t good at there l loads
 
-        module _ (o : Bool) (tested : o ≡ test 0) where
+        module _ {o : Bool} (tested : o ≡ test 0) where
           empty : badOf b views os close 0 ≡ o
           unfolding badOf
           empty = bad-none _ (piecesOf os) ∙ ap (λ f. f 0) (sym same) ∙ sym tested
@@ -101,7 +100,7 @@ module _ (t : Table) (good : GoodTable t) (at : ℕ) (there : at < t .count) (k 
           pub judged-without : o ≡ true → Refused 20 ≡ answer
           judged-without e = sym (without b views os k close latency late last some-late few (sym twice ∙ once) (empty ∙ e))
 
-          module _ (fine : o ≡ false) (a : Bool) (found : a ≡ some (ltb maxCapacity) (p .capacity)) where
+          module _ (fine : o ≡ false) {a : Bool} (found : a ≡ some (ltb maxCapacity) (p .capacity)) where
             above : some (ltb maxCapacity) (roomOf b os k latency) ≡ a
             unfolding roomOf
             above = sym (held-above (largest b k + latency) os p is few) ∙ sym found
@@ -109,7 +108,7 @@ module _ (t : Table) (good : GoodTable t) (at : ℕ) (there : at < t .count) (k 
             pub judged-roomy : a ≡ true → Refused 21 ≡ answer
             judged-roomy e = sym (too-roomy b views os k close latency late last some-late few (sym twice ∙ once) (empty ∙ fine) (above ∙ e))
 
-            module _ (within : a ≡ false) (uses : ℕ) (packed : uses ≡ mostUses (bad test (piecesIn p)) (capacity (p .capacity))) where
+            module _ (within : a ≡ false) {uses : ℕ} (packed : uses ≡ mostUses (bad test (piecesIn p)) (capacity (p .capacity))) where
               small : (i : ℕ) → i < maxOverloads → capacity (p .capacity) i ≤ maxCapacity
               small i h = ltb-false maxCapacity _ (some-at (ltb maxCapacity) (p .capacity) i 0 (sym found ∙ within) (omega (arith, judged-size)))
 

@@ -12,15 +12,14 @@ use Rattle.table.specs.declared.Table.{Table}
 use Rattle.arrivals.specs.Arrivals.{distances}
 use Rattle.segments.specs.View.{View}
 use Rattle.windows.specs.Demand.{demandOf, othersOf}
-use Rattle.windows.specs.Load.{most, ownOf, demandIn, counted, Loads}
-use Rattle.windows.specs.declared.Load.{Load}
+use Rattle.windows.specs.Load.{Load, most, counted, Loads}
 use Rattle.windows.proofs.Besides.{viewsFrom, views-length, views-others}
 use Rattle.misses.specs.Bad.{over}
-use Rattle.misses.specs.Settling.{beyond}
+use Rattle.misses.specs.Settling.{overIn, beyond}
 
 -- what is over, by the load, is over by the demand
 pub loads-over : {b : Row} {vs : List View} {l : Load} → Loads b vs l → (deadline k cost : ℕ)
-    → over (demandIn l) (ownOf l) deadline k cost ≡ over (demandOf b vs) (distances b) deadline k cost
+    → overIn l deadline k cost ≡ over (demandOf b vs) (distances b) deadline k cost
 loads-over a deadline k cost = ap₂ (λ d ds. over d ds deadline k cost) (fun-ext (λ q. fun-ext (λ t. a .demand q t))) (a .own)
 
 -- and it has room for any set's cost

@@ -12,15 +12,15 @@ use borrow.Author.Tests.{lt-ltb, le-ltb, ltb-true}
 use Rattle.arrivals.specs.Arrivals.{δ}
 use Rattle.windows.specs.Window.{windowOf, Under}
 use Rattle.windows.specs.Latency.{upTo}
-use Rattle.windows.specs.Load.{demandIn, plus}
-use Rattle.windows.specs.declared.Load.{Load}
+use Rattle.windows.specs.Load.{Load, ownOf, demandIn, plus, Sound}
 use Rattle.windows.specs.declared.Window.{Window}
 use Rattle.windows.specs.declared.Window.the-variants.{At, Nothing}
 use Rattle.windows.proofs.Least.{under-one, under-lift, window-under, window-less}
-use Rattle.windows.proofs.Growth.{Growing}
+use Rattle.windows.proofs.Growth.{Growing, load-growing}
 use Rattle.windows.proofs.Joining.{plus-demand}
 use Rattle.misses.specs.Tests.{some}
 use Rattle.misses.specs.Bad.{withCost, longer, over}
+use Rattle.misses.specs.Settling.{overIn}
 
 -- the window for q activations is too long
 abbrev pub passes : (ℕ → ℕ → ℕ) → List ℕ → ℕ → ℕ → Bool
@@ -106,7 +106,11 @@ module _ (demand : ℕ → ℕ → ℕ) (ds : List ℕ) (deadline : ℕ) where
       }
 
 -- a load with a cost more
-pub plus-over : (l : Load) (cost : ℕ) (ds : List ℕ) (deadline k : ℕ) → some (passes (demandIn (plus l cost)) ds deadline) (upTo k) ≡ over (demandIn l) ds deadline k cost
+pub plus-over : (l : Load) (cost deadline k : ℕ) → some (passes (demandIn (plus l cost)) (ownOf l) deadline) (upTo k) ≡ overIn l deadline k cost
 unfolding over
-plus-over l cost ds deadline k =
-    ap (λ d. some (passes d ds deadline) (upTo k)) (fun-ext (λ q. fun-ext (λ t. plus-demand l cost q t)))
+plus-over l cost deadline k =
+    ap (λ d. some (passes d (ownOf l) deadline) (upTo k)) (fun-ext (λ q. fun-ext (λ t. plus-demand l cost q t)))
+
+-- and so costs only get worse
+pub load-worsens : (l : Load) → Sound l → (deadline k c e : ℕ) → c ≤ e → overIn l deadline k c ≡ true → overIn l deadline k e ≡ true
+load-worsens l sound deadline k c e h = over-mono (demandIn l) (load-growing l sound) c e h (ownOf l) deadline k

@@ -1,7 +1,7 @@
 -- The active segments of the overload chains as the code holds them.
 use Prim.Native.Nat.{ℕ, zero, suc, _+_, _*_, _-_, _/_, _^_, _≤_, min}
 use mathlib.Core.List.{List, [], _∷_, map}
-use lib.ListN.{length, getD, take, set}
+use lib.ListN.{length, getD, take}
 use Rattle.search.specs.Choice.{_when_else_}
 use mathlib.Core.Path.{_≡_}
 use Rattle.table.specs.Limits.{maxTasks, maxCost, maxActivations, maxRun, horizon, maxOverloads, maxCapacity}
@@ -31,18 +31,6 @@ heldAs chains ps cs =
 -- those of some overload chains, with their capacities in t
 unfoldable pub gathered : ℕ → List Overload → Pieces
 gathered t os = heldAs (length os) (piecesOf os) (capacitiesOf t os)
-
--- one active segment more, of the chain that comes next
-abbrev pub plus : Pieces → ℕ → ℕ → ℕ → Pieces
-plus p segment cost capacity =
-    record {
-      chains = p .chains;
-      count = p .count + 1;
-      chain = set (p .chain) (p .count) (p .chains);
-      segment = set (p .segment) (p .count) segment;
-      cost = set (p .cost) (p .count) cost;
-      capacity = set (p .capacity) (p .count) capacity;
-    }
 
 -- the active segment after i others, out of arrays of their chains, segments and costs
 abbrev pub pieceAt : List ℕ → List ℕ → List ℕ → ℕ → Piece

@@ -6,9 +6,15 @@ use mathlib.Core.List.{List}
 use lib.Dec.{leb}
 use lib.ListN.{getD}
 use Rattle.table.specs.Limits.{maxOverloads}
+use Rattle.windows.specs.Load.{Load, ownOf, demandIn}
 use Rattle.packing.specs.Packing.{combinations}
+use Rattle.misses.specs.Bad.{over}
 use Rattle.misses.specs.Held.{dearest}
 use Rattle.misses.specs.declared.Settled.{Settled}
+
+-- a set that costs so much is bad, by the demand of a load
+abbrev pub overIn : Load → ℕ → ℕ → ℕ → Bool
+overIn l deadline k cost = over (demandIn l) (ownOf l) deadline k cost
 
 -- no set costs so much
 abbrev pub beyond : ℕ

@@ -1,4 +1,4 @@
-// The miss query: over a table that was read, and over its bytes.
+// The miss query: over the bytes of an accepted table, and over any.
 use crate::Answer;
 use crate::Pieces;
 use crate::pricing::prices;
@@ -7,15 +7,21 @@ use crate::settling::over;
 use arrivals::eta_up_to;
 use packing::COMBINATIONS;
 use packing::most_uses;
-use table::Row;
 use table::Table;
 use table::Verdict;
+use table::count;
+use table::deadline_at;
 use table::find;
-use table::read;
+use table::gap_at;
+use table::judge;
+use table::overload_at;
+use table::place;
+use table::record_length;
 use windows::Answer as Bound;
-use windows::Load;
+use windows::Own;
 use windows::Windows;
 use windows::bound;
+use windows::load;
 ghost use mathlib.Core.Path.{_≡_};
 ghost use mathlib.Core.Bool.{false};
 ghost use mathlib.Core.List.{[], _∷_};
@@ -24,62 +30,65 @@ ghost use lib.Dec.{ltb, leb};
 ghost use lib.ListN.{length, getD};
 ghost use Rattle.search.specs.Choice.{_when_else_};
 ghost use Rattle.table.specs.Limits.{horizon, maxActivations, maxDeadline, maxOverloads, maxCapacity};
-ghost use Rattle.table.specs.Find.{rowOf, rows};
-ghost use Rattle.table.specs.Good.{GoodRow, GoodTable};
 ghost use Rattle.table.specs.declared.Row.{Row};
+ghost use Rattle.table.specs.Record.{rowAt};
+ghost use Rattle.table.specs.Find.{rowOf, rows};
+ghost use Rattle.table.specs.Taken.{tableOf, Taken, Stands};
 ghost use Rattle.arrivals.specs.Arrivals.{η};
 ghost use Rattle.windows.specs.Demand.{others, othersOf};
 ghost use Rattle.windows.specs.Latency.{boundOf};
-ghost use Rattle.windows.specs.Load.{most, ownOf, demandIn, Sound};
+ghost use Rattle.windows.specs.Load.{most, loadOf, Sound};
 ghost use Rattle.packing.specs.Packing.{combinations};
 ghost use Rattle.packing.specs.Most.{mostUses};
 ghost use Rattle.packing.specs.Most.{capacity as capacityIn};
 ghost use Rattle.misses.specs.Tests.{some};
 ghost use Rattle.misses.specs.Overloads.{overloads};
-ghost use Rattle.misses.specs.Bad.{over as overOf, bad as badIn};
+ghost use Rattle.misses.specs.Bad.{bad as badIn};
 ghost use Rattle.misses.specs.Misses.{earlyOf, byFigures, byBound, missesAt, chainOf, missesOf};
 ghost use Rattle.misses.specs.Held.{Few, piecesIn, Asked};
-ghost use Rattle.misses.specs.Settling.{beyond};
+ghost use Rattle.misses.specs.Settling.{overIn, beyond};
 
-// 13, 14 or 15, what is refused before any window; 0 for none of them.
-fn early(b: Row, k: u32) -> u32
-    ensures { λ r. ⌜ r ≡ earlyOf b k ⌝ }
+// 13, 14 or 15, what is refused of the chain at `b` before any window; 0 for none of them.
+fn early(s: &[u8], b: usize, k: u32) -> u32
+    requires { ⌜ b + 16 ≤ length (now s) ⌝ }
+    ensures { λ r. ⌜ r ≡ earlyOf (rowAt (now (s .entry)) b) k ⌝ }
 {
     if k == 0 || Table::RUN < k {
         return 13;
     }
-    if b.overload != 0 {
+    if overload_at(s, b) != 0 {
         return 14;
     }
-    if b.gap == 0 {
+    if gap_at(s, b) == 0 {
         return 15;
     }
     0
 }
 
-// Whether a chain is an overload chain that may start more than once in t.
-fn again(a: Row, t: u64) -> bool
-    requires { ⌜ GoodRow a × (t ≤ horizon) ⌝ }
-    ensures { λ r. ⌜ ((b : Row) → r ≡ some (λ o. ltb 1 (η (o .list) t)) (overloads b (a ∷ []))) ⌝ }
+// Whether the chain at `a` is an overload chain that may start more than once in t.
+fn again(s: &[u8], a: usize, t: u64) -> bool
+    requires { ⌜ Stands (now s) a × (t ≤ horizon) ⌝ }
+    ensures { λ r. ⌜ ((b : Row) → r ≡ some (λ o. ltb 1 (η (o .list) t)) (overloads b (rowAt (now (s .entry)) a ∷ []))) ⌝ }
 {
-    if a.overload == 0 {
+    if overload_at(s, a) == 0 {
         return false;
     }
-    let list = a.list;
-    let listed = a.listed;
-    1 < eta_up_to(&list[..listed], t, 2)
+    1 < eta_up_to(s, a, t, 2)
 }
 
 // Whether any chain of a table is.
-fn any_again(table: Table, t: u64) -> bool
-    requires { ⌜ GoodTable table × (t ≤ horizon) ⌝ }
-    ensures { λ r. ⌜ ((b : Row) → r ≡ some (λ o. ltb 1 (η (o .list) t)) (overloads b (rows table))) ⌝ }
+fn any_again(s: &[u8], t: u64) -> bool
+    requires { ⌜ Taken (now s) × (t ≤ horizon) ⌝ }
+    ensures { λ r. ⌜ ((b : Row) → r ≡ some (λ o. ltb 1 (η (o .list) t)) (overloads b (rows (tableOf (now (s .entry)))))) ⌝ }
 {
+    let chains = count(s);
+    let mut a: usize = 0;
     let mut j: usize = 0;
-    while j < table.count {
-        if again(table.row[j], t) {
+    while j < chains {
+        if again(s, a, t) {
             return true;
         }
+        a = a + record_length(s, a);
         j += 1;
     }
     false
@@ -127,48 +136,59 @@ fn flags(costs: &[u64; COMBINATIONS], lowest: u64) -> [u8; COMBINATIONS]
 }
 
 // The most uses any packing has of the bad ones among sets of the active segments held, where the empty set is not bad.
-fn packed(l: Load, deadline: u32, k: u32, p: Pieces) -> u32
-    requires { ⌜ Sound l × (deadline ≤ maxDeadline) × (k ≤ maxActivations) × (l .once + beyond ≤ most) × (overOf (demandIn l) (ownOf l) deadline k 0 ≡ false) × Few p ⌝ }
-    ensures { λ r. ⌜ r ≡ mostUses (badIn (overOf (demandIn l) (ownOf l) deadline k) (piecesIn p)) (capacityIn (p .capacity)) ⌝ }
+fn packed(
+    s: &[u8],
+    own: Own,
+    rates: &[u64; Table::CHAINS],
+    places: &[usize; Table::CHAINS],
+    deadline: u32,
+    k: u32,
+    p: Pieces,
+) -> u32
+    requires { ⌜ Sound (loadOf (now s) own (now rates) (now places)) × (deadline ≤ maxDeadline) × (k ≤ maxActivations) × (own .once + beyond ≤ most) × (overIn (loadOf (now s) own (now rates) (now places)) deadline k 0 ≡ false) × Few p ⌝ }
+    ensures { λ r. ⌜ r ≡ mostUses (badIn (overIn (loadOf (now (s .entry)) own (now (rates .entry)) (now (places .entry))) deadline k) (piecesIn p)) (capacityIn (p .capacity)) ⌝ }
 {
     let capacity = p.capacity;
     let costs = prices(p);
-    let lowest = lowest_bad(l, deadline, k, &costs);
+    let lowest = lowest_bad(s, own, rates, places, deadline, k, &costs);
     let bad = flags(&costs, lowest);
     most_uses(&bad, &capacity)
 }
 
 // What the figures of the full analysis give: K is `close`, and `last` the last window.
-fn by_figures(t: Table, at: usize, k: u32, close: u32, latency: u32, late: u32, last: u64) -> Answer
-    requires { ⌜ GoodTable t × (at < t .count) × Asked (rowOf t at) k close latency late last ⌝ }
-    ensures { λ r. ⌜ r ≡ byFigures (rowOf t at) (othersOf t at) (overloads (rowOf t at) (others t at)) k close latency late last ⌝ }
+fn by_figures(s: &[u8], at: usize, k: u32, close: u32, latency: u32, late: u32, last: u64) -> Answer
+    requires { ⌜ Taken (now s) × (at < tableOf (now s) .count) × Asked (rowOf (tableOf (now s)) at) k close latency late last ⌝ }
+    ensures { λ r. ⌜ r ≡ byFigures (rowOf (tableOf (now (s .entry))) at) (othersOf (tableOf (now (s .entry))) at) (overloads (rowOf (tableOf (now (s .entry))) at) (others (tableOf (now (s .entry))) at)) k close latency late last ⌝ }
 {
     if late == 0 {
         return Answer::Misses(0);
     }
-    let b = t.row[at];
-    let p = Pieces::of(t, b, (k - 1) as u64 * b.gap as u64 + latency as u64);
+    let b = place(s, at);
+    let deadline = deadline_at(s, b);
+    let p = Pieces::of(s, b, (k - 1) as u64 * gap_at(s, b) as u64 + latency as u64);
     if Table::OVERLOADS < p.count {
         return Answer::Refused(18);
     }
-    if any_again(t, last) {
+    if any_again(s, last) {
         return Answer::Refused(19);
     }
-    let l = Load::of(t, at, false);
-    if over(l, b.deadline, close, 0) {
+    let mut rates = [0u64; Table::CHAINS];
+    let mut places = [0usize; Table::CHAINS];
+    let own = load(s, at, false, &mut rates, &mut places);
+    if over(s, own, &rates, &places, deadline, close, 0) {
         return Answer::Refused(20);
     }
     let capacity = p.capacity;
     if above(&capacity) {
         return Answer::Refused(21);
     }
-    Answer::Misses(late * packed(l, b.deadline, close, p))
+    Answer::Misses(late * packed(s, own, &rates, &places, deadline, close, p))
 }
 
 // 16 or 17, or what the figures give.
-fn by_bound(t: Table, at: usize, k: u32, w: Windows) -> Answer
-    requires { ⌜ GoodTable t × (at < t .count) × (earlyOf (rowOf t at) k ≡ 0) × (w ≡ boundOf (rowOf t at) (othersOf t at)) ⌝ }
-    ensures { λ r. ⌜ r ≡ byBound (rowOf t at) (othersOf t at) (overloads (rowOf t at) (others t at)) k (w .answer) (w .last) ⌝ }
+fn by_bound(s: &[u8], at: usize, k: u32, w: Windows) -> Answer
+    requires { ⌜ Taken (now s) × (at < tableOf (now s) .count) × (earlyOf (rowOf (tableOf (now s)) at) k ≡ 0) × (w ≡ boundOf (rowOf (tableOf (now s)) at) (othersOf (tableOf (now s)) at)) ⌝ }
+    ensures { λ r. ⌜ r ≡ byBound (rowOf (tableOf (now (s .entry))) at) (othersOf (tableOf (now (s .entry))) at) (overloads (rowOf (tableOf (now (s .entry))) at) (others (tableOf (now (s .entry))) at)) k (w .answer) (w .last) ⌝ }
 {
     let answer = w.answer;
     match answer {
@@ -177,47 +197,45 @@ fn by_bound(t: Table, at: usize, k: u32, w: Windows) -> Answer
             latency,
             late,
             margin: _,
-        } => by_figures(t, at, k, close, latency, late, w.last),
+        } => by_figures(s, at, k, close, latency, late, w.last),
         Bound::Refused(n) => Answer::Refused(n),
     }
 }
 
 // The misses of the chain `at` in a run of k activations, where its windows are worked out already.
-pub fn misses_with(t: Table, at: usize, k: u32, w: Windows) -> Answer
-    requires { ⌜ GoodTable t × (at < t .count) × (w ≡ boundOf (rowOf t at) (othersOf t at)) ⌝ }
-    ensures { λ r. ⌜ r ≡ missesAt t at k ⌝ }
+pub fn misses_with(s: &[u8], at: usize, k: u32, w: Windows) -> Answer
+    requires { ⌜ Taken (now s) × (at < tableOf (now s) .count) × (w ≡ boundOf (rowOf (tableOf (now s)) at) (othersOf (tableOf (now s)) at)) ⌝ }
+    ensures { λ r. ⌜ r ≡ missesAt (tableOf (now (s .entry))) at k ⌝ }
 {
-    let n = early(t.row[at], k);
+    let n = early(s, place(s, at), k);
     if n != 0 {
         return Answer::Refused(n);
     }
-    by_bound(t, at, k, w)
+    by_bound(s, at, k, w)
 }
 
-// The misses of the chain with the id.
-pub fn misses_in(t: Table, id: u32, k: u32) -> Answer
-    requires { ⌜ GoodTable t ⌝ }
-    ensures { λ r. ⌜ r ≡ chainOf t id k ⌝ }
+// The misses of the chain with the id, of an accepted table.
+pub fn misses_in(s: &[u8], id: u32, k: u32) -> Answer
+    requires { ⌜ Taken (now s) ⌝ }
+    ensures { λ r. ⌜ r ≡ chainOf (tableOf (now (s .entry))) id k ⌝ }
 {
-    let at = find(t, id);
-    if at == t.count {
+    let at = find(s, id);
+    if at == count(s) {
         return Answer::Refused(12);
     }
-    let n = early(t.row[at], k);
+    let n = early(s, place(s, at), k);
     if n != 0 {
         return Answer::Refused(n);
     }
-    by_bound(t, at, k, bound(t, at))
+    by_bound(s, at, k, bound(s, at))
 }
 
 // The misses of the chain with the id in a run of k activations, of a stored table.
 pub fn misses(table: &[u8], id: u32, k: u32) -> Answer
     ensures { λ r. ⌜ r ≡ missesOf (now (table .entry)) id k ⌝ }
 {
-    let reading = read(table);
-    let verdict = reading.verdict;
-    match verdict {
-        Verdict::Accepted => misses_in(reading.table, id, k),
+    match judge(table) {
+        Verdict::Accepted => misses_in(table, id, k),
         Verdict::Refused(n) => Answer::Refused(n),
     }
 }

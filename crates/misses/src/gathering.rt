@@ -2,17 +2,24 @@
 use crate::Pieces;
 use arrivals::eta_up_to;
 use segments::active_segments;
-use table::Row;
+use segments::floor_of;
+use segments::tail_of;
 use table::Table;
+use table::count;
+use table::overload_at;
+use table::record_length;
 ghost use mathlib.Core.Path.{_≡_};
 ghost use mathlib.Core.List.{List, [], _∷_, _++_};
 ghost use Prim.Native.Nat.{_+_, _*_, _≤_, _<_, min};
 ghost use Rattle.table.specs.Limits.{maxChains, maxTasks, maxCapacity};
+ghost use Rattle.table.specs.declared.Row.{Row};
+ghost use Rattle.table.specs.Record.{rowAt};
 ghost use Rattle.table.specs.Find.{rows};
-ghost use Rattle.table.specs.Good.{GoodRow, GoodTable};
+ghost use Rattle.table.specs.Taken.{tableOf, Taken, Stands};
 ghost use Rattle.arrivals.specs.Arrivals.{distances, η, longest};
+ghost use Rattle.segments.specs.Tasks.{floorOf, tailOf};
 ghost use Rattle.misses.specs.Overloads.{Overload, overload, overloads};
-ghost use Rattle.misses.specs.Held.{heldAs, plus, gathered};
+ghost use Rattle.misses.specs.Held.{heldAs, gathered};
 
 fn wide(x: u32) -> u64
     ensures { λ r. ⌜ r ≡ x ⌝ }
@@ -20,14 +27,12 @@ fn wide(x: u32) -> u64
     x as u64
 }
 
-// The capacity of a chain's active segments in t, counted no further than past its limit.
-fn capacity(a: Row, t: u64) -> u8
-    requires { ⌜ GoodRow a × (t ≤ longest) ⌝ }
-    ensures { λ r. ⌜ r ≡ min (maxCapacity + 1) (η (distances a) t + 1) ⌝ }
+// The capacity in t of the active segments of the chain at `a`, counted no further than past its limit.
+fn capacity(s: &[u8], a: usize, t: u64) -> u8
+    requires { ⌜ Stands (now s) a × (t ≤ longest) ⌝ }
+    ensures { λ r. ⌜ r ≡ min (maxCapacity + 1) (η (distances (rowAt (now (s .entry)) a)) t + 1) ⌝ }
 {
-    let list = a.list;
-    let listed = a.listed;
-    (eta_up_to(&list[..listed], t, Table::CAPACITY) + 1) as u8
+    (eta_up_to(s, a, t, Table::CAPACITY) + 1) as u8
 }
 
 impl Pieces {
@@ -45,51 +50,49 @@ impl Pieces {
         }
     }
 
-    // One active segment more; past six only the count grows.
-    fn with(mut self, segment: usize, cost: u64, capacity: u8) -> Self
-        requires { ⌜ self .count < maxChains * maxTasks ⌝ }
-        ensures { λ r. ⌜ r ≡ plus self segment cost capacity ⌝ }
+    // The active segments of one overload chain more, that at `a`, against a chain with this floor and tail, and with their capacity
+    // in t; past six only the count grows.
+    fn beside(self, s: &[u8], a: usize, floor: u32, tail: u32, t: u64) -> Self
+        requires { ⌜ Stands (now s) a × (floor ≤ tail) × (t ≤ longest) × (self .chains < maxChains) × (self .count + maxTasks ≤ maxChains * maxTasks) ⌝ }
+        ensures { λ r. ⌜ ((b : Row) (os : List Overload) → floorOf b ≡ floor → tailOf b ≡ tail → self ≡ gathered t os → r ≡ gathered t (os ++ (overload (rowAt (now (s .entry)) a) b ∷ []))) ⌝ }
     {
-        let at = self.count;
-        self.count = at + 1;
-        if at < Table::OVERLOADS {
-            self.chain[at] = self.chains;
-            self.segment[at] = segment;
-            self.cost[at] = cost;
-            self.capacity[at] = capacity;
-        }
-        self
-    }
-
-    // The active segments of an overload chain more, with their capacity in t.
-    fn beside(self, a: Row, b: Row, t: u64) -> Self
-        requires { ⌜ GoodRow a × GoodRow b × (t ≤ longest) × (self .chains < maxChains) × (self .count + maxTasks ≤ maxChains * maxTasks) ⌝ }
-        ensures { λ r. ⌜ ((os : List Overload) → self ≡ gathered t os → r ≡ gathered t (os ++ (overload a b ∷ []))) ⌝ }
-    {
-        let found = active_segments(a, b);
-        let most = capacity(a, t);
+        let found = active_segments(s, a, floor, tail);
+        let most = capacity(s, a, t);
         let mut p = self;
         let mut i: usize = 0;
         while i < found.count {
-            p = p.with(found.segment[i], wide(found.cost[i]), most);
+            let from = i;
+            let to = p.count;
             i += 1;
+            p.count = to + 1;
+            if to < Table::OVERLOADS {
+                p.chain[to] = p.chains;
+                p.segment[to] = found.segment[from];
+                p.cost[to] = wide(found.cost[from]);
+                p.capacity[to] = most;
+            }
         }
         p.chains = p.chains + 1;
         p
     }
 
-    // The active segments of all overload chains of a table against b, with their capacities in t.
-    pub fn of(table: Table, b: Row, t: u64) -> Self
-        requires { ⌜ GoodTable table × GoodRow b × (t ≤ longest) ⌝ }
-        ensures { λ r. ⌜ r ≡ gathered t (overloads b (rows table)) ⌝ }
+    // The active segments of all overload chains of a table against the chain at `b`, with their capacities in t.
+    pub fn of(s: &[u8], b: usize, t: u64) -> Self
+        requires { ⌜ Taken (now s) × Stands (now s) b × (t ≤ longest) ⌝ }
+        ensures { λ r. ⌜ r ≡ gathered t (overloads (rowAt (now (s .entry)) b) (rows (tableOf (now (s .entry))))) ⌝ }
     {
+        let floor = floor_of(s, b);
+        let tail = tail_of(s, b);
+        let chains = count(s);
         let mut p = Pieces::none();
+        let mut at: usize = 0;
         let mut j: usize = 0;
-        while j < table.count {
-            let a = table.row[j];
+        while j < chains {
+            let a = at;
+            at = at + record_length(s, at);
             j += 1;
-            if a.overload != 0 {
-                p = p.beside(a, b, t);
+            if overload_at(s, a) != 0 {
+                p = p.beside(s, a, floor, tail, t);
             }
         }
         p

@@ -1,4 +1,4 @@
--- The lines of a table that was read are what the two queries answer, chain by chain. Assumes nothing.
+-- The lines of an accepted table are what the two queries answer, chain by chain. Assumes nothing.
 use Prim.Native.Nat.{ℕ, zero, suc, _+_, _≤_, _<_}
 use native.Mathlib.Omega.{arith}
 use native.Mathlib.Numerals.{add-one}
@@ -10,10 +10,9 @@ use Rattle.table.specs.Bytes.{Bytes}
 use Rattle.table.specs.Find.{none, rowOf, rows, findOf}
 use Rattle.table.specs.Good.{GoodTable}
 use Rattle.table.specs.Read.{readTable}
-use Rattle.table.specs.declared.Row.{Row}
 use Rattle.table.specs.declared.Table.{Table}
 use Rattle.table.specs.declared.Verdict.the-variants.{Accepted, Refused as Faulty}
-use Rattle.table.proofs.Accepted.{accepted-good}
+use Rattle.table.proofs.Accepted.{taken}
 use Rattle.table.proofs.Finds.{find-is}
 use Rattle.windows.specs.Demand.{othersOf}
 use Rattle.windows.specs.Latency.{boundOf, latencyOf}
@@ -45,7 +44,7 @@ module _ (s : List ℕ) (bytes : Bytes s) (yes : readTable s .verdict ≡ Accept
   t = readTable s .table
 
   good : GoodTable t
-  good = accepted-good s bytes yes
+  good = taken s bytes yes .good
 
   module _ (k : ℕ) (h : k < t .count) where
     found : findOf t (rowOf t k .id) ≡ k

@@ -13,7 +13,6 @@ use Rattle.windows.specs.Window.{windowOf}
 use Rattle.windows.specs.declared.Window.{Window}
 use Rattle.windows.specs.declared.Window.the-variants.{At, Nothing}
 use Rattle.windows.specs.declared.Windows.{Windows}
-use Rattle.windows.specs.declared.Answer.the-variants.{Refused}
 use Rattle.table.specs.declared.Row.{Row}
 use Rattle.segments.specs.View.{View}
 use Rattle.report_text.specs.Numbers.{decimal, digits}

@@ -1,4 +1,4 @@
--- What writing leaves in a buffer, and the lines of a table that was read.
+-- What writing leaves in a buffer, and the lines of an accepted table.
 use Prim.Native.Nat.{ℕ, zero, suc, _+_, _≤_}
 use mathlib.Core.Path.{_≡_}
 use mathlib.Core.List.{List, [], _++_}
@@ -20,7 +20,7 @@ pub record Wrote (before : List ℕ) (at : ℕ) (text after : List ℕ) (next : 
   pub long : length after ≡ length before
   pub ends : next ≡ at + length text
 
--- a latency answer over a table that was read is refused with 16 or 17 only
+-- a latency answer over an accepted table is refused with 16 or 17 only
 pub record Bounded (latency : Latency) : Type 0 where
   pub refused : (n : ℕ) → latency ≡ Unbounded n → (n ≡ 16) ⊎ (n ≡ 17)
 

@@ -5,14 +5,15 @@ mod text;
 use lines::put_line;
 use table::Table;
 use table::Verdict;
-use table::read;
+use table::count;
+use table::judge;
 use text::put_byte;
 use text::put_decimal;
 use text::put_text;
 ghost use mathlib.Core.List.{_++_};
 ghost use Prim.Native.Nat.{_≤_};
 ghost use lib.ListN.{length};
-ghost use Rattle.table.specs.Good.{GoodTable};
+ghost use Rattle.table.specs.Taken.{tableOf, Taken};
 ghost use Rattle.report_text.specs.Numbers.{decimal};
 ghost use Rattle.report_text.specs.Report.{header, refusedWord, feed, longest, Reported};
 ghost use Rattle.report_text.specs.Writing.{Wrote, linesIn};
@@ -33,14 +34,15 @@ fn put_refused(out: &mut [u8], n: u32) -> usize
 }
 
 // The header and a line for each chain.
-fn put_lines(out: &mut [u8], t: Table) -> usize
-    requires { ⌜ (longest ≤ length (now out)) × GoodTable t ⌝ }
-    ensures { λ r. ⌜ Wrote (now (out .entry)) 0 (header ++ linesIn t (t .count)) (now (out .exit)) r ⌝ }
+fn put_lines(out: &mut [u8], s: &[u8]) -> usize
+    requires { ⌜ (longest ≤ length (now out)) × Taken (now s) ⌝ }
+    ensures { λ r. ⌜ Wrote (now (out .entry)) 0 (header ++ linesIn (tableOf (now (s .entry))) (tableOf (now (s .entry)) .count)) (now (out .exit)) r ⌝ }
 {
+    let chains = count(s);
     let mut at = put_text(out, 0, b"chain K latency late margin miss10\n");
     let mut i: usize = 0;
-    while i < t.count {
-        at = put_line(out, at, t, i);
+    while i < chains {
+        at = put_line(out, at, s, i);
         i += 1;
     }
     at
@@ -50,10 +52,8 @@ fn put_lines(out: &mut [u8], t: Table) -> usize
 pub fn report(table: &[u8], out: &mut [u8; LONGEST]) -> usize
     ensures { λ r. ⌜ Reported (now (table .entry)) (now (out .entry)) (now (out .exit)) r ⌝ }
 {
-    let reading = read(table);
-    let verdict = reading.verdict;
-    match verdict {
-        Verdict::Accepted => put_lines(out, reading.table),
+    match judge(table) {
+        Verdict::Accepted => put_lines(out, table),
         Verdict::Refused(n) => put_refused(out, n),
     }
 }

@@ -7,14 +7,15 @@ use crate::text::put_signed;
 use crate::text::put_text;
 use misses::Answer as Missed;
 use misses::misses_with;
-use table::Table;
+use table::id_at;
+use table::place;
 use windows::Answer as Latency;
 use windows::bound;
 ghost use mathlib.Core.Path.{_≡_};
 ghost use mathlib.Core.Logic.{_⊎_};
 ghost use Prim.Native.Nat.{_+_, _≤_, _<_};
 ghost use lib.ListN.{length};
-ghost use Rattle.table.specs.Good.{GoodTable};
+ghost use Rattle.table.specs.Taken.{tableOf, Taken};
 ghost use Rattle.report_text.specs.Report.{after, refusal, missedText, answersText};
 ghost use Rattle.report_text.specs.Writing.{Wrote, Bounded, lineIn};
 
@@ -73,13 +74,13 @@ fn put_answers(out: &mut [u8], at: usize, answer: Latency, missed: Missed) -> us
 }
 
 // The line of the chain i. Its windows are worked out once, for both answers.
-pub fn put_line(out: &mut [u8], at: usize, t: Table, i: usize) -> usize
-    requires { ⌜ (at + 68 ≤ length (now out)) × GoodTable t × (i < t .count) ⌝ }
-    ensures { λ r. ⌜ Wrote (now (out .entry)) at (lineIn t i) (now (out .exit)) r × (r ≤ at + 68) ⌝ }
+pub fn put_line(out: &mut [u8], at: usize, s: &[u8], i: usize) -> usize
+    requires { ⌜ (at + 68 ≤ length (now out)) × Taken (now s) × (i < tableOf (now s) .count) ⌝ }
+    ensures { λ r. ⌜ Wrote (now (out .entry)) at (lineIn (tableOf (now (s .entry))) i) (now (out .exit)) r × (r ≤ at + 68) ⌝ }
 {
-    let w = bound(t, i);
-    let missed = misses_with(t, i, MISS_RUN, w);
-    let id = t.row[i].id;
+    let w = bound(s, i);
+    let missed = misses_with(s, i, MISS_RUN, w);
+    let id = id_at(s, place(s, i));
     let after_id = put_decimal(out, at, wide(id));
     let answer = w.answer;
     let end = put_answers(out, after_id, answer, missed);

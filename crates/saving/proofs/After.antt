@@ -11,9 +11,10 @@ use Rattle.search.specs.Choice.{_when_else_}
 use Rattle.table.specs.Bytes.{Bytes}
 use Rattle.table.specs.Find.{rowOf}
 use Rattle.table.specs.Place.{size, placeOf}
+use Rattle.table.specs.Taken.{tableOf}
 use Rattle.search.proofs.Choice.{when-yes, when-no}
 use Rattle.table.proofs.Firsts.{when-zero}
-use Rattle.saving.specs.Save.{numberOf, figuresOf, tableOf, seenOf, resultOf, saveFault, answerOf, written, savedOf}
+use Rattle.saving.specs.Save.{numberOf, figuresOf, seenOf, resultOf, saveFault, answerOf, written, savedOf}
 use Rattle.saving.specs.Later.{State, stored, Holding, Edit, usedAfter, answer, after}
 use Rattle.saving.specs.declared.Saved.the-variants.{Used}
 use Rattle.saving.proofs.Faults.{Passed, passed, change-none, save-within, accepts}

@@ -18,9 +18,10 @@ use Rattle.table.specs.Place.{size, placeOf}
 use Rattle.table.specs.declared.Mark.{Mark}
 use Rattle.table.specs.declared.Mark.the-variants.{Chain, Task, End, Other}
 use Rattle.table.specs.declared.Table.{Table}
+use Rattle.table.specs.Taken.{tableOf}
 use Rattle.search.proofs.Choice.{true-not-false}
 use Rattle.table.proofs.Firsts.{none-or}
-use Rattle.saving.specs.Save.{tableOf, readFault, recordOf, seenOf, isChain, unfit, splice, resultOf}
+use Rattle.saving.specs.Save.{readFault, recordOf, seenOf, isChain, unfit, splice, resultOf}
 use Rattle.saving.proofs.Same.{same-yes, same-true}
 use Rattle.saving.proofs.Splices.{splice-same}
 use Rattle.saving.proofs.Verdicts.{read-accepted}
@@ -63,10 +64,10 @@ result-splice s old new = refl
 module _ (s : List ℕ) (none : readFault s ≡ 0) where
   module _ (k : ℕ) (l : k < tableOf s .count) where
     own-seen : seenOf s (recordOf s k) < tableOf s .count
-    own-seen = omega (arith, l, seen-by s (tableOf s) (read-accepted s none) (recordOf s k) k l refl)
+    own-seen = omega (arith, l, seen-by s (recordOf s k) k l refl)
 
     own-there : recordOf s (seenOf s (recordOf s k)) ≡ recordOf s k
-    own-there = seen-record s (tableOf s) (read-accepted s none) (recordOf s k) own-seen
+    own-there = seen-record s (recordOf s k) own-seen
 
     pub own-result : resultOf s (recordOf s k) (recordOf s k) ≡ s
     own-result =
@@ -106,10 +107,10 @@ module _ (room : ℕ) (s old new : List ℕ) (p : Passed room s old new) (bytes 
   is-read = read-accepted result (p .result)
 
   pub is-seen : k < t .count
-  is-seen = omega (arith, seen-le s t was-read old, p .seen)
+  is-seen = omega (arith, seen-le s old, p .seen)
 
   pub seen-old : recordOf s k ≡ old
-  seen-old = seen-record s t was-read old is-seen
+  seen-old = seen-record s old is-seen
 
   new-whole : Whole new
   new-whole = fit-whole new _ (p .fit) .0
@@ -167,7 +168,7 @@ module _ (room : ℕ) (s old new : List ℕ) (p : Passed room s old new) (bytes 
   new-seen : seenOf result new ≡ k
   new-seen =
       let there : k < tableOf result .count = omega (arith, is-seen, count-kept) in
-      seen-is result (tableOf result) is-read new k there (same-yes _ new record-changed)
+      seen-is result new k there (same-yes _ new record-changed)
       (λ j l e. let f = same-true _ new e ∙ sym record-changed in
       omega (arith, l, record-alone result (tableOf result) is-read result-bytes j k (omega (arith, l, there)) there (ap (λ (r : List ℕ). idAt r 0) f)))
 

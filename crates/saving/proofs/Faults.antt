@@ -7,15 +7,11 @@ use lib.ListN.{length, take}
 use borrow.Author.Tests.{lt-ltb, le-ltb, eq-eqb, ne-eqb, ltb-false, eqb-false}
 use Rattle.search.specs.Choice.{_when_else_}
 use Rattle.table.specs.Find.{rowOf}
-use Rattle.table.specs.Read.{accepted, readTable}
-use Rattle.table.specs.declared.Table.{Table}
+use Rattle.table.specs.Taken.{tableOf}
 use Rattle.search.proofs.Choice.{when-yes, when-no}
 use Rattle.table.proofs.Firsts.{then-stop, then-go, then-zero, when-zero}
-use Rattle.saving.specs.Save.{tableOf, readFault, seenOf, unfit, resultOf, resultFault, changeFault, saveFault, answerOf, written, savedOf, bufferAfter, Saves}
-use Rattle.saving.specs.Judged.{Judged}
-use Rattle.saving.specs.declared.Change.{Change}
+use Rattle.saving.specs.Save.{readFault, seenOf, unfit, resultOf, resultFault, changeFault, saveFault, answerOf, written, savedOf, bufferAfter, Saves}
 use Rattle.saving.specs.declared.Saved.the-variants.{Used, Refused}
-use Rattle.saving.proofs.Stored.{table-is}
 
 -- the result
 module _ (room : ℕ) (result : List ℕ) where
@@ -32,22 +28,19 @@ pub change-unread : (room : ℕ) (s old new : List ℕ) → (readFault s ≡ 0 �
 unfolding changeFault
 change-unread room s old new h = then-stop _ _ h
 
-module _ (room : ℕ) (s : List ℕ) (t : Table) (read : readTable s ≡ accepted t) (old new : List ℕ) where
-  no-fault : readFault s ≡ 0
-  no-fault = rw read
-
-  pub change-unseen : seenOf s old ≡ t .count → changeFault room s old new ≡ 22
+module _ (room : ℕ) (s old new : List ℕ) (none : readFault s ≡ 0) where
+  pub change-unseen : seenOf s old ≡ tableOf s .count → changeFault room s old new ≡ 22
   unfolding changeFault
-  change-unseen e = then-go _ _ no-fault ∙ when-yes 22 _ (rw (table-is s t read) (eq-eqb _ _ e))
+  change-unseen e = then-go _ _ none ∙ when-yes 22 _ (eq-eqb _ _ e)
 
-  module _ (seen : seenOf s old ≡ t .count → ⊥) where
-    pub change-unfit : unfit new (rowOf t (seenOf s old) .id) ≡ true → changeFault room s old new ≡ 23
+  module _ (seen : seenOf s old ≡ tableOf s .count → ⊥) where
+    pub change-unfit : unfit new (rowOf (tableOf s) (seenOf s old) .id) ≡ true → changeFault room s old new ≡ 23
     unfolding changeFault
-    change-unfit e = then-go _ _ no-fault ∙ when-no 22 _ (rw (table-is s t read) (ne-eqb _ _ seen)) ∙ when-yes 23 _ (rw (table-is s t read) e)
+    change-unfit e = then-go _ _ none ∙ when-no 22 _ (ne-eqb _ _ seen) ∙ when-yes 23 _ e
 
-    pub change-result : unfit new (rowOf t (seenOf s old) .id) ≡ false → changeFault room s old new ≡ resultFault room (resultOf s old new)
+    pub change-result : unfit new (rowOf (tableOf s) (seenOf s old) .id) ≡ false → changeFault room s old new ≡ resultFault room (resultOf s old new)
     unfolding changeFault
-    change-result e = then-go _ _ no-fault ∙ when-no 22 _ (rw (table-is s t read) (ne-eqb _ _ seen)) ∙ when-no 23 _ (rw (table-is s t read) e)
+    change-result e = then-go _ _ none ∙ when-no 22 _ (ne-eqb _ _ seen) ∙ when-no 23 _ e
 
 -- no fault: what it says
 pub record Passed (room : ℕ) (s old new : List ℕ) : Type 0 where
@@ -91,7 +84,3 @@ module _ (buffer : List ℕ) (used : ℕ) (old new : List ℕ) where
       → Saves buffer used old new (Used (length (resultOf (take used buffer) old new))) (written buffer used (resultOf (take used buffer) old new))
   unfolding savedOf bufferAfter answerOf _when_else_
   accepts e = record { answers = rw e; leaves = rw e }
-
--- a refusal hands on its number alone
-pub judged-refused : (f : ℕ) (result : List ℕ) (c : Change) → c .fault ≡ f → (f ≡ 0 → ⊥) → Judged f result c
-judged-refused f result c e h = record { fault = e; size = λ z. absurd (h z); bytes = λ z. absurd (h z) }

@@ -18,8 +18,8 @@ use Rattle.table.specs.Record.{lengthAt, rowAt}
 use Rattle.table.specs.Find.{rows}
 use Rattle.table.specs.Fault.{markOf, chainFault, endFault}
 use Rattle.table.specs.Read.{empty, plus, refusal, accepted, unless, byMark, records, readTable}
-use Rattle.table.specs.declared.Table.{Table}
 use Rattle.table.specs.declared.Reading.{Reading}
+use Rattle.table.specs.declared.Table.{Table}
 use Rattle.table.specs.declared.Mark.{Mark}
 use Rattle.table.specs.declared.Mark.the-variants.{Chain, Task, End, Other}
 use Rattle.table.specs.declared.Verdict.the-variants.{Accepted}

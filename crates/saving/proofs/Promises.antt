@@ -15,7 +15,8 @@ use Rattle.table.specs.Bytes.{Bytes}
 use Rattle.table.specs.Record.{idAt}
 use Rattle.table.specs.Find.{rowOf, rows}
 use Rattle.table.specs.Read.{accepted, readTable}
-use Rattle.saving.specs.Save.{numberOf, tableOf, saveFault, recordOf, seenOf, resultOf, changeFault, answerOf, written, savedOf, Saves}
+use Rattle.table.specs.Taken.{tableOf}
+use Rattle.saving.specs.Save.{numberOf, saveFault, recordOf, seenOf, resultOf, changeFault, answerOf, written, savedOf, Saves}
 use Rattle.saving.specs.Later.{State, stored, Holding, Edit, answer, after, afterAll, Never}
 use Rattle.saving.specs.declared.Saved.{Saved}
 use Rattle.saving.specs.declared.Saved.the-variants.{Used, Refused}
@@ -96,8 +97,8 @@ module _ (x : State) (h : Holding x) where
   -- a save whose old record is none of the stored ones is refused with 22
   pub unseen-refused : (e : Edit) → ((k : ℕ) → k < tableOf s .count → recordOf s k ≡ e .old → ⊥) → answer x e ≡ Refused 22
   unseen-refused e n =
-      let none = seen-none s (tableOf s) read (e .old) (λ j l z. n j l (same-true _ _ z)) in
-      let f = save-within (x .buffer) (x .used) (e .old) (e .new) (h .within) ∙ change-unseen (length (x .buffer)) s (tableOf s) read (e .old) (e .new) none in
+      let none = seen-none s (e .old) (λ j l z. n j l (same-true _ _ z)) in
+      let f = save-within (x .buffer) (x .used) (e .old) (e .new) (h .within) ∙ change-unseen (length (x .buffer)) s (e .old) (e .new) (h .right) none in
       sym (refuses (x .buffer) (x .used) (e .old) (e .new) 22 f (λ z. omega (arith, z)) .answers)
 
   -- so it is where the old record differs from the stored one of that id

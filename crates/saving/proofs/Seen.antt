@@ -1,5 +1,5 @@
--- Which stored record the old one is: laws of `seenOf` over a table that was read. Assumes nothing.
-use Prim.Native.Nat.{ℕ, _+_, _<_, _≤_}
+-- Which stored record the old one is: laws of `seenOf`. Assumes nothing.
+use Prim.Native.Nat.{ℕ, _+_, _-_, _<_, _≤_}
 use native.Mathlib.Omega.{arith}
 use mathlib.Core.Path.{_≡_, ap, sym, _∙_}
 use mathlib.Core.List.{List}
@@ -11,44 +11,53 @@ use Rattle.table.specs.Bytes.{Bytes}
 use Rattle.table.specs.Find.{rowOf}
 use Rattle.table.specs.Read.{accepted, readTable}
 use Rattle.table.specs.Place.{size, placeOf}
-use Rattle.table.specs.declared.Table.{Table}
-use Rattle.saving.specs.Save.{tableOf, same, recordOf, seenOf, splice, resultOf}
+use Rattle.table.specs.Taken.{tableOf}
+use Rattle.saving.specs.Save.{same, recordOf, seenOf, splice, resultOf}
 use Rattle.saving.proofs.Same.{same-true, same-yes}
-use Rattle.saving.proofs.Stored.{table-is, record-size}
+use Rattle.saving.proofs.Splices.{splice-length}
+use Rattle.saving.proofs.Stored.{stored-holds, record-size}
 
-module _ (s : List ℕ) (t : Table) (read : readTable s ≡ accepted t) (old : List ℕ) where
+module _ (s old : List ℕ) where
   -- the first chain whose record is the old one
-  pub seen-is : (k : ℕ) → k < t .count → same (recordOf s k) old ≡ true → ((j : ℕ) → j < k → same (recordOf s j) old ≡ true → ⊥) → seenOf s old ≡ k
+  pub seen-is : (k : ℕ) → k < tableOf s .count → same (recordOf s k) old ≡ true → ((j : ℕ) → j < k → same (recordOf s j) old ≡ true → ⊥) → seenOf s old ≡ k
   unfolding seenOf
   seen-is k h e before =
-      rw (table-is s t read) (first-is (λ j. same (recordOf s j) old) 0 (t .count) k (omega arith) (omega arith) e (λ j a l. before j l))
+      first-is (λ j. same (recordOf s j) old) 0 (tableOf s .count) k (omega arith) (omega arith) e (λ j a l. before j l)
 
   -- no chain's record is
-  pub seen-none : ((j : ℕ) → j < t .count → same (recordOf s j) old ≡ true → ⊥) → seenOf s old ≡ t .count
+  pub seen-none : ((j : ℕ) → j < tableOf s .count → same (recordOf s j) old ≡ true → ⊥) → seenOf s old ≡ tableOf s .count
   unfolding seenOf
   seen-none none =
-      let e : 0 + t .count ≡ t .count = omega arith in
-      rw (table-is s t read) (first-none (λ j. same (recordOf s j) old) 0 (t .count) (λ j a l. none j (omega arith)) ∙ e)
+      let e : 0 + tableOf s .count ≡ tableOf s .count = omega arith in
+      first-none (λ j. same (recordOf s j) old) 0 (tableOf s .count) (λ j a l. none j (omega arith)) ∙ e
 
-  pub seen-le : seenOf s old ≤ t .count
+  pub seen-le : seenOf s old ≤ tableOf s .count
   unfolding seenOf
-  seen-le = rw (table-is s t read) (omega (arith, first-le (λ j. same (recordOf s j) old) 0 (t .count)))
+  seen-le = omega (arith, first-le (λ j. same (recordOf s j) old) 0 (tableOf s .count))
 
   -- the record seen is the old one
-  pub seen-record : seenOf s old < t .count → recordOf s (seenOf s old) ≡ old
+  pub seen-record : seenOf s old < tableOf s .count → recordOf s (seenOf s old) ≡ old
   unfolding seenOf
-  seen-record h = same-true _ old (first-hit (λ j. same (recordOf s j) old) 0 (tableOf s .count) (omega (arith, h, ap (λ (t : Table). t .count) (table-is s t read))))
+  seen-record h = same-true _ old (first-hit (λ j. same (recordOf s j) old) 0 (tableOf s .count) (omega (arith, h)))
 
   -- a stored record is seen, no later than where it stands
-  pub seen-by : (k : ℕ) → k < t .count → recordOf s k ≡ old → seenOf s old ≤ k
+  pub seen-by : (k : ℕ) → k < tableOf s .count → recordOf s k ≡ old → seenOf s old ≤ k
   unfolding seenOf
   seen-by k h e =
       let n : ¬ (k < seenOf s old) = λ l. true-not-false (same-yes _ old e) (first-miss (λ j. same (recordOf s j) old) 0 (tableOf s .count) k (omega arith) l) in
       omega arith
 
-  -- so the result is the new one in its place
-  pub result-is : Bytes s → seenOf s old < t .count → (new : List ℕ) → splice s (placeOf t (seenOf s old)) (length old) new ≡ resultOf s old new
-  unfolding resultOf
-  result-is bytes h new =
-      let e : length old ≡ size (rowOf t (seenOf s old)) = ap length (sym (seen-record h)) ∙ record-size s t read bytes (seenOf s old) h in
-      rw (table-is s t read, e)
+  -- where one is, it takes as many bytes as the old one, and the result is the new one in their place
+  module _ (read : readTable s ≡ accepted (tableOf s)) (bytes : Bytes s) (h : seenOf s old < tableOf s .count) where
+    seen-size : length old ≡ size (rowOf (tableOf s) (seenOf s old))
+    seen-size = ap length (sym (seen-record h)) ∙ record-size s (tableOf s) read bytes (seenOf s old) h
+
+    pub seen-inside : placeOf (tableOf s) (seenOf s old) + length old ≤ length s
+    seen-inside = omega (arith, seen-size, stored-holds s (tableOf s) read bytes .inside (seenOf s old) h)
+
+    pub result-is : (new : List ℕ) → splice s (placeOf (tableOf s) (seenOf s old)) (length old) new ≡ resultOf s old new
+    unfolding resultOf
+    result-is new = rw seen-size
+
+    pub result-length : (new : List ℕ) → length (resultOf s old new) ≡ length s - length old + length new
+    result-length new = rw (← result-is new) (splice-length s (placeOf (tableOf s) (seenOf s old)) (length old) new seen-inside)

@@ -1,15 +1,19 @@
--- Laws of `splice` and `written`: lengths, a list built piece by piece, and the two writes of a save. Assumes nothing.
+-- Laws of `splice` and `written`: lengths, bytes written piece by piece, and the two writes of a save. Assumes nothing.
 use Prim.Native.Nat.{ℕ, max, _+_, _-_, _<_, _≤_}
 use native.Mathlib.Omega.{arith}
-use mathlib.Core.Path.{_≡_, refl}
-use mathlib.Core.List.{List, _++_, append-assoc, append-nil}
-use lib.ListN.{length, take, drop, replicate, length-append, length-take, length-drop, length-replicate, replicate-append-replicate, take-append-drop}
+use mathlib.Core.Path.{_≡_, refl, ap, sym, _∙_}
+use mathlib.Core.List.{List, [], _++_, append-assoc, append-nil}
+use lib.ListN.{length, take, drop, replicate, length-append, length-take, length-drop, take-append-drop}
 use lib.Seq.{length-take-le, take-at, drop-at, take-add, drop-drop}
-use Rattle.table.specs.Record.{pad}
 use Rattle.saving.specs.Save.{splice, written}
+use Rattle.saving.specs.Begins.{Begins}
 
 pub splice-length : (s : List ℕ) (at n : ℕ) (new : List ℕ) → at + n ≤ length s → length (splice s at n new) ≡ length s - n + length new
 splice-length s at n new h = simp (length-append, length-take, length-drop) (omega arith)
+
+-- as many bytes as are put give way
+pub put-length : (s : List ℕ) (at : ℕ) (x : List ℕ) → at + length x ≤ length s → length (splice s at (length x) x) ≡ length s
+put-length s at x h = splice-length s at (length x) x h ∙ omega arith
 
 -- bytes in their own place change nothing
 pub splice-same : (s : List ℕ) (at n : ℕ) → splice s at n (take n (drop at s)) ≡ s
@@ -23,17 +27,19 @@ written-same buffer used h =
     let m : max used used ≡ used = omega arith in
     rw (l, z, m, append-nil) (take-append-drop used buffer)
 
--- a list filled up with 0, and more put after what is there
-pub pad-length : (m : ℕ) (l : List ℕ) → length l ≤ m → length (pad m l) ≡ m
-pad-length m l h = simp (length-append, length-replicate) (omega arith)
+-- any bytes begin with none
+pub begins-none : (out : List ℕ) → Begins out []
+begins-none out = record { first = refl }
 
-pub pad-put : (m : ℕ) (l x : List ℕ) (at : ℕ) → length l ≡ at → at + length x ≤ m → splice (pad m l) at (length x) x ≡ pad m (l ++ x)
-pad-put m l x at e h =
-    let rest = m - length (l ++ x) in
-    let z : List ℕ = replicate (length x) 0 in
-    let f : m - length l ≡ length x + rest = omega (arith, length-append l x) in
-    let g : length (l ++ z) ≡ at + length x = omega (arith, length-append l z, length-replicate {A = ℕ} (length x) 0) in
-    rw (f, ← replicate-append-replicate {A = ℕ} (length x) rest 0, take-at l (z ++ replicate rest 0) at e, ← append-assoc l z (replicate rest 0), drop-at (l ++ z) (replicate rest 0) (at + length x) g)
+-- more is put after what is there
+pub begins-put : (out l x : List ℕ) (at : ℕ) → Begins out l → length l ≡ at → Begins (splice out at (length x) x) (l ++ x)
+begins-put out l x at b e =
+    let f : take at out ≡ l = ap (λ (n : ℕ). take n out) (sym e) ∙ b .first in
+    record { first = rw f (take-at (l ++ x) (drop (at + length x) out) (length (l ++ x)) refl) }
+
+-- there is room for what they begin with
+pub begins-length : (out l : List ℕ) → Begins out l → length l ≤ length out
+begins-length out l b = omega (arith, ap length (b .first), length-take (length l) out)
 
 -- the result written from the first byte on
 written-first : (buffer result : List ℕ) → splice buffer 0 (length result) result ≡ result ++ drop (length result) buffer

@@ -7,12 +7,13 @@ use lib.ListN.{length, take, drop, length-take, length-drop}
 use Rattle.table.specs.Bytes.{Bytes}
 use Rattle.table.specs.Find.{rowOf}
 use Rattle.table.specs.Read.{accepted, readTable}
+use Rattle.table.specs.declared.Reading.{Reading}
 use Rattle.table.specs.Place.{size, placeOf, Holds}
 use Rattle.table.specs.Good.{GoodTable}
+use Rattle.table.specs.Taken.{tableOf, Taken}
 use Rattle.table.specs.declared.Table.{Table}
-use Rattle.table.specs.declared.Reading.{Reading}
-use Rattle.table.proofs.Accepted.{accepted-good, accepted-holds}
-use Rattle.saving.specs.Save.{tableOf, recordOf}
+use Rattle.table.proofs.Accepted.{taken}
+use Rattle.saving.specs.Save.{recordOf}
 
 module _ (s : List ℕ) (t : Table) (read : readTable s ≡ accepted t) where
   pub table-is : tableOf s ≡ t
@@ -22,11 +23,14 @@ module _ (s : List ℕ) (t : Table) (read : readTable s ≡ accepted t) where
   unfolding recordOf
   record-is k = rw table-is
 
+  pub stored-taken : Bytes s → Taken s
+  stored-taken bytes = taken s bytes (ap (λ (r : Reading). r .verdict) read)
+
   pub stored-good : Bytes s → GoodTable t
-  stored-good bytes = subst GoodTable table-is (accepted-good s bytes (ap (λ (r : Reading). r .verdict) read))
+  stored-good bytes = subst GoodTable table-is (stored-taken bytes .good)
 
   pub stored-holds : Bytes s → Holds s t
-  stored-holds bytes = subst (Holds s) table-is (accepted-holds s bytes (ap (λ (r : Reading). r .verdict) read))
+  stored-holds bytes = subst (Holds s) table-is (stored-taken bytes .holds)
 
   -- a stored record is whole
   pub record-size : Bytes s → (k : ℕ) → k < t .count → length (recordOf s k) ≡ size (rowOf t k)

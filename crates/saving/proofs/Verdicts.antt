@@ -14,13 +14,14 @@ use Rattle.table.specs.Bytes.{word}
 use Rattle.table.specs.Record.{rowAt, lengthAt}
 use Rattle.table.specs.Fault.{markOf, chainFault, endFault}
 use Rattle.table.specs.Read.{empty, plus, refusal, accepted, unless, byMark, start, records, readTable, numberOf}
-use Rattle.table.specs.declared.Table.{Table}
 use Rattle.table.specs.declared.Reading.{Reading}
+use Rattle.table.specs.declared.Table.{Table}
+use Rattle.table.specs.Taken.{tableOf}
 use Rattle.table.specs.declared.Mark.{Mark}
 use Rattle.table.specs.declared.Mark.the-variants.{Chain, Task, End, Other}
 use Rattle.table.proofs.Firsts.{or-left, or-right}
 use Rattle.table.proofs.Steps.{read-long}
-use Rattle.saving.specs.Save.{tableOf, readFault}
+use Rattle.saving.specs.Save.{readFault}
 
 Right : Reading → Type 0
 Right r = numberOf (r .verdict) ≡ 0 → r ≡ accepted (r .table)

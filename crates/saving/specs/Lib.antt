@@ -1,3 +1,3 @@
 pub mod Save
-pub mod Judged
+pub mod Begins
 pub mod Later

@@ -13,7 +13,7 @@ use Rattle.table.specs.Find.{rowOf}
 use Rattle.table.specs.Fault.{_then_, markOf}
 use Rattle.table.specs.Read.{numberOf as verdictNumber, readTable}
 use Rattle.table.specs.Place.{size, placeOf}
-use Rattle.table.specs.declared.Table.{Table}
+use Rattle.table.specs.Taken.{tableOf}
 use Rattle.table.specs.declared.Mark.{Mark}
 use Rattle.table.specs.declared.Mark.the-variants.{Chain, Task, End, Other}
 use Rattle.saving.specs.declared.Saved.{Saved}
@@ -29,10 +29,7 @@ abbrev pub figuresOf : Saved → List ℕ
 figuresOf (Used n) = n ∷ []
 figuresOf (Refused n) = []
 
--- the table that the bytes store, and its fault, 1 to 11, 0 if there is none
-abbrev pub tableOf : List ℕ → Table
-tableOf s = readTable s .table
-
+-- the fault of the table that the bytes store, 1 to 11, 0 if there is none
 abbrev pub readFault : List ℕ → ℕ
 readFault s = verdictNumber (readTable s .verdict)
 

@@ -15,13 +15,6 @@ pub enum Saved {
     Refused(u32),
 }
 
-// What a save comes to: its fault, 0 for none, and where there is none the table's bytes afterwards, `length` of them.
-struct Change {
-    fault: u32,
-    length: usize,
-    bytes: [u8; Table::BYTES],
-}
-
 // Replaces the record `old`, as the editor saw it, by `new`, in the table that is the first `used` bytes of the buffer.
 pub fn save(buffer: &mut [u8], used: u64, old: &[u8], new: &[u8]) -> Saved
     ensures { λ r. ⌜ Saves (now (buffer .entry)) used (now (old .entry)) (now (new .entry)) r (now (buffer .exit)) ⌝ }
@@ -31,13 +24,12 @@ pub fn save(buffer: &mut [u8], used: u64, old: &[u8], new: &[u8]) -> Saved
         return Saved::Refused(1);
     }
     let end = used as usize;
-    let change = judged(&buffer[..end], room, old, new);
-    let fault = change.fault;
+    let mut bytes = [0u8; Table::BYTES];
+    let fault = judged(&buffer[..end], room, old, new, &mut bytes);
     if fault != 0 {
         return Saved::Refused(fault);
     }
-    let n = change.length;
-    let bytes = change.bytes;
+    let n = end - old.len() + new.len();
     store(buffer, end, &bytes[..n]);
     Saved::Used(n as u32)
 }

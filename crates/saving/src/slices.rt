@@ -1,11 +1,9 @@
 // Byte slices: compared, copied and cleared.
-use table::Table;
 ghost use mathlib.Core.Path.{_≡_};
 ghost use Prim.Native.Nat.{_+_, _≤_};
 ghost use lib.ListN.{length, replicate};
-ghost use Rattle.table.specs.Limits.{maxBytes};
-ghost use Rattle.table.specs.Record.{pad};
 ghost use Rattle.saving.specs.Save.{same as sameOf, splice, written};
+ghost use Rattle.saving.specs.Begins.{Begins};
 
 // Whether the two are the same in every byte.
 pub fn same(a: &[u8], b: &[u8]) -> bool
@@ -47,16 +45,14 @@ fn clear(s: &mut [u8])
     }
 }
 
-// The bytes with `new` in the place of `gone` of them from `at` on, filled up with 0.
-pub fn spliced(s: &[u8], at: usize, gone: usize, new: &[u8]) -> [u8; Table::BYTES]
-    requires { ⌜ (at + gone ≤ length (now s)) × (length (splice (now s) at gone (now new)) ≤ maxBytes) ⌝ }
-    ensures { λ r. ⌜ r ≡ pad maxBytes (splice (now (s .entry)) at gone (now (new .entry))) ⌝ }
+// Writes the bytes with `new` in the place of `gone` of them from `at` on, as the first of `out`.
+pub fn spliced(s: &[u8], at: usize, gone: usize, new: &[u8], out: &mut [u8])
+    requires { ⌜ (at + gone ≤ length (now s)) × (length (splice (now s) at gone (now new)) ≤ length (now out)) ⌝ }
+    ensures { λ _. ⌜ Begins (now (out .exit)) (splice (now (s .entry)) at gone (now (new .entry))) ⌝ }
 {
-    let mut out = [0u8; Table::BYTES];
-    put(&mut out, 0, &s[..at]);
-    put(&mut out, at, new);
-    put(&mut out, at + new.len(), &s[at + gone..]);
-    out
+    put(out, 0, &s[..at]);
+    put(out, at, new);
+    put(out, at + new.len(), &s[at + gone..]);
 }
 
 // The result becomes the first bytes of the buffer, and what is left of the former table becomes 0.

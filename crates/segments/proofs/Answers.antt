@@ -23,7 +23,7 @@ use Rattle.table.proofs.Lists.{every-at}
 use Rattle.table.proofs.Goods.{pad-at}
 use Rattle.table.proofs.Firsts.{none-or}
 use Rattle.table.proofs.Faultless.{inside}
-use Rattle.table.proofs.Accepted.{accepted-holds}
+use Rattle.table.proofs.Accepted.{taken}
 use Rattle.segments.specs.Actives.{Active, nothing, activesOf}
 use Rattle.segments.specs.Query.{firstTaskOf, nthOf, answerOf, judged, segmentOf, partOf}
 use Rattle.segments.specs.declared.Answer.the-variants.{Records, Refused}
@@ -128,7 +128,7 @@ module _ (s : List ℕ) (bytes : Bytes s) (chain against number offset len : ℕ
       (sym (ap (λ v. judged v (answerOf (readTable s .table) chain against number)) accepted) ∙ e)
 
   holds : Holds s (readTable s .table)
-  holds = accepted-holds s bytes accepted
+  holds = taken s bytes accepted .holds
 
   -- the active segment stands in its chain
   stands : Stands (rowOf (readTable s .table) (findOf (readTable s .table) chain)) (activeIn (readTable s .table) chain against number)

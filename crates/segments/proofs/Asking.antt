@@ -2,7 +2,8 @@
 use Prim.Native.Nat.{ℕ, zero, suc, _+_, _*_, _-_, _<_, _≤_}
 use native.Mathlib.Omega.{arith}
 use native.Mathlib.Numerals.{add-one}
-use mathlib.Core.Path.{_≡_, ap, sym, _∙_}
+use mathlib.Core.Path.{_≡_, ap, ap₂, sym, _∙_}
+use mathlib.Core.List.{List}
 use mathlib.Core.Bool.{Bool, true, false, not}
 use mathlib.Core.Logic.{_⊎_, ⊎-elim}
 use borrow.Author.Tests.{le-ltb, lt-ltb, ltb-false}
@@ -14,12 +15,16 @@ use Rattle.table.specs.Place.{placeOf}
 use Rattle.table.specs.Good.{GoodTable}
 use Rattle.table.specs.declared.Row.{Row}
 use Rattle.table.specs.declared.Table.{Table}
+use Rattle.table.specs.Record.{firstTask, rowAt}
+use Rattle.table.specs.Taken.{tableOf, Taken}
 use Rattle.table.proofs.Standing.{place-none, place-on}
+use Rattle.table.proofs.Stands.{row-there}
 use Rattle.table.proofs.Firsts.{or-left, or-right, or-none}
 use Rattle.table.proofs.Finds.{find-le}
-use Rattle.segments.specs.Actives.{nothing, activesOf}
+use Rattle.segments.specs.Tasks.{tasksOf, floorOf, tailOf}
+use Rattle.segments.specs.Actives.{nothing, actives, activesOf}
 use Rattle.segments.specs.Held.{arraysOf}
-use Rattle.segments.specs.Query.{nthOf}
+use Rattle.segments.specs.Query.{firstTaskOf, nthOf}
 use Rattle.segments.specs.declared.Actives.{Actives}
 use Rattle.segments.specs.declared.Answer.the-variants.{Records, Refused}
 use Rattle.segments.proofs.Bounds.{actives-tasks}
@@ -36,6 +41,16 @@ module _ (t : Table) (id : ℕ) where
   pub known-below : (findOf t id ≡ t .count → ⊥) → findOf t id < t .count
   known-below e = omega (arith, find-le t id)
 
+-- what `active_segments` finds of a at b's floor and tail
+pub found-is : (a b : Row) (floor tail : ℕ) (l : Actives) → floor ≡ floorOf b → tail ≡ tailOf b → l ≡ arraysOf (actives floor tail (tasksOf a))
+    → l ≡ arraysOf (activesOf a b)
+found-is a b floor tail l f t e = e ∙ ap₂ (λ x y. arraysOf (actives x y (tasksOf a))) f t
+
+-- where the task records of the chain k start, by its record
+pub first-there : {s : List ℕ} (t : Taken s) {k at : ℕ} → at ≡ placeOf (tableOf s) k → k < tableOf s .count → firstTask s at ≡ firstTaskOf (tableOf s) k
+unfolding rowAt
+first-there t e h = omega (arith, e, ap (λ (r : Row). r .listed) (row-there t e h))
+
 -- the active segment n, counted from 1, out of the arrays: it stands inside its chain
 pub record Fetched (a b : Row) (l : Actives) (n : ℕ) : Type 0 where
   pub start : getD (l .start) (n - 1) 0 ≡ getD (activesOf a b) (n - 1) nothing .start
@@ -49,7 +64,7 @@ fetched a b l n e some few =
     record {
       start = rw e (array-at (λ s. s .start) (activesOf a b) (n - 1) h);
       len = rw e (array-at (λ s. s .len) (activesOf a b) (n - 1) h);
-      few = omega (arith, actives-tasks a b);
+      few = omega (arith, actives-tasks a (floorOf b) (tailOf b));
       inside = all-at (Stands a) (activesOf a b) (n - 1) (actives-stand a b) h .inside;
     }
 
@@ -62,11 +77,11 @@ module _ (t : Table) (k j n : ℕ) (l : Actives) (e : l ≡ arraysOf (activesOf 
   unfolding nthOf
   nth-none h = sym (when-yes _ _ (⊎-elim (λ z. or-left _ _ (lt-ltb n 1 (omega arith))) (λ z. or-right (ltb n 1) _ (count-is true z)) h))
 
-  -- the task records of the one that has it, where the record of the chain k starts at `at`
-  pub nth-records : (at : ℕ) → at ≡ placeOf t k → (n ≡ 0 → ⊥) → ltb (l .count) n ≡ false
-      → Records (at + 16 + 4 * rowOf t k .listed + 8 * getD (l .start) (n - 1) 0) (8 * getD (l .len) (n - 1) 0) ≡ nthOf t k j n
+  -- the task records of the one that has it, where those of the chain k start at `first`
+  pub nth-records : (first : ℕ) → first ≡ firstTaskOf t k → (n ≡ 0 → ⊥) → ltb (l .count) n ≡ false
+      → Records (first + 8 * getD (l .start) (n - 1) 0) (8 * getD (l .len) (n - 1) 0) ≡ nthOf t k j n
   unfolding nthOf
-  nth-records at p some few =
+  nth-records first p some few =
       let f = fetched (rowOf t k) (rowOf t j) l n e some (ltb-false (l .count) n few) in
       rw (p, f .start, f .len) (sym (when-no _ _ (or-none _ _ (le-ltb n 1 (omega arith)) (count-is false few))))
 

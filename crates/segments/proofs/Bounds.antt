@@ -144,16 +144,17 @@ parts-cost p ss =
     sum-map (cuts p) (sumOf costOf) ss
     ∙ sum-ext _ costOf ss (λ s. sym (sum-flatten (λ t. t .cost) (cuts p s)) ∙ ap costOf (cuts-flatten p s))
 
-module _ (a b : Row) where
-  pub actives-tasks : length (activesOf a b) ≤ a .tasks
+module _ (a : Row) (floor tail : ℕ) where
+  pub actives-tasks : length (actives floor tail (tasksOf a)) ≤ a .tasks
   unfolding actives parts
   actives-tasks =
-      let ss = stretches (below (floorOf b)) (tasksOf a) in
-      omega (arith, order-length (map (cuts (below (tailOf b))) ss), parts-few (below (tailOf b)) ss, stretches-few (below (floorOf b)) (tasksOf a), rest-length (a .priority) (a .cost) (a .tasks) 0)
+      let ss = stretches (below floor) (tasksOf a) in
+      omega (arith, order-length (map (cuts (below tail)) ss), parts-few (below tail) ss, stretches-few (below floor) (tasksOf a), rest-length (a .priority) (a .cost) (a .tasks) 0)
 
-  pub actives-few : GoodRow a → length (activesOf a b) ≤ maxTasks
+  pub actives-few : GoodRow a → length (actives floor tail (tasksOf a)) ≤ maxTasks
   actives-few good = omega (arith, actives-tasks, good .tasks .few)
 
+module _ (a b : Row) where
   -- all active segments together cost what all segments cost, and each no more than that
   pub actives-cost : sumOf (λ s. s .cost) (activesOf a b) ≡ allCost a b
   unfolding actives parts

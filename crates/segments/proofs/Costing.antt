@@ -14,10 +14,9 @@ use Rattle.segments.specs.Tasks.{Task, tasksFrom, costOf, below, before}
 use Rattle.segments.specs.Segments.{_on_, stretches, onward, around, segments}
 use Rattle.segments.specs.Held.{stretchOf}
 use Rattle.segments.specs.declared.tasks.Stretch.{Stretch}
-use Rattle.segments.proofs.Steps.{rest-on, rest-end, rest-all, rest-drop, rest-length, cost-nil, before-length, aheadOf, ahead-len, ahead-cost}
+use Rattle.segments.proofs.Steps.{rest-on, rest-end, rest-all, rest-drop, rest-length, cost-nil}
 use Rattle.segments.proofs.Lists.{sum-on, full-sum, full-most, around-sum}
-use Rattle.segments.proofs.Levels.{none-before, all-before}
-use Rattle.segments.proofs.Stretches.{stretches-some, stretches-split, stretches-none}
+use Rattle.segments.proofs.Stretches.{stretches-some, stretches-split}
 
 -- what the tasks that do not pass cost
 abbrev pub kept : (Task → Bool) → List Task → ℕ
@@ -103,13 +102,6 @@ dear-from p f run (t ∷ ts) = go (p t) (dear-from p f 0 ts) (dear-from p f (run
     go false d e = e ∙ sym (from-on f run t (stretches p ts))
 
 module _ (floor : ℕ) (ts : List Task) where
-  dearest-free : length (before (below floor) ts) ≡ length ts → mostOf costOf (segments floor ts) ≡ costOf (before (below floor) ts)
-  unfolding around onward mostOf
-  dearest-free h =
-      let none = all-before (below floor) ts h in
-      most-around floor ts ∙ ap (λ l. mostOf costOf (around _++_ l)) (stretches-none (below floor) ts none)
-      ∙ omega (arith, ap costOf (none-before (below floor) ts none))
-
   dearest-deferred : length (before (below floor) ts) < length ts
       → mostOf costOf (segments floor ts) ≡ dear (below floor) (costOf (before (below floor) ts)) 0 (drop (suc (length (before (below floor) ts))) ts)
   unfolding around
@@ -136,21 +128,15 @@ module _ (ps cs : List ℕ) (n floor f : ℕ) where
   unfolding dear
   dear-end run k h = rw (rest-end ps cs n k h)
 
--- from what `ahead` finds of the first stretch
-module _ (ps cs : List ℕ) (n floor : ℕ) (r : Stretch) (d : r ≡ stretchOf (aheadOf ps cs n floor 0)) where
+-- from the first stretch on
+module _ (ps cs : List ℕ) (n floor : ℕ) (r : Stretch) (d : r ≡ stretchOf (before (below floor) (tasksFrom ps cs n 0))) where
   len-is : r .len ≡ length (before (below floor) (tasksFrom ps cs n 0))
-  len-is = ahead-len ps cs n floor r d
+  len-is = ap (λ s. s .len) d
 
-  cost-is : r .cost ≡ costOf (before (below floor) (tasksFrom ps cs n 0))
-  cost-is = ahead-cost ps cs n floor r d
-
-  pub dearest-one : r .len ≡ n → r .cost ≡ mostOf costOf (segments floor (tasksFrom ps cs n 0))
-  dearest-one e = cost-is ∙ sym (dearest-free floor (tasksFrom ps cs n 0) (omega (arith, len-is, rest-length ps cs n 0)))
-
-  pub dearest-more : (r .len ≡ n → ⊥) → mostOf costOf (segments floor (tasksFrom ps cs n 0)) ≡ dearFrom ps cs n floor (r .cost) 0 (r .len + 1)
-  dearest-more e =
+  pub dearest-more : r .len < n → mostOf costOf (segments floor (tasksFrom ps cs n 0)) ≡ dearFrom ps cs n floor (r .cost) 0 (r .len + 1)
+  dearest-more h =
       let ts = tasksFrom ps cs n 0 in
-      let l : length (before (below floor) ts) < length ts = omega (arith, len-is, rest-length ps cs n 0, before-length (below floor) ts) in
+      let l : length (before (below floor) ts) < length ts = omega (arith, len-is, rest-length ps cs n 0) in
       dearest-deferred floor ts l
-      ∙ ap₂ (λ c us. dear (below floor) c 0 us) (sym cost-is)
+      ∙ ap₂ (λ c us. dear (below floor) c 0 us) (sym (ap (λ s. s .cost) d))
       (rest-drop ps cs n 0 (suc (length (before (below floor) ts))) ∙ ap₂ (tasksFrom ps cs) (omega (arith, len-is)) (omega (arith, len-is)))

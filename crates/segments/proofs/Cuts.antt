@@ -1,4 +1,4 @@
--- The active segments one by one, as `cut` finds them. Assumes nothing.
+-- The active segments one by one, as `active_segments` finds them. Assumes nothing.
 use Prim.Native.Nat.{ℕ, suc, _+_, _-_, _<_, _≤_}
 use native.Mathlib.Omega.{arith}
 use mathlib.Core.Path.{_≡_, refl, ap, ap₂, sym, _∙_}
@@ -12,15 +12,13 @@ use Rattle.search.specs.Choice.{_when_else_}
 use Rattle.search.proofs.Choice.{when-yes, when-no}
 use Rattle.table.specs.Limits.{maxTasks}
 use Rattle.table.specs.Record.{pad}
-use Rattle.table.specs.declared.Row.{Row}
-use Rattle.segments.specs.Tasks.{Task, tasksFrom, tasksOf, costOf, floorOf, tailOf, below, before}
+use Rattle.segments.specs.Tasks.{Task, tasksFrom, costOf, below, before}
 use Rattle.segments.specs.Segments.{_on_, stretches, cuts, parts}
-use Rattle.segments.specs.Actives.{Active, active, startOf, numbered, inOrder, actives, activesOf}
-use Rattle.segments.specs.Held.{stretchOf, arraysOf, plus}
+use Rattle.segments.specs.Actives.{Active, active, startOf, numbered, inOrder, actives}
+use Rattle.segments.specs.Held.{stretchOf, arraysOf}
 use Rattle.segments.specs.declared.tasks.Stretch.{Stretch}
 use Rattle.segments.specs.declared.Actives.{Actives}
 use Rattle.segments.proofs.Steps.{task, rest-on, rest-end, rest-all, rest-drop, cost-cons, aheadOf, ahead-inside}
-use Rattle.segments.proofs.Levels.{lowest-le}
 use Rattle.segments.proofs.Stretches.{cuts-some}
 
 -- a task in front of the first active segment of the first stretch
@@ -104,6 +102,16 @@ module _ (floor tail last k : ℕ) (t : Task) (us : List Task) where
   tagged-on h l = rw (le-ltb (t .priority) floor l) (ap (tagged last k) (parts-on floor tail h t us) ∙ tagged-put last k (t ∷ before (below tail) us) (parts floor tail (after floor tail h us)))
 
 -- one active segment more in the arrays
+abbrev pub plus : Actives → ℕ → ℕ → ℕ → ℕ → Actives
+plus a start len cost segment =
+    record {
+      count = a .count + 1;
+      start = set (a .start) (a .count) start;
+      len = set (a .len) (a .count) len;
+      cost = set (a .cost) (a .count) cost;
+      segment = set (a .segment) (a .count) segment;
+    }
+
 pad-put : (m : ℕ) (l : List ℕ) (x : ℕ) → length l < m → pad m (l ++ (x ∷ [])) ≡ set (pad m l) (length l) x
 pad-put m l x h =
     let e : m - length l ≡ suc (m - (length l + 1)) = omega arith in
@@ -118,7 +126,7 @@ map-put f l a h =
 put : (l : List Active) (a : Active) → length l < maxTasks → arraysOf (l ++ (a ∷ [])) ≡ plus (arraysOf l) (a .start) (a .len) (a .cost) (a .segment)
 put l a h = rw (map-put (λ b. b .start) l a h, map-put (λ b. b .len) l a h, map-put (λ b. b .cost) l a h, map-put (λ b. b .segment) l a h, length-append)
 
--- the loop of `cut`
+-- the loop of `active_segments`
 module _ (ps cs : List ℕ) (n floor tail last : ℕ) where
   pub left : ℕ → ℕ → List Active
   left k i = tagged last k (parts floor tail (tasksFrom ps cs (n - i) i))
@@ -190,11 +198,3 @@ module _ (ps cs : List ℕ) (n floor tail last : ℕ) where
       let f : c .found ≡ left 0 0 = sym (append-nil (c .found)) ∙ ap (λ r. c .found ++ tagged last k (parts floor tail r)) (sym (rest-end ps cs n i h)) ∙ c .whole in
       let g : last + 1 ≡ length (parts floor tail (tasksFrom ps cs n 0)) = rw length-map e in
       c .is ∙ ap arraysOf (f ∙ ap (λ r. tagged last 0 (parts floor tail r)) (rest-all ps cs n) ∙ tagged-order last (parts floor tail (tasksFrom ps cs n 0)) g)
-
--- at b's floor and tail
-pub cut-is : (a b : Row) (floor tail : ℕ) (l : Actives) → floor ≡ floorOf b → tail ≡ tailOf b → l ≡ arraysOf (actives floor tail (tasksOf a))
-    → l ≡ arraysOf (activesOf a b)
-cut-is a b floor tail l f t e = e ∙ ap₂ (λ x y. arraysOf (actives x y (tasksOf a))) f t
-
-pub floor-tail : (b : Row) (floor tail : ℕ) → floor ≡ floorOf b → tail ≡ tailOf b → floor ≤ tail
-floor-tail b floor tail f t = omega (arith, lowest-le (b .priority) (b .tasks - 1) (b .tasks - 1) (omega arith))

@@ -13,10 +13,10 @@ use Rattle.search.specs.Choice.{_when_else_}
 use Rattle.search.specs.Lists.{All}
 use Rattle.search.proofs.Choice.{lt-or-le}
 use Rattle.table.specs.declared.Row.{Row}
-use Rattle.segments.specs.Tasks.{Task, tasksFrom, tasksOf, costOf, chainCost, lowest, floorOf, below, at, some, before, ownPart}
+use Rattle.segments.specs.Tasks.{Task, tasksFrom, tasksOf, costOf, chainCost, lowest, floorOf, tailOf, below, at, some, before, ownPart}
 use Rattle.segments.specs.Held.{stretchOf}
 use Rattle.segments.specs.declared.tasks.Stretch.{Stretch}
-use Rattle.segments.proofs.Steps.{rest-each, rest-length, aheadOf, ahead-len, ahead-cost}
+use Rattle.segments.proofs.Steps.{rest-each, aheadOf, ahead-first}
 
 -- the lowest is one of them, and none lies below it
 pub lowest-hit : (ps : List ℕ) (n : ℕ) → (k : ℕ) × (k ≤ n) × (getD ps k 0 ≡ lowest ps n)
@@ -38,6 +38,10 @@ lowest-on ps k h =
     let e : k + 1 - 1 ≡ suc (k - 1) = omega arith in
     let f : suc (k - 1) ≡ k = omega arith in
     rw (e, f)
+
+-- floor ≤ tail: the tail is one of the priorities
+pub floor-tail : (b : Row) → floorOf b ≤ tailOf b
+floor-tail b = lowest-le (b .priority) (b .tasks - 1) (b .tasks - 1) (omega arith)
 
 pub lowest-one : (ps : List ℕ) → lowest ps (1 - 1) ≡ getD ps 0 0
 unfolding lowest
@@ -90,18 +94,12 @@ module _ (p : Task → Bool) where
       go true e r = let z : _≡_ {A = ℕ} 0 1 = cc in absurd (omega arith)
       go false e r = ap (λ l. t ∷ l) (r e)
 
--- from what `ahead` finds up to the floor: whether a chain interferes freely
-pub free-is : (ps cs : List ℕ) (n floor : ℕ) (r : Stretch) → r ≡ stretchOf (aheadOf ps cs n floor 0)
-    → eqb (r .len) n ≡ not (some (below floor) (tasksFrom ps cs n 0))
-free-is ps cs n floor r d =
-    ap₂ eqb (ahead-len ps cs n floor r d) (sym (rest-length ps cs n 0)) ∙ sym (some-before (below floor) (tasksFrom ps cs n 0))
-
 -- up to the level 0: the whole chain; and up to the level above b's floor: its own first part
 pub whole-is : (a : Row) (r : Stretch) → r ≡ stretchOf (aheadOf (a .priority) (a .cost) (a .tasks) 0 0) → r .cost ≡ chainCost a
-whole-is a r d = ahead-cost (a .priority) (a .cost) (a .tasks) 0 r d ∙ ap costOf (before-zero (tasksOf a))
+whole-is a r d = ap (λ s. s .cost) d ∙ ap costOf (ahead-first (a .priority) (a .cost) (a .tasks) 0 ∙ before-zero (tasksOf a))
 
 pub own-is : (b : Row) (floor : ℕ) (r : Stretch) → floor ≡ floorOf b → r ≡ stretchOf (aheadOf (b .priority) (b .cost) (b .tasks) (floor + 1) 0)
     → r .cost ≡ ownPart b
 own-is b floor r e d =
-    ahead-cost (b .priority) (b .cost) (b .tasks) (floor + 1) r d ∙ ap (λ f. costOf (before (below (f + 1)) (tasksOf b))) e
-    ∙ ap costOf (sym (own-before (b .priority) (b .cost) (b .tasks)))
+    ap (λ s. s .cost) d ∙ ap costOf (ahead-first (b .priority) (b .cost) (b .tasks) (floor + 1))
+    ∙ ap (λ f. costOf (before (below (f + 1)) (tasksOf b))) e ∙ ap costOf (sym (own-before (b .priority) (b .cost) (b .tasks)))

@@ -1,5 +1,5 @@
 -- The active segments by number are those of the segments, in another order. Assumes nothing.
-use Prim.Native.Nat.{ℕ, suc, _+_, _-_}
+use Prim.Native.Nat.{ℕ, suc, _+_}
 use native.Mathlib.Omega.{arith}
 use mathlib.Core.Path.{_≡_, refl, ap, subst, _∙_}
 use mathlib.Core.List.{List, [], _∷_, _++_, append-assoc, map, map-append, List·Permᴰ, List·Permᴰ·trans, List·Permᴰ·append-comm, Permᴰ·refl, Permᴰ·append-left, Permᴰ·append-right}

@@ -9,11 +9,10 @@ use Rattle.search.specs.Lists.{sumOf, mostOf}
 use Rattle.table.specs.Limits.{maxTasks}
 use Rattle.table.specs.Record.{pad}
 use Rattle.table.specs.declared.Row.{Row}
-use Rattle.segments.specs.Tasks.{tasksFrom, lowest, some, before, ownPart}
-use Rattle.segments.specs.Segments.{stretches, onward, around, full, segments, segmentsOf, cuts, parts, cutSegments}
+use Rattle.segments.specs.Tasks.{tasksFrom, chainCost, lowest, some, deferred, before, firstCost, ownPart}
+use Rattle.segments.specs.Segments.{stretches, onward, around, full, segments, segmentsOf, allCost, dearestCost, cuts, parts, cutSegments}
 use Rattle.segments.specs.Actives.{Active, startOf, numbered, inOrder, actives, activesOf}
-use Rattle.segments.specs.View.{viewOf, seenOf}
-use Rattle.segments.specs.declared.Seen.{Seen}
+use Rattle.segments.specs.View.{viewOf}
 
 -- a chain of these priorities and costs
 abbrev pub chain : List ℕ → List ℕ → Row
@@ -77,18 +76,18 @@ pub view-samples : ViewSamples
 unfolding tasksFrom lowest stretches onward around full cuts parts cutSegments sumOf viewOf _when_else_
 view-samples = record { sample-view = refl; figure-view = refl; free-view = refl; low-view = refl }
 
-abbrev pub seen : Bool → ℕ → ℕ → ℕ → ℕ → Seen
-seen free cost first all dearest = record { free = free; cost = cost; first = first; all = all; dearest = dearest }
+-- whether a is deferred, its cost, first-segment cost, all segments, dearest segment
+abbrev pub costs : Row → Row → Bool × List ℕ
+costs a b = (deferred a b, chainCost a ∷ firstCost a b ∷ allCost a b ∷ dearestCost a b ∷ [])
 
--- freely or not, the chain's cost, first-segment cost, all segments, dearest segment
-pub record SeenSamples : Type 0 where
-  pub sample-seen : seenOf sample3 sample1 ≡ seen false 20 6 16 16
+pub record CostSamples : Type 0 where
+  pub sample-costs : costs sample3 sample1 ≡ (true, 20 ∷ 6 ∷ 16 ∷ 16 ∷ [])
   pub sample-own : ownPart sample1 ≡ 10
-  pub figure-seen : seenOf figureA figureB ≡ seen false 63 7 23 16
-  pub free-seen : seenOf free edge ≡ seen true 7 7 7 7
-  pub low-seen : seenOf low edge ≡ seen false 7 0 0 0
-  pub even-seen : seenOf even edge ≡ seen true 7 7 7 7
+  pub figure-costs : costs figureA figureB ≡ (true, 63 ∷ 7 ∷ 23 ∷ 16 ∷ [])
+  pub free-costs : costs free edge ≡ (false, 7 ∷ 7 ∷ 7 ∷ 7 ∷ [])
+  pub low-costs : costs low edge ≡ (true, 7 ∷ 0 ∷ 0 ∷ 0 ∷ [])
+  pub even-costs : costs even edge ≡ (false, 7 ∷ 7 ∷ 7 ∷ 7 ∷ [])
 
-pub seen-samples : SeenSamples
+pub cost-samples : CostSamples
 unfolding tasksFrom lowest some before stretches onward around full segments sumOf mostOf _when_else_
-seen-samples = record { sample-seen = refl; sample-own = refl; figure-seen = refl; free-seen = refl; low-seen = refl; even-seen = refl }
+cost-samples = record { sample-costs = refl; sample-own = refl; figure-costs = refl; free-costs = refl; low-costs = refl; even-costs = refl }

@@ -1,7 +1,7 @@
 -- The tasks of a chain one by one, and the tasks before the first below a level. Assumes nothing.
 use Prim.Native.Nat.{ℕ, zero, suc, _+_, _*_, _-_, _<_, _≤_}
 use native.Mathlib.Omega.{arith}
-use mathlib.Core.Path.{_≡_, refl, ap, _∙_}
+use mathlib.Core.Path.{_≡_, refl, ap}
 use mathlib.Core.List.{List, [], _∷_}
 use mathlib.Core.Bool.{Bool}
 use borrow.Author.Tests.{lt-ltb, le-ltb}
@@ -102,11 +102,8 @@ module _ (ps cs : List ℕ) (n level : ℕ) where
       rw d (cheap (aheadOf k) all)
 
   -- from the first task on
-  pub ahead-len : (r : Stretch) → r ≡ stretchOf (aheadOf 0) → r .len ≡ length (before (below level) (tasksFrom ps cs n 0))
-  ahead-len r d = ap (λ s. s .len) d ∙ ap (λ l. length (before (below level) l)) (rest-all ps cs n)
-
-  pub ahead-cost : (r : Stretch) → r ≡ stretchOf (aheadOf 0) → r .cost ≡ costOf (before (below level) (tasksFrom ps cs n 0))
-  ahead-cost r d = ap (λ s. s .cost) d ∙ ap (λ l. costOf (before (below level) l)) (rest-all ps cs n)
+  pub ahead-first : aheadOf 0 ≡ before (below level) (tasksFrom ps cs n 0)
+  ahead-first = ap (before (below level)) (rest-all ps cs n)
 
   -- the loop of `ahead`, at k with the cost sum: what is left makes up the whole
   pub record Going (from k sum : ℕ) : Type 0 where

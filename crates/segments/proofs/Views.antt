@@ -4,21 +4,17 @@ use native.Mathlib.Omega.{arith}
 use mathlib.Core.Path.{_≡_, refl, ap, ap₂, sym, _∙_}
 use mathlib.Core.List.{List, [], _∷_, _++_, map, flatten, List·Permᴰ, Permᴰ·symm, Permᴰ·refl}
 use mathlib.Core.Bool.{false, not}
-use borrow.Author.Tests.{not-true}
 use lib.Dec.{eqb}
 use lib.ListN.{length, take}
 use Rattle.search.specs.Lists.{sumOf, mostOf}
 use Rattle.search.proofs.Lists.{perm-sum, perm-most, paired-perm}
 use Rattle.search.proofs.Pairing.{paired-weaker, paired-turn, paired-order}
 use Rattle.table.specs.declared.Row.{Row}
-use Rattle.segments.specs.Tasks.{Task, tasksOf, costOf, chainCost, floorOf, tailOf, below, deferred, firstCost}
+use Rattle.segments.specs.Tasks.{Task, tasksOf, costOf, chainCost, floorOf, tailOf, below, deferred, before, firstCost}
 use Rattle.segments.specs.Segments.{onward, around, full, segments, segmentsOf, cutSegments, allCost, dearestCost}
-use Rattle.segments.specs.Held.{stretchOf}
-use Rattle.segments.specs.View.{View, viewOf, sum, allOf, dearestOf, countOf, Shows, Alike, seenOf}
-use Rattle.segments.specs.declared.Seen.{Seen}
-use Rattle.segments.specs.declared.tasks.Stretch.{Stretch}
-use Rattle.segments.proofs.Steps.{rest-length, cost-nil, aheadOf, ahead-cost}
-use Rattle.segments.proofs.Levels.{free-is}
+use Rattle.segments.specs.View.{View, viewOf, sum, allOf, dearestOf, countOf, Alike}
+use Rattle.segments.proofs.Steps.{rest-length, cost-nil}
+use Rattle.segments.proofs.Levels.{some-before, all-before, none-before}
 use Rattle.segments.proofs.Lists.{sum-map, most-map, sum-ones, sum-flatten, full-sum}
 use Rattle.segments.proofs.Stretches.{stretches-none, cut-flatten}
 
@@ -84,24 +80,16 @@ module _ (a b : Row) where
   dearest-view =
       sym (most-map costOf (λ c. c) (segmentsOf a b)) ∙ ap (mostOf (λ c. c)) (sym segment-costs) ∙ most-map sum (λ c. c) (viewOf a b .segments)
 
--- what `see` puts together is what b sees
-pub seen-is : (a b : Row) (floor cost all dearest : ℕ) (first : Stretch) → floor ≡ floorOf b
-    → first ≡ stretchOf (aheadOf (a .priority) (a .cost) (a .tasks) floor 0) → all ≡ sumOf costOf (segments floor (tasksOf a))
-    → dearest ≡ mostOf costOf (segments floor (tasksOf a)) → cost ≡ chainCost a
-    → _≡_ {A = Seen} (record { free = eqb (first .len) (a .tasks); cost = cost; first = first .cost; all = all; dearest = dearest }) (seenOf a b)
-seen-is a b floor cost all dearest first f d e g h =
-    rw (free-is (a .priority) (a .cost) (a .tasks) floor first d, ahead-cost (a .priority) (a .cost) (a .tasks) floor first d, e, g, h, f)
+  -- from the tasks before the first below the floor: it interferes freely if these are all its tasks, and costs then what they cost
+  pub free-first : viewOf a b .free ≡ eqb (length (before (below (floorOf b)) (tasksOf a))) (a .tasks)
+  free-first =
+      view-free ∙ some-before (below (floorOf b)) (tasksOf a)
+      ∙ ap (eqb (length (before (below (floorOf b)) (tasksOf a)))) (rest-length (a .priority) (a .cost) (a .tasks) 0)
 
--- and shows the view
-pub seen-shows : (a b : Row) → Shows (viewOf a b) (seenOf a b)
-unfolding viewOf
-seen-shows a b = record {
-  free = refl;
-  cost = λ f. sym (free-cost a b (not-true (deferred a b) f)) ∙ all-view a b;
-  first = refl;
-  all = all-view a b;
-  dearest = dearest-view a b;
-}
+  pub free-all : length (before (below (floorOf b)) (tasksOf a)) ≡ a .tasks → allOf (viewOf a b) ≡ firstCost a b
+  free-all h =
+      let none = all-before (below (floorOf b)) (tasksOf a) (h ∙ sym (rest-length (a .priority) (a .cost) (a .tasks) 0)) in
+      sym all-view ∙ free-cost none ∙ ap costOf (sym (none-before (below (floorOf b)) (tasksOf a) none))
 
 -- what no order of a segment's active segments moves is the same, segment by segment, in views that are alike
 module _ {v w : View} (s : Alike v w) where

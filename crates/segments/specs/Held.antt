@@ -1,7 +1,6 @@
 -- How the code holds tasks and active segments.
-use Prim.Native.Nat.{ℕ, _+_}
 use mathlib.Core.List.{List, map}
-use lib.ListN.{length, set}
+use lib.ListN.{length}
 use Rattle.table.specs.Limits.{maxTasks}
 use Rattle.table.specs.Record.{pad}
 use Rattle.segments.specs.Tasks.{Task, costOf}
@@ -22,15 +21,4 @@ arraysOf l =
       len = pad maxTasks (map (λ a. a .len) l);
       cost = pad maxTasks (map (λ a. a .cost) l);
       segment = pad maxTasks (map (λ a. a .segment) l);
-    }
-
--- one active segment more
-abbrev pub plus : Actives → ℕ → ℕ → ℕ → ℕ → Actives
-plus a start len cost segment =
-    record {
-      count = a .count + 1;
-      start = set (a .start) (a .count) start;
-      len = set (a .len) (a .count) len;
-      cost = set (a .cost) (a .count) cost;
-      segment = set (a .segment) (a .count) segment;
     }

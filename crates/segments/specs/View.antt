@@ -2,13 +2,12 @@
 use Prim.Native.Nat.{ℕ}
 use mathlib.Core.Path.{_≡_}
 use mathlib.Core.List.{List, map, List·Permᴰ}
-use mathlib.Core.Bool.{Bool, true, not}
+use mathlib.Core.Bool.{Bool, not}
 use lib.ListN.{length, take}
 use Rattle.search.specs.Lists.{sumOf, mostOf, Paired}
 use Rattle.table.specs.declared.Row.{Row}
-use Rattle.segments.specs.Tasks.{tasksOf, costOf, chainCost, floorOf, tailOf, deferred, firstCost}
-use Rattle.segments.specs.Segments.{cutSegments, allCost, dearestCost}
-use Rattle.segments.specs.declared.Seen.{Seen}
+use Rattle.segments.specs.Tasks.{tasksOf, costOf, floorOf, tailOf, deferred, firstCost}
+use Rattle.segments.specs.Segments.{cutSegments}
 
 -- kind, overload mark, listed distances, whether it interferes freely, first-segment cost, and its segments, each as the
 -- costs of its active segments
@@ -55,22 +54,3 @@ pub record Alike (v w : View) : Type 0 where
   pub free : v .free ≡ w .free
   pub first : v .first ≡ w .first
   pub segments : Paired List·Permᴰ (v .segments) (w .segments)
-
--- the costs that b sees of a, and a's own cost
-abbrev pub seenOf : Row → Row → Seen
-seenOf a b =
-    record {
-      free = not (deferred a b);
-      cost = chainCost a;
-      first = firstCost a b;
-      all = allCost a b;
-      dearest = dearestCost a b;
-    }
-
--- r holds the figures of the view v; a chain's cost comes from its view where it interferes freely
-pub record Shows (v : View) (r : Seen) : Type 0 where
-  pub free : r .free ≡ v .free
-  pub cost : v .free ≡ true → r .cost ≡ allOf v
-  pub first : r .first ≡ v .first
-  pub all : r .all ≡ allOf v
-  pub dearest : r .dearest ≡ dearestOf v

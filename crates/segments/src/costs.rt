@@ -1,13 +1,52 @@
-// What segments cost.
+// What tasks and segments cost.
+use crate::tasks::Stretch;
 use crate::tasks::ahead;
-use crate::tasks::wide;
-use table::Table;
+use table::cost_at;
+use table::priority_at;
+use table::tasks_at;
 ghost use mathlib.Core.Path.{_≡_};
-ghost use Prim.Native.Nat.{max};
+ghost use Prim.Native.Nat.{_<_, max};
 ghost use Rattle.search.specs.Lists.{sumOf, mostOf};
-ghost use Rattle.table.specs.Good.{GoodTasks};
-ghost use Rattle.segments.specs.Tasks.{tasksFrom, costOf};
+ghost use Rattle.table.specs.Record.{tasksAt, rowAt};
+ghost use Rattle.table.specs.Taken.{Stands};
+ghost use Rattle.segments.specs.Tasks.{tasksOf, costOf, chainCost, floorOf, below, before, ownPart};
 ghost use Rattle.segments.specs.Segments.{segments};
+ghost use Rattle.segments.specs.Held.{stretchOf};
+
+// What all tasks of a chain cost: none is below the level 0.
+pub fn chain_cost(s: &[u8], at: usize) -> u32
+    requires { ⌜ Stands (now s) at ⌝ }
+    ensures { λ r. ⌜ r ≡ chainCost (rowAt (now (s .entry)) at) ⌝ }
+{
+    let whole = ahead(s, at, 0, 0);
+    whole.cost
+}
+
+// A chain's own first part: no task is below its floor, so the first at the floor is the first below the next level.
+pub fn own_part(s: &[u8], at: usize, floor: u32) -> u32
+    requires { ⌜ Stands (now s) at × (floor ≡ floorOf (rowAt (now s) at)) ⌝ }
+    ensures { λ r. ⌜ r ≡ ownPart (rowAt (now (s .entry)) at) ⌝ }
+{
+    let first = ahead(s, at, 0, floor + 1);
+    first.cost
+}
+
+// What all segments cost together: the tasks at or above the floor.
+pub fn all_cost(s: &[u8], at: usize, floor: u32) -> u32
+    requires { ⌜ Stands (now s) at ⌝ }
+    ensures { λ r. ⌜ r ≡ sumOf costOf (segments floor (tasksOf (rowAt (now (s .entry)) at))) ⌝ }
+{
+    let n = tasks_at(s, at);
+    let mut sum: u32 = 0;
+    let mut k: usize = 0;
+    while k < n {
+        if floor <= priority_at(s, at, k) {
+            sum = sum + cost_at(s, at, k);
+        }
+        k += 1;
+    }
+    sum
+}
 
 fn greater(a: u32, b: u32) -> u32
     ensures { λ r. ⌜ r ≡ max a b ⌝ }
@@ -15,50 +54,21 @@ fn greater(a: u32, b: u32) -> u32
     if a < b { b } else { a }
 }
 
-// What all segments cost together: the tasks at or above the floor.
-pub fn all_cost(
-    priority: &[u16; Table::TASKS],
-    cost: &[u32; Table::TASKS],
-    n: usize,
-    floor: u32,
-) -> u32
-    requires { ⌜ GoodTasks (now priority) (now cost) n ⌝ }
-    ensures { λ r. ⌜ r ≡ sumOf costOf (segments floor (tasksFrom (now (priority .entry)) (now (cost .entry)) n 0)) ⌝ }
+// What the dearest segment of a deferred chain costs, given its first stretch, which counts with the last.
+pub fn dearest_cost(s: &[u8], at: usize, floor: u32, first: Stretch) -> u32
+    requires { ⌜ Stands (now s) at × (first ≡ stretchOf (before (below floor) (tasksOf (rowAt (now s) at)))) × (first .len < tasksAt (now s) at) ⌝ }
+    ensures { λ r. ⌜ r ≡ mostOf costOf (segments floor (tasksOf (rowAt (now (s .entry)) at))) ⌝ }
 {
-    let mut sum: u32 = 0;
-    let mut k: usize = 0;
-    while k < n {
-        if floor <= wide(priority[k]) {
-            sum = sum + cost[k];
-        }
-        k += 1;
-    }
-    sum
-}
-
-// What the dearest segment costs: the first stretch counts with the last.
-pub fn dearest_cost(
-    priority: &[u16; Table::TASKS],
-    cost: &[u32; Table::TASKS],
-    n: usize,
-    floor: u32,
-) -> u32
-    requires { ⌜ GoodTasks (now priority) (now cost) n ⌝ }
-    ensures { λ r. ⌜ r ≡ mostOf costOf (segments floor (tasksFrom (now (priority .entry)) (now (cost .entry)) n 0)) ⌝ }
-{
-    let first = ahead(priority, cost, n, 0, floor);
-    if first.len == n {
-        return first.cost;
-    }
+    let n = tasks_at(s, at);
     let mut best: u32 = 0;
     let mut sum: u32 = 0;
     let mut k: usize = first.len + 1;
     while k < n {
-        if wide(priority[k]) < floor {
+        if priority_at(s, at, k) < floor {
             best = greater(best, sum);
             sum = 0;
         } else {
-            sum = sum + cost[k];
+            sum = sum + cost_at(s, at, k);
         }
         k += 1;
     }

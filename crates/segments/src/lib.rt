@@ -1,17 +1,21 @@
-// The segments of a chain a against a chain b (document 01, 'Segments against chain b'), and what b sees of a.
+// The segments of a chain a against a chain b (document 01, 'Segments against chain b'), and what they cost.
 mod costs;
 mod cutting;
 mod query;
-mod sight;
 mod tasks;
 
+pub use costs::all_cost;
+pub use costs::chain_cost;
+pub use costs::dearest_cost;
+pub use costs::own_part;
 pub use cutting::active_segments;
 pub use query::segment;
 pub use query::segment_part;
-pub use sight::chain_cost;
-pub use sight::own_part;
-pub use sight::see;
 use table::Table;
+pub use tasks::Stretch;
+pub use tasks::ahead;
+pub use tasks::floor_of;
+pub use tasks::tail_of;
 
 // The active segments by number: `count` of them, each with the place of its first task, its tasks, what they cost, and
 // the number of its segment; 0 past them.
@@ -21,16 +25,6 @@ pub struct Actives {
     pub len: [usize; Table::TASKS],
     pub cost: [u32; Table::TASKS],
     pub segment: [usize; Table::TASKS],
-}
-
-// What b sees of a: whether it interferes freely, its cost, its first-segment cost, all segment costs together, and the
-// dearest segment.
-pub struct Seen {
-    pub free: bool,
-    pub cost: u32,
-    pub first: u32,
-    pub all: u32,
-    pub dearest: u32,
 }
 
 // The task records of an active segment: their offset from the table's first byte and their length; or the refusal.

@@ -1,29 +1,32 @@
 // The segment query.
 use crate::Answer;
 use crate::cutting::active_segments;
-use table::Table;
+use crate::tasks::floor_of;
+use crate::tasks::tail_of;
 use table::Verdict;
+use table::count;
 use table::find;
+use table::first_task;
+use table::judge;
 use table::place;
-use table::read;
 ghost use mathlib.Core.Path.{_≡_};
 ghost use Prim.Native.Nat.{_<_};
-ghost use Rattle.table.specs.Good.{GoodTable};
+ghost use Rattle.table.specs.Taken.{tableOf, Taken};
 ghost use Rattle.segments.specs.Query.{nthOf, answerOf, segmentOf, HandedBack};
 
 // The active segment of that number, of the chain k of a table against the chain j.
-fn nth(t: Table, k: usize, j: usize, number: u32) -> Answer
-    requires { ⌜ GoodTable t × (k < t .count) × (j < t .count) ⌝ }
-    ensures { λ r. ⌜ r ≡ nthOf t k j number ⌝ }
+fn nth(s: &[u8], k: usize, j: usize, number: u32) -> Answer
+    requires { ⌜ Taken (now s) × (k < tableOf (now s) .count) × (j < tableOf (now s) .count) ⌝ }
+    ensures { λ r. ⌜ r ≡ nthOf (tableOf (now (s .entry))) k j number ⌝ }
 {
-    let a = t.row[k];
-    let b = t.row[j];
-    let found = active_segments(a, b);
+    let at = place(s, k);
+    let b = place(s, j);
+    let found = active_segments(s, at, floor_of(s, b), tail_of(s, b));
     let n = number as usize;
     if n == 0 || found.count < n {
         return Answer::Refused(26);
     }
-    let first = place(t, k) + 16 + 4 * a.listed;
+    let first = first_task(s, at);
     let offset = first + 8 * found.start[n - 1];
     let length = 8 * found.len[n - 1];
     Answer::Records {
@@ -32,31 +35,29 @@ fn nth(t: Table, k: usize, j: usize, number: u32) -> Answer
     }
 }
 
-// The query on a table that was read.
-fn ask(t: Table, chain: u32, against: u32, number: u32) -> Answer
-    requires { ⌜ GoodTable t ⌝ }
-    ensures { λ r. ⌜ r ≡ answerOf t chain against number ⌝ }
+// The query on a table that was accepted.
+fn ask(s: &[u8], chain: u32, against: u32, number: u32) -> Answer
+    requires { ⌜ Taken (now s) ⌝ }
+    ensures { λ r. ⌜ r ≡ answerOf (tableOf (now (s .entry))) chain against number ⌝ }
 {
-    let k = find(t, chain);
-    let j = find(t, against);
-    if k == t.count || j == t.count {
+    let k = find(s, chain);
+    let j = find(s, against);
+    let n = count(s);
+    if k == n || j == n {
         return Answer::Refused(12);
     }
     if chain == against {
         return Answer::Refused(25);
     }
-    nth(t, k, j, number)
+    nth(s, k, j, number)
 }
 
 // Where the active segment of that number stands, of the chain against the other; both are named by their ids.
 pub fn segment(table: &[u8], chain: u32, against: u32, number: u32) -> Answer
     ensures { λ r. ⌜ r ≡ segmentOf (now (table .entry)) chain against number ⌝ }
 {
-    let reading = read(table);
-    let verdict = reading.verdict;
-    let t = reading.table;
-    match verdict {
-        Verdict::Accepted => ask(t, chain, against, number),
+    match judge(table) {
+        Verdict::Accepted => ask(table, chain, against, number),
         Verdict::Refused(n) => Answer::Refused(n),
     }
 }

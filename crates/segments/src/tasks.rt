@@ -1,24 +1,18 @@
 // Tasks against a level of priority.
-use table::Table;
+use table::cost_at;
+use table::priority_at;
+use table::tasks_at;
 ghost use mathlib.Core.Path.{_≡_};
-ghost use Prim.Native.Nat.{_-_, _≤_, _<_, min};
-ghost use lib.ListN.{getD};
-ghost use Rattle.table.specs.Limits.{maxTasks};
-ghost use Rattle.table.specs.Good.{GoodTasks};
-ghost use Rattle.segments.specs.Tasks.{tasksFrom, lowest, below, before};
+ghost use Prim.Native.Nat.{_≤_, min};
+ghost use Rattle.table.specs.Record.{tasksAt, rowAt};
+ghost use Rattle.table.specs.Taken.{Stands};
+ghost use Rattle.segments.specs.Tasks.{tasksAfter, floorOf, tailOf, below, before};
 ghost use Rattle.segments.specs.Held.{stretchOf};
 
 // Some tasks in a row: how many there are, and what they cost.
 pub struct Stretch {
     pub len: usize,
     pub cost: u32,
-}
-
-// A priority as a wider number, which has room for a level above every priority.
-pub fn wide(x: u16) -> u32
-    ensures { λ r. ⌜ (r ≡ x) × (r < 65536) ⌝ }
-{
-    x as u32
 }
 
 fn lesser(a: u32, b: u32) -> u32
@@ -28,48 +22,44 @@ fn lesser(a: u32, b: u32) -> u32
 }
 
 // The lowest priority.
-pub fn floor_of(priority: &[u16; Table::TASKS], n: usize) -> u32
-    requires { ⌜ (1 ≤ n) × (n ≤ maxTasks) ⌝ }
-    ensures { λ r. ⌜ r ≡ lowest (now (priority .entry)) (n - 1) ⌝ }
+pub fn floor_of(s: &[u8], at: usize) -> u32
+    requires { ⌜ Stands (now s) at ⌝ }
+    ensures { λ r. ⌜ r ≡ floorOf (rowAt (now (s .entry)) at) ⌝ }
 {
-    let mut low = wide(priority[0]);
+    let n = tasks_at(s, at);
+    let mut low = priority_at(s, at, 0);
     let mut k: usize = 1;
     while k < n {
-        low = lesser(low, wide(priority[k]));
+        low = lesser(low, priority_at(s, at, k));
         k += 1;
     }
     low
 }
 
 // The last task's priority.
-pub fn tail_of(priority: &[u16; Table::TASKS], n: usize) -> u32
-    requires { ⌜ (1 ≤ n) × (n ≤ maxTasks) ⌝ }
-    ensures { λ r. ⌜ r ≡ getD (now (priority .entry)) (n - 1) 0 ⌝ }
+pub fn tail_of(s: &[u8], at: usize) -> u32
+    requires { ⌜ Stands (now s) at ⌝ }
+    ensures { λ r. ⌜ r ≡ tailOf (rowAt (now (s .entry)) at) ⌝ }
 {
-    wide(priority[n - 1])
+    priority_at(s, at, tasks_at(s, at) - 1)
 }
 
 // The tasks after `from` others, up to the first below the level.
-pub fn ahead(
-    priority: &[u16; Table::TASKS],
-    cost: &[u32; Table::TASKS],
-    n: usize,
-    from: usize,
-    level: u32,
-) -> Stretch
-    requires { ⌜ GoodTasks (now priority) (now cost) n × (from ≤ n) ⌝ }
-    ensures { λ r. ⌜ r ≡ stretchOf (before (below level) (tasksFrom (now (priority .entry)) (now (cost .entry)) (n - from) from)) ⌝ }
+pub fn ahead(s: &[u8], at: usize, from: usize, level: u32) -> Stretch
+    requires { ⌜ Stands (now s) at × (from ≤ tasksAt (now s) at) ⌝ }
+    ensures { λ r. ⌜ r ≡ stretchOf (before (below level) (tasksAfter (rowAt (now (s .entry)) at) from)) ⌝ }
 {
+    let n = tasks_at(s, at);
     let mut sum: u32 = 0;
     let mut k: usize = from;
     while k < n {
-        if wide(priority[k]) < level {
+        if priority_at(s, at, k) < level {
             return Stretch {
                 len: k - from,
                 cost: sum,
             };
         }
-        sum = sum + cost[k];
+        sum = sum + cost_at(s, at, k);
         k += 1;
     }
     Stretch {

@@ -1,5 +1,5 @@
 -- Every accepted reading is a good table, and its bytes hold it. Assumes nothing.
-use Prim.Native.Nat.{ℕ, zero, suc, _+_, _-_, _<_, _≤_}
+use Prim.Native.Nat.{ℕ, zero, suc, _+_, _<_, _≤_}
 use native.Mathlib.Omega.{arith}
 use native.Mathlib.Numerals.{add-one}
 use mathlib.Core.Path.{_≡_, refl, ap, sym, _∙_}
@@ -22,6 +22,7 @@ use Rattle.table.specs.Fault.{markOf, chainFault, endFault}
 use Rattle.table.specs.Read.{blank, empty, plus, refusal, accepted, unless, byMark, start, records, readTable}
 use Rattle.table.specs.Place.{size, placeOf, Holds}
 use Rattle.table.specs.Good.{GoodRow, GoodTable}
+use Rattle.table.specs.Taken.{Taken}
 use Rattle.table.specs.declared.Row.{Row}
 use Rattle.table.specs.declared.Table.{Table}
 use Rattle.table.specs.declared.Reading.{Reading}
@@ -159,7 +160,13 @@ end-sound s at t g e a =
     let some : t .count ≡ 0 → ⊥ = eqb-false _ _ (e2 .0) in
     let last : length s ≡ at + 4 = eqb-true _ _ (not-false _ (e4 .0)) in (
       record { some = omega arith; few = g .few; row = g .row; ids = g .ids; past = g .past; size = g .long; tasks = g .tasks; tasks-max = g .tasks-max },
-      record { marks = g .marks; makes = g .makes; inside = g .inside; ends = omega (arith, g .place, last) },
+      record {
+        marks = g .marks;
+        makes = g .makes;
+        inside = g .inside;
+        ends = omega (arith, g .place, last);
+        counts = ap (λ n. word 2 s (n + 2)) (sym (g .place)) ∙ eqb-true _ _ (not-false _ (e3 .0));
+      },
     )
 
 start-sound : (s : List ℕ) (at : ℕ) (t : Table) (chain : Reading) → Kept s at t → (markOf (word 2 s at) ≡ Chain → Sound s chain) → Sound s (start s at t chain)
@@ -186,13 +193,7 @@ unfolding readTable
 sound s bytes = when-cases (Sound s) (eqb (length s) 0 || ltb maxBytes (length s)) (λ e. refused s 1)
     (λ e. records-sound maxChains s 0 empty bytes (kept-empty s) (omega arith))
 
-module _ (s : List ℕ) (bytes : Bytes s) (yes : readTable s .verdict ≡ Accepted) where
-  -- an accepted table is within every limit
-  pub accepted-good : GoodTable (readTable s .table)
-  unfolding Sound
-  accepted-good = sound s bytes yes .0
-
-  -- and its bytes hold it
-  pub accepted-holds : Holds s (readTable s .table)
-  unfolding Sound
-  accepted-holds = sound s bytes yes .1
+-- the bytes of an accepted table: within every limit, and they hold it
+pub taken : (s : List ℕ) → Bytes s → readTable s .verdict ≡ Accepted → Taken s
+unfolding Sound
+taken s bytes a = let x = sound s bytes a in record { good = x .0; holds = x .1 }

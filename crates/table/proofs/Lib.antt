@@ -1,10 +1,12 @@
 pub mod Words
 pub mod Lists
 pub mod Firsts
+pub mod Before
 pub mod Faultless
 pub mod Goods
 pub mod Steps
 pub mod Standing
 pub mod Accepted
+pub mod Stands
+pub mod Rows
 pub mod Finds
-pub mod Before

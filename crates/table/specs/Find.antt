@@ -1,6 +1,5 @@
 -- The rows of a table, and a chain by its id.
-use Prim.Native.Nat.{ℕ, _<_}
-use mathlib.Core.Path.{_≡_}
+use Prim.Native.Nat.{ℕ}
 use mathlib.Core.List.{List, []}
 use mathlib.Core.Bool.{Bool}
 use lib.ListN.{getD, take}
@@ -27,9 +26,3 @@ findOf t id = first (λ k. eqb (rowOf t k .id) id) 0 (t .count)
 -- an id used earlier: some chain bears it
 abbrev pub used : Table → ℕ → Bool
 used t id = ltb (findOf t id) (t .count)
-
--- what a record is judged by of the table before it: the ids that its rows bear, how many there are, and their tasks in all
-pub record Before (t : Table) (ids : List ℕ) (count tasks : ℕ) : Type 0 where
-  pub counts : t .count ≡ count
-  pub total : t .tasks ≡ tasks
-  pub bears : (k : ℕ) → k < count → rowOf t k .id ≡ getD ids k 0

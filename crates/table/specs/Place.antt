@@ -20,9 +20,10 @@ size r = 16 + 4 * r .listed + 8 * r .tasks
 unfoldable pub placeOf : Table → ℕ → ℕ
 placeOf t k = sumOf size (take k (t .row))
 
--- the bytes hold the table: each record is there and makes its row, and the end record's 4 bytes are the last
+-- the bytes hold the table: each record is there and makes its row, and the end record's 4 bytes are the last and count them
 pub record Holds (s : List ℕ) (t : Table) : Type 0 where
   pub marks : (k : ℕ) → k < t .count → markOf (word 2 s (placeOf t k)) ≡ Chain
   pub makes : (k : ℕ) → k < t .count → rowAt s (placeOf t k) ≡ rowOf t k
   pub inside : (k : ℕ) → k < t .count → placeOf t k + size (rowOf t k) ≤ length s
   pub ends : placeOf t (t .count) + 4 ≡ length s
+  pub counts : word 2 s (placeOf t (t .count) + 2) ≡ t .count

@@ -13,8 +13,9 @@ ghost use Rattle.table.specs.Limits.{maxChains, maxTasks, maxAllTasks, m
 ghost use Rattle.table.specs.Bytes.{word};
 ghost use Rattle.table.specs.Record.{every};
 ghost use Rattle.search.specs.Find.{first};
-ghost use Rattle.table.specs.Find.{used, Before};
+ghost use Rattle.table.specs.Find.{used};
 ghost use Rattle.table.specs.declared.Table.{Table};
+ghost use Rattle.table.specs.Before.{Before};
 ghost use Rattle.table.specs.Fault.{outside as outsideOf, markOf, isTask, headFault, falls as fallsOf, gapShort, listFault, taskFault, tasksFault, chainFault, endFault};
 
 // The mark as a number: `CH`, `TK`, `EN`.

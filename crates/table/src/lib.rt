@@ -1,11 +1,11 @@
-// The stored table (document 01, 'Stored table'): its limits and rows, the reader, and where its records stand.
+// The stored table (document 01, 'Stored table'): its limits, its judgement, its chains, each read from the bytes where it stands,
+// and all of it as rows.
 ghost use mathlib.Core.Path.{_≡_};
-ghost use Prim.Native.Nat.{_+_, _≤_, _<_};
-ghost use Rattle.table.specs.Limits.{maxChains, maxTasks, maxAllTasks, maxDistances};
+ghost use Rattle.table.specs.Limits.{limits as allLimits};
 ghost use Rattle.table.specs.Read.{blank as blankRow, empty as emptyTable};
-ghost use Rattle.table.specs.Place.{size as sizeOf};
 
 mod bytes;
+mod decode;
 mod fault;
 mod places;
 mod reader;
@@ -14,11 +14,24 @@ mod record;
 pub use bytes::put_u32;
 pub use bytes::u16_at;
 pub use bytes::u32_at;
+pub use decode::read;
 pub use fault::mark_of;
+pub use places::count;
 pub use places::find;
 pub use places::place;
-pub use reader::read;
+pub use reader::judge;
+pub use record::cost_at;
+pub use record::deadline_at;
+pub use record::distance_at;
+pub use record::first_task;
+pub use record::gap_at;
+pub use record::id_at;
+pub use record::kind_at;
+pub use record::listed_at;
+pub use record::overload_at;
+pub use record::priority_at;
 pub use record::record_length;
+pub use record::tasks_at;
 
 // A chain as it is stored: `listed` distances and `tasks` tasks; places past a count are 0.
 pub struct Row {
@@ -96,14 +109,6 @@ impl Row {
             cost: [0u32; Table::TASKS],
         }
     }
-
-    // How many bytes its record takes.
-    pub fn size(self) -> usize
-        requires { ⌜ (self .listed ≤ maxDistances) × (self .tasks ≤ maxTasks) ⌝ }
-        ensures { λ r. ⌜ r ≡ sizeOf self ⌝ }
-    {
-        16 + 4 * self.listed + 8 * self.tasks
-    }
 }
 
 impl Table {
@@ -139,7 +144,7 @@ impl Table {
 
     // Every limit as one value: its contract ties each constant to the number of that name in specs/.
     pub fn limits() -> Limits
-        ensures { λ r. ⌜ r ≡ Rattle.table.specs.Limits.limits ⌝ }
+        ensures { λ r. ⌜ r ≡ allLimits ⌝ }
     {
         Limits {
             chains: Table::CHAINS,

@@ -1,71 +1,64 @@
-// The reader: from the first byte on, and the first fault decides.
+// The judgement of a stored table: from the first byte on, and the first fault decides.
 use crate::Mark;
-use crate::Reading;
 use crate::Table;
 use crate::Verdict;
 use crate::bytes::u16_at;
 use crate::fault::chain_fault;
 use crate::fault::end_fault;
 use crate::fault::mark_of;
+use crate::record::id_at;
 use crate::record::record_length;
-use crate::record::row_at;
+use crate::record::tasks_at;
 ghost use mathlib.Core.Path.{_≡_};
+ghost use Rattle.table.specs.declared.Table.{Table};
 ghost use Rattle.table.specs.Read.{accepted, unless, readTable};
 
-// What a fault number gives: 0 the table, any other that refusal, with the empty table.
-fn concluded(fault: u32, t: Table) -> Reading
-    ensures { λ r. ⌜ r ≡ unless fault (accepted t) ⌝ }
+// What a fault number gives: 0 that the table is accepted, any other that refusal.
+fn concluded(fault: u32) -> Verdict
+    ensures { λ r. ⌜ ((t : Table) → r ≡ unless fault (accepted t) .verdict) ⌝ }
 {
     match fault {
-        0 => Reading {
-            verdict: Verdict::Accepted,
-            table: t,
-        },
-        n => Reading {
-            verdict: Verdict::Refused(n),
-            table: Table::empty(),
-        },
+        0 => Verdict::Accepted,
+        n => Verdict::Refused(n),
     }
 }
 
-// Reads a stored table. No byte past the slice is looked at.
-pub fn read(s: &[u8]) -> Reading
-    ensures { λ r. ⌜ r ≡ readTable (now (s .entry)) ⌝ }
+// Judges a stored table. No byte past the slice is looked at.
+pub fn judge(s: &[u8]) -> Verdict
+    ensures { λ r. ⌜ r ≡ readTable (now (s .entry)) .verdict ⌝ }
 {
-    let mut t = Table::empty();
     let mut ids = [0u16; Table::CHAINS];
     if s.len() == 0 || Table::BYTES < s.len() {
-        return concluded(1, t);
+        return concluded(1);
     }
+    let mut count: usize = 0;
+    let mut tasks: usize = 0;
     let mut at: usize = 0;
     while at + 2 <= s.len() {
         match mark_of(u16_at(s, at)) {
             Mark::Chain => {
-                let n = t.count;
-                if n == Table::CHAINS {
-                    return concluded(11, t);
+                if count == Table::CHAINS {
+                    return concluded(11);
                 }
-                let fault = chain_fault(s, at, &ids, n, t.tasks);
+                let fault = chain_fault(s, at, &ids, count, tasks);
                 if fault != 0 {
-                    return concluded(fault, t);
+                    return concluded(fault);
                 }
-                let r = row_at(s, at);
+                ids[count] = id_at(s, at);
+                tasks = tasks + tasks_at(s, at);
+                count += 1;
                 at = at + record_length(s, at);
-                ids[n] = r.id;
-                t.tasks = t.tasks + r.tasks;
-                t.count = n + 1;
-                t.row[n] = r;
             }
             Mark::End => {
-                return concluded(end_fault(s, at, t.count), t);
+                return concluded(end_fault(s, at, count));
             }
             Mark::Task => {
-                return concluded(3, t);
+                return concluded(3);
             }
             Mark::Other => {
-                return concluded(3, t);
+                return concluded(3);
             }
         }
     }
-    concluded(2, t)
+    concluded(2)
 }

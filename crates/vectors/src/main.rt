@@ -54,10 +54,8 @@ fn case_of(head: &[u8; 28]) -> Case {
 }
 
 // The verdict on the table.
-fn reading_right(s: &[u8], c: Case) -> bool {
-    let reading = table::read(s);
-    let verdict = reading.verdict;
-    match verdict {
+fn verdict_right(s: &[u8], c: Case) -> bool {
+    match table::judge(s) {
         Verdict::Accepted => c.number == 0,
         Verdict::Refused(n) => n == c.number,
     }
@@ -135,7 +133,7 @@ fn report_right(s: &[u8], c: Case) -> bool {
 fn right(s: &[u8], c: Case) -> bool {
     let kind = c.kind;
     match kind {
-        0 => reading_right(s, c),
+        0 => verdict_right(s, c),
         1 => segment_right(s, c),
         2 => latency_right(s, c),
         3 => misses_right(s, c),

@@ -10,16 +10,16 @@ use Rattle.table.specs.declared.Row.{Row}
 use Rattle.table.specs.declared.Table.{Table}
 use Rattle.table.specs.declared.Verdict.the-variants.{Accepted, Refused as Faulty}
 use Rattle.segments.specs.View.{View}
-use Rattle.windows.specs.Demand.{demandOf, othersOf}
+use Rattle.windows.specs.Demand.{othersOf}
 use Rattle.windows.specs.Latency.{windowsOf, boundOf, chainOf, byVerdict, latencyOf}
-use Rattle.windows.specs.Load.{ownOf, demandIn, Loads}
-use Rattle.windows.specs.declared.Load.{Load}
-use Rattle.windows.specs.declared.Answer.the-variants.{Figures, Refused}
+use Rattle.windows.specs.Load.{Load, ownOf, demandIn, Loads}
+use Rattle.windows.specs.declared.Answer.the-variants.{Refused}
 
 -- a load of b gives b's figures
-pub loads-bound : {b : Row} {vs : List View} {l : Load} → Loads b vs l → windowsOf (demandIn l) (ownOf l) (b .deadline) ≡ boundOf b vs
+pub loads-bound : {b : Row} {vs : List View} {l : Load} {deadline : ℕ} → Loads b vs l → deadline ≡ b .deadline → windowsOf (demandIn l) (ownOf l) deadline ≡ boundOf b vs
 unfolding boundOf
-loads-bound {b} a = ap₂ (λ d ds. windowsOf d ds (b .deadline)) (fun-ext (λ q. fun-ext (λ t. a .demand q t))) (a .own)
+loads-bound {b} {l = l} a e =
+    ap (windowsOf (demandIn l) (ownOf l)) e ∙ ap₂ (λ d ds. windowsOf d ds (b .deadline)) (fun-ext (λ q. fun-ext (λ t. a .demand q t))) (a .own)
 
 module _ (t : Table) (id : ℕ) where
   pub chain-none : findOf t id ≡ t .count → chainOf t id ≡ Refused 12

@@ -1,14 +1,15 @@
 -- The views of the chains of a table from one place up to another, one after the other. Assumes nothing.
-use Prim.Native.Nat.{ℕ, zero, suc, _+_, _*_, _-_, _≤_, _<_}
+use Prim.Native.Nat.{ℕ, zero, suc, _+_, _-_, _≤_, _<_}
 use mathlib.Core.Path.{_≡_, refl, ap, sym, subst, _∙_}
 use mathlib.Core.List.{List, [], _∷_, _++_, map, map-append, append-nil}
 use mathlib.Core.Bool.{Bool, true, false}
 use mathlib.Core.Logic.{_⊎_, inl, inr, ⊎-elim}
 use native.Mathlib.Omega.{arith}
+use native.Mathlib.Numerals.{add-one}
 use borrow.Author.Tests.{eq-eqb, ne-eqb}
 use lib.Dec.{eqb}
 use lib.ListN.{length, getD, take, drop, length-map}
-use lib.Seq.{slice, slice-empty, length-slice, length-take-le, getD-take, take-take}
+use lib.Seq.{slice, slice-empty, length-slice, length-take-le, getD-take, take-take, take-suc, drop-append-le}
 use Rattle.search.specs.Choice.{_when_else_}
 use Rattle.search.specs.Lists.{All}
 use Rattle.search.proofs.Choice.{when-yes, when-no, when-cases}
@@ -23,7 +24,6 @@ use Rattle.segments.specs.View.{View, viewOf}
 use Rattle.segments.proofs.Views.{view-overload, view-list}
 use Rattle.windows.specs.Demand.{others, othersOf, typical}
 use Rattle.windows.specs.Load.{counted}
-use Rattle.windows.proofs.Lists.{slice-more}
 use Rattle.windows.proofs.Growth.{Paced}
 
 pub typical-append : (vs ws : List View) → typical (vs ++ ws) ≡ typical vs ++ typical ws
@@ -73,6 +73,12 @@ viewsFrom all t b from to = counted all (map (λ a. viewOf a b) (slice from to (
 
 pub views-none : (all : Bool) (t : Table) (b : Row) (from : ℕ) → viewsFrom all t b from from ≡ []
 views-none all t b from = ap (λ l. counted all (map (λ a. viewOf a b) l)) (slice-empty from (rows t)) ∙ counted-none all
+
+-- one element more at the end of a part
+slice-more : {A : Type 0} (from j : ℕ) (l : List A) (z : A) → from ≤ j → j < length l → slice from (j + 1) l ≡ slice from j l ++ (getD l j z ∷ [])
+slice-more from j l z h k =
+    let n : from ≤ length (take j l) = omega (arith, length-take-le j l (omega arith)) in
+    ap (λ i. slice from i l) (add-one j) ∙ ap (drop from) (take-suc l j z k) ∙ drop-append-le from (take j l) (getD l j z ∷ []) n
 
 rows-length : (t : Table) → GoodTable t → length (rows t) ≡ t .count
 rows-length t good = length-take-le (t .count) (t .row) (omega (arith, good .few, good .size))

@@ -1,14 +1,13 @@
 -- K in words: the windows up to it, from the answer and back. Assumes nothing.
 use Prim.Native.Nat.{ℕ, zero, suc, _+_, _-_, _≤_, _<_}
-use mathlib.Core.Path.{_≡_, refl, ap, sym, subst, subst₂, _∙_}
+use mathlib.Core.Path.{_≡_, refl, ap, sym, subst₂, _∙_}
 use mathlib.Core.List.{List}
-use mathlib.Core.Bool.{Bool, true, false}
+use mathlib.Core.Bool.{Bool, false}
 use mathlib.Core.Logic.{⊎-elim}
 use lib.IntN.{ℤ}
 use borrow.Author.Tests.{le-leb, leb-true, leb-false, lt-ltb, le-ltb}
 use native.Mathlib.Omega.{arith}
-use native.Mathlib.Numerals.{add-one}
-use native.Mathlib.Nat.{le-refl, le-trans, le-of-eq, eq-or-lt-of-le}
+use native.Mathlib.Nat.{le-trans, le-of-eq, eq-or-lt-of-le}
 use Rattle.search.proofs.Choice.{when-yes, when-no, true-not-false, lt-or-le}
 use Rattle.search.proofs.Find.{first-ge, first-hit, first-miss}
 use Rattle.table.specs.Limits.{maxActivations}
@@ -19,7 +18,7 @@ use Rattle.windows.specs.Latency.{ends, closeOf, latencyTo, lateTo, marg
 use Rattle.windows.specs.declared.Window.{Window}
 use Rattle.windows.specs.declared.Window.the-variants.{At, Nothing}
 use Rattle.windows.specs.declared.Windows.{Windows}
-use Rattle.windows.specs.declared.Answer.the-variants.{Figures, Refused}
+use Rattle.windows.specs.declared.Answer.the-variants.{Figures}
 use Rattle.windows.proofs.Least.{window-at, window-under, under-lift}
 use Rattle.windows.proofs.Growth.{Growing}
 use Rattle.windows.proofs.Walks.{Open, windows-end}

@@ -1,6 +1,6 @@
 -- Arrivals counted on while t grows: none is counted twice. Assumes nothing.
 use Prim.Native.Nat.{ℕ, _+_, _≤_, _<_}
-use mathlib.Core.Path.{_≡_, refl, ap, sym, subst, _∙_}
+use mathlib.Core.Path.{_≡_, refl, sym, subst, _∙_}
 use mathlib.Core.List.{List}
 use mathlib.Core.Logic.{⊎-elim}
 use native.Mathlib.Omega.{arith}
@@ -11,28 +11,27 @@ use Rattle.search.proofs.Choice.{lt-or-le}
 use Rattle.table.specs.Limits.{maxChains}
 use Rattle.arrivals.specs.Arrivals.{GoodDistances, η}
 use Rattle.arrivals.proofs.Counts.{η-mono}
-use Rattle.windows.specs.Load.{heldAt, Behind, Counted, Sound}
-use Rattle.windows.specs.declared.Load.{Load}
+use Rattle.windows.specs.Load.{Load, heldAt, Behind, Counted, Sound}
 
-module _ {lengths lists : List ℕ} where
+module _ {s places : List ℕ} where
   -- the chain i is counted too
-  pub behind-next : {i n t : ℕ} {counts : List ℕ} → Behind lengths lists i n t counts → i < n → n ≤ maxChains
-      → (count : ℕ) → count ≡ η (heldAt lengths lists i) t → Behind lengths lists (i + 1) n t (set counts i count)
+  pub behind-next : {i n t : ℕ} {counts : List ℕ} → Behind s places i n t counts → i < n → n ≤ maxChains
+      → (count : ℕ) → count ≡ η (heldAt s places i) t → Behind s places (i + 1) n t (set counts i count)
   behind-next {i} {n} {t} {counts} b h few count e =
       let within : i < length counts = omega (arith, b .size) in
-      let same : getD (set counts i count) i 0 ≡ η (heldAt lengths lists i) t = getD-set-same counts i count 0 within ∙ e in
+      let same : getD (set counts i count) i 0 ≡ η (heldAt s places i) t = getD-set-same counts i count 0 within ∙ e in
       record {
         size = length-set counts i count ∙ b .size;
-        all = λ j k. ⊎-elim (λ s. subst (λ m. getD (set counts i count) m 0 ≡ η (heldAt lengths lists m) t) (sym s) same)
-            (λ s. getD-set-other counts i j count 0 (λ q. omega (arith, s, q)) ∙ b .all j s) (eq-or-lt-of-le (let l : j ≤ i = omega arith in l));
-        rest = λ j k. ⊎-elim (λ s. le-trans (le-of-eq (getD-set-other counts i j count 0 (λ q. omega (arith, s, q)))) (b .rest j k))
-            (λ s. ⊎-elim (λ z. subst (λ m. getD (set counts i count) m 0 ≤ η (heldAt lengths lists m) t) z (le-of-eq same))
-            (λ z. le-trans (le-of-eq (getD-set-other counts i j count 0 (λ q. omega (arith, z, q)))) (b .rest j k)) (eq-or-lt-of-le s)) (lt-or-le j i);
+        all = λ j k. ⊎-elim (λ e. subst (λ m. getD (set counts i count) m 0 ≡ η (heldAt s places m) t) (sym e) same)
+            (λ l. getD-set-other counts i j count 0 (λ q. omega (arith, l, q)) ∙ b .all j l) (eq-or-lt-of-le (let l : j ≤ i = omega arith in l));
+        rest = λ j k. ⊎-elim (λ l. le-trans (le-of-eq (getD-set-other counts i j count 0 (λ q. omega (arith, l, q)))) (b .rest j k))
+            (λ l. ⊎-elim (λ z. subst (λ m. getD (set counts i count) m 0 ≤ η (heldAt s places m) t) z (le-of-eq same))
+            (λ z. le-trans (le-of-eq (getD-set-other counts i j count 0 (λ q. omega (arith, z, q)))) (b .rest j k)) (eq-or-lt-of-le l)) (lt-or-le j i);
       }
 
   -- a later t has no fewer arrivals
-  pub behind-later : {n t u : ℕ} {counts : List ℕ} → Behind lengths lists n n t counts → ((j : ℕ) → j < n → GoodDistances (heldAt lengths lists j)) → t ≤ u
-      → Behind lengths lists 0 n u counts
+  pub behind-later : {n t u : ℕ} {counts : List ℕ} → Behind s places n n t counts → ((j : ℕ) → j < n → GoodDistances (heldAt s places j)) → t ≤ u
+      → Behind s places 0 n u counts
   behind-later b good h =
       record {
         size = b .size;
@@ -41,7 +40,7 @@ module _ {lengths lists : List ℕ} where
       }
 
   -- the chain's own count stands past them
-  pub behind-own : {n t : ℕ} {counts : List ℕ} → Behind lengths lists 0 n t counts → n ≤ maxChains → (count : ℕ) → Behind lengths lists 0 n t (set counts maxChains count)
+  pub behind-own : {n t : ℕ} {counts : List ℕ} → Behind s places 0 n t counts → n ≤ maxChains → (count : ℕ) → Behind s places 0 n t (set counts maxChains count)
   behind-own {counts = counts} b few count =
       record {
         size = length-set counts maxChains count ∙ b .size;

@@ -1,49 +1,45 @@
 -- The load of a chain, alone and with one other after the other beside it. Assumes nothing.
-use Prim.Native.Nat.{ℕ, zero, suc, _+_, _*_, _-_, _≤_, _<_}
-use mathlib.Core.Path.{_≡_, refl, ap, ap₂, sym, subst, _∙_}
-use mathlib.Core.List.{List, [], _∷_, _++_, map}
-use mathlib.Core.Bool.{Bool, true, false}
+use Prim.Native.Nat.{ℕ, zero, suc, _+_, _*_, _≤_, _<_}
+use mathlib.Core.Path.{_≡_, refl, ap, ap₂, sym, subst, subst₂, _∙_}
+use mathlib.Core.List.{List, [], _∷_, _++_}
 use native.Mathlib.Omega.{arith}
-use native.Mathlib.Nat.{mul-zero, mul-le-mul-right, le-refl, ne-of-lt}
+use native.Mathlib.Nat.{mul-zero, le-refl, ne-of-lt}
 use borrow.Author.Count.{below-more}
-use lib.ListN.{length, getD, take, drop, set, length-append}
-use lib.Seq.{paste, getD-set-same, getD-set-other}
-use Rattle.search.specs.Choice.{_when_else_}
+use lib.ListN.{length, getD, set, length-set, length-append}
+use lib.Seq.{getD-set-same, getD-set-other}
 use Rattle.search.specs.Lists.{sumOf}
-use Rattle.search.proofs.Choice.{when-yes, when-no}
 use Rattle.search.proofs.Lists.{sum-append}
-use Rattle.table.specs.Limits.{maxChains, maxDistances}
-use Rattle.table.specs.Good.{GoodRow}
+use Rattle.table.specs.Limits.{maxChains}
+use Rattle.table.specs.Record.{rowAt}
 use Rattle.table.specs.declared.Row.{Row}
-use Rattle.arrivals.specs.Arrivals.{GoodDistances, distances, η}
-use Rattle.arrivals.proofs.Rows.{good-distances}
+use Rattle.table.specs.Taken.{Stands}
+use Rattle.arrivals.specs.Arrivals.{distances, η}
 use Rattle.segments.specs.Tasks.{chainCost}
 use Rattle.segments.specs.View.{View}
 use Rattle.segments.proofs.Bounds.{chain-max}
-use Rattle.windows.specs.Demand.{termOf, partOf, demandOf, typical}
-use Rattle.windows.specs.Load.{dearest, most, heldAt, heldOf, Held, ownOf, demandIn, Sound, plus, Joined, Loads, counted, Adds}
-use Rattle.windows.specs.declared.Load.{Load}
+use Rattle.windows.specs.Demand.{termOf, partOf, demandOf}
+use Rattle.windows.specs.Load.{dearest, most, Load, heldOf, Held, demandIn, Sound, plus, Joined, Loads, Adds}
 use Rattle.windows.specs.declared.Term.{Term}
 use Rattle.windows.proofs.Growth.{part-less}
 use Rattle.windows.proofs.Bounds.{held-on}
-use Rattle.windows.proofs.Lists.{paste-before, paste-there}
 
--- b alone
-pub alone-loads : (b : Row) → GoodRow b → (rates lengths lists : List ℕ)
-    → Loads b [] (record { listed = b .listed; list = b .list; cost = chainCost b; part = partOf b; once = 0; count = 0; rates = rates; lengths = lengths; lists = lists })
+-- the chain at `at` alone: nothing is held
+pub alone-loads : (s : List ℕ) (at : ℕ) → Stands s at → (rates places : List ℕ) → length rates ≡ maxChains → length places ≡ maxChains
+    → Loads (rowAt s at) []
+    (record { bytes = s; at = at; cost = chainCost (rowAt s at); part = partOf (rowAt s at); once = 0; count = 0; rates = rates; places = places })
 unfolding demandIn demandOf heldOf sumOf
-alone-loads b good rates lengths lists = record {
+alone-loads s at here rates places r p = record {
   sound = record {
-    short = good .list .few;
-    own = good-distances good;
-    some = omega (arith, part-less b good);
-    cheap = chain-max b good;
-    part = omega (arith, part-less b good);
+    stands = here;
+    some = omega (arith, part-less (rowAt s at) (here .good));
+    cheap = chain-max (rowAt s at) (here .good);
+    part = omega (arith, part-less (rowAt s at) (here .good));
     once = omega arith;
     held = record {
       few = omega arith;
-      short = λ i h. absurd (omega (arith, h));
-      good = λ i h. absurd (omega (arith, h));
+      rates-size = r;
+      places-size = p;
+      stands = λ i h. absurd (omega (arith, h));
       cheap = λ i h. absurd (omega (arith, h));
     };
   };
@@ -57,8 +53,7 @@ alone-loads b good rates lengths lists = record {
 module _ (l : Load) (cost : ℕ) where
   pub plus-sound : Sound l → l .once + cost ≤ most → Sound (plus l cost)
   plus-sound ok h = record {
-    short = ok .short;
-    own = ok .own;
+    stands = ok .stands;
     some = ok .some;
     cheap = ok .cheap;
     part = ok .part;
@@ -79,110 +74,93 @@ one-term v t = omega arith
 pub once-joined : (l : Load) (v : View) (x : Term) → Sound l → Adds v x → x .rate ≡ 0 → l .once + dearest ≤ most → Joined l (v ∷ []) (plus l (x .once))
 once-joined l v x ok a z room = record {
   sound = plus-sound l (x .once) ok (omega (arith, a .once));
-  own = refl;
+  bytes = refl;
+  at = refl;
   count = omega arith;
   once = omega (arith, a .once);
   demand = λ q t.
       omega (arith, plus-demand l (x .once) q t, one-term v t, a .term t, ap (λ r. η (v .list) t * r) z, mul-zero (η (v .list) t));
 }
 
--- a chain more whose η counts: its rate and its distances come after those of the n held so far
-module _ (rates lengths lists list : List ℕ) (n rate listed : ℕ)
-    (r-size : length rates ≡ maxChains) (n-size : length lengths ≡ maxChains) (l-size : length lists ≡ maxChains * maxDistances)
-    (size : length list ≡ maxDistances) (room : n < maxChains) (short : listed ≤ maxDistances) where
+-- a chain more whose η counts: its rate and the place of its record come after those of the n held so far
+module _ (s rates places : List ℕ) (n rate place : ℕ) (before : Held s rates places n) (room : n < maxChains) where
   abbrev rates' : List ℕ
   rates' = set rates n rate
 
-  abbrev lengths' : List ℕ
-  lengths' = set lengths n listed
+  abbrev places' : List ℕ
+  places' = set places n place
 
-  abbrev lists' : List ℕ
-  lists' = paste lists (n * maxDistances) list maxDistances
+  rate-new : getD rates' n 0 ≡ rate
+  rate-new = getD-set-same rates n rate 0 (omega (arith, before .rates-size))
 
-  held-new : heldAt lengths' lists' n ≡ take listed list
-  held-new =
-      ap (λ k. take k (drop (n * maxDistances) lists')) (getD-set-same lengths n listed 0 (omega arith))
-      ∙ paste-there lists (n * maxDistances) list maxDistances (omega arith) (omega arith) listed short
+  rate-old : (i : ℕ) → i < n → getD rates' i 0 ≡ getD rates i 0
+  rate-old i h = getD-set-other rates n i rate 0 (ne-of-lt h)
 
-  module _ (before : Held rates lengths lists n) where
-    held-old : (i : ℕ) → i < n → heldAt lengths' lists' i ≡ heldAt lengths lists i
-    held-old i h =
-        ap (λ k. take k (drop (i * maxDistances) lists')) (getD-set-other lengths n i listed 0 (ne-of-lt h))
-        ∙ paste-before lists (n * maxDistances) list maxDistances (omega arith) (omega arith) (i * maxDistances) (getD lengths i 0)
-        (omega (arith, before .short i h))
+  place-new : getD places' n 0 ≡ place
+  place-new = getD-set-same places n place 0 (omega (arith, before .places-size))
 
-    held-same : (k t : ℕ) → k ≤ n → heldOf rates' lengths' lists' k t ≡ heldOf rates lengths lists k t
-    unfolding heldOf
-    held-same zero t h = refl
-    held-same (suc k) t h =
-        ap₂ _+_ (held-same k t (omega arith))
-        (ap₂ (λ ds r. η ds t * r) (held-old k h) (getD-set-other rates n k rate 0 (ne-of-lt h)))
+  place-old : (i : ℕ) → i < n → getD places' i 0 ≡ getD places i 0
+  place-old i h = getD-set-other places n i place 0 (ne-of-lt h)
 
-    pub held-more : (t : ℕ) → heldOf rates' lengths' lists' (n + 1) t ≡ heldOf rates lengths lists n t + η (take listed list) t * rate
-    held-more t =
-        held-on rates' lengths' lists' n t
-        ∙ ap₂ _+_ (held-same n t (le-refl n)) (ap₂ (λ ds r. η ds t * r) held-new (getD-set-same rates n rate 0 (omega arith)))
+  held-same : (k t : ℕ) → k ≤ n → heldOf s rates' places' k t ≡ heldOf s rates places k t
+  unfolding heldOf
+  held-same zero t h = refl
+  held-same (suc k) t h =
+      ap₂ _+_ (held-same k t (omega arith)) (ap₂ (λ p r. η (distances (rowAt s p)) t * r) (place-old k h) (rate-old k h))
 
-    pub held-room : GoodDistances (take listed list) → rate ≤ dearest → Held rates' lengths' lists' (n + 1)
-    held-room good cheap = record {
-      few = omega arith;
-      short = below-more (λ i. getD lengths' i 0 ≤ maxDistances) n
-          (λ i h. rw (getD-set-other lengths n i listed 0 (ne-of-lt h)) (before .short i h))
-          (rw (getD-set-same lengths n listed 0 (omega arith)) short);
-      good = below-more (λ i. GoodDistances (heldAt lengths' lists' i)) n
-          (λ i h. subst GoodDistances (sym (held-old i h)) (before .good i h))
-          (subst GoodDistances (sym held-new) good);
-      cheap = below-more (λ i. getD rates' i 0 ≤ dearest) n
-          (λ i h. rw (getD-set-other rates n i rate 0 (ne-of-lt h)) (before .cheap i h))
-          (rw (getD-set-same rates n rate 0 (omega arith)) cheap);
-    }
+  held-more : (t : ℕ) → heldOf s rates' places' (n + 1) t ≡ heldOf s rates places n t + η (distances (rowAt s place)) t * rate
+  held-more t =
+      held-on s rates' places' n t
+      ∙ ap₂ _+_ (held-same n t (le-refl n)) (ap₂ (λ p r. η (distances (rowAt s p)) t * r) place-new rate-new)
+
+  held-room : Stands s place → rate ≤ dearest → Held s rates' places' (n + 1)
+  held-room there cheap = record {
+    few = omega arith;
+    rates-size = length-set rates n rate ∙ before .rates-size;
+    places-size = length-set places n place ∙ before .places-size;
+    stands = below-more (λ i. Stands s (getD places' i 0)) n
+        (λ i h. subst (Stands s) (sym (place-old i h)) (before .stands i h)) (subst (Stands s) (sym place-new) there);
+    cheap = below-more (λ i. getD rates' i 0 ≤ dearest) n (λ i h. rw (rate-old i h) (before .cheap i h)) (rw rate-new cheap);
+  }
 
 -- the load with such a chain more
-abbrev pub joined : Load → Term → ℕ → List ℕ → Load
-joined l x listed list =
+abbrev pub joined : Load → Term → ℕ → Load
+joined l x place =
     record {
-      listed = l .listed;
-      list = l .list;
+      bytes = l .bytes;
+      at = l .at;
       cost = l .cost;
       part = l .part;
       once = l .once + x .once;
       count = l .count + 1;
       rates = set (l .rates) (l .count) (x .rate);
-      lengths = set (l .lengths) (l .count) listed;
-      lists = paste (l .lists) (l .count * maxDistances) list maxDistances;
+      places = set (l .places) (l .count) place;
     }
 
--- the arrays have their sizes
-pub record Sizes (l : Load) : Type 0 where
-  pub rates : length (l .rates) ≡ maxChains
-  pub lengths : length (l .lengths) ≡ maxChains
-  pub lists : length (l .lists) ≡ maxChains * maxDistances
-
-module _ (l : Load) (v : View) (x : Term) (listed : ℕ) (list : List ℕ) (ok : Sound l) (sizes : Sizes l) (size : length list ≡ maxDistances)
-    (few : l .count < maxChains) (room : l .once + dearest ≤ most) (adds : Adds v x)
-    (same : v .list ≡ take listed list) (good : GoodDistances (take listed list)) (short : listed ≤ maxDistances) where
-  joined-demand : (q t : ℕ) → demandIn (joined l x listed list) q t ≡ demandIn l q t + termOf v t
+module _ (l : Load) (v : View) (x : Term) (place : ℕ) (ok : Sound l) (few : l .count < maxChains) (room : l .once + dearest ≤ most)
+    (adds : Adds v x) (same : v .list ≡ distances (rowAt (l .bytes) place)) (there : Stands (l .bytes) place) where
+  joined-demand : (q t : ℕ) → demandIn (joined l x place) q t ≡ demandIn l q t + termOf v t
   unfolding demandIn
   joined-demand q t =
       omega (
         arith,
         adds .term t,
         ap (λ ds. η ds t * x .rate) same,
-        held-more (l .rates) (l .lengths) (l .lists) list (l .count) (x .rate) listed (sizes .rates) (sizes .lengths) (sizes .lists) size few short (ok .held) t,
+        held-more (l .bytes) (l .rates) (l .places) (l .count) (x .rate) place (ok .held) few t,
       )
 
-  pub held-joined : Joined l (v ∷ []) (joined l x listed list)
+  pub held-joined : Joined l (v ∷ []) (joined l x place)
   held-joined = record {
     sound = record {
-      short = ok .short;
-      own = ok .own;
+      stands = ok .stands;
       some = ok .some;
       cheap = ok .cheap;
       part = ok .part;
       once = omega (arith, adds .once);
-      held = held-room (l .rates) (l .lengths) (l .lists) list (l .count) (x .rate) listed (sizes .rates) (sizes .lengths) (sizes .lists) size few short (ok .held) good (adds .rate);
+      held = held-room (l .bytes) (l .rates) (l .places) (l .count) (x .rate) place (ok .held) few there (adds .rate);
     };
-    own = refl;
+    bytes = refl;
+    at = refl;
     count = le-refl (l .count + 1);
     once = omega (arith, adds .once);
     demand = λ q t. omega (arith, joined-demand q t, one-term v t);
@@ -191,12 +169,13 @@ module _ (l : Load) (v : View) (x : Term) (listed : ℕ) (list : List ℕ) (ok :
 -- the chains of some views after those of others
 pub joined-none : (l : Load) → Sound l → Joined l [] l
 unfolding sumOf
-joined-none l ok = record { sound = ok; own = refl; count = omega arith; once = omega arith; demand = λ q t. omega arith }
+joined-none l ok = record { sound = ok; bytes = refl; at = refl; count = omega arith; once = omega arith; demand = λ q t. omega arith }
 
 pub joined-on : {l m r : Load} {vs ws : List View} → Joined l vs m → Joined m ws r → Joined l (vs ++ ws) r
 joined-on {vs = vs} {ws = ws} a b = record {
   sound = b .sound;
-  own = b .own ∙ a .own;
+  bytes = b .bytes ∙ a .bytes;
+  at = b .at ∙ a .at;
   count = omega (arith, a .count, b .count, length-append vs ws);
   once = omega (arith, a .once, b .once, length-append vs ws);
   demand = λ q t. omega (arith, a .demand q t, b .demand q t, sum-append (λ v. termOf v t) vs ws);
@@ -206,8 +185,12 @@ pub loads-on : {b : Row} {l r : Load} {vs ws : List View} → Loads b vs l → J
 unfolding demandOf
 loads-on {vs = vs} {ws = ws} a j = record {
   sound = j .sound;
-  own = j .own ∙ a .own;
+  own = ap₂ (λ s at. distances (rowAt s at)) (j .bytes) (j .at) ∙ a .own;
   count = omega (arith, a .count, j .count, length-append vs ws);
   once = omega (arith, a .once, j .once, length-append vs ws);
   demand = λ q t. omega (arith, a .demand q t, j .demand q t, sum-append (λ v. termOf v t) vs ws);
 }
+
+-- the same row and the same views have the same loads
+pub loads-same : {b c : Row} {vs ws : List View} {l : Load} → b ≡ c → vs ≡ ws → Loads b vs l → Loads c ws l
+loads-same {l = l} e f a = subst₂ (λ b vs. Loads b vs l) e f a

@@ -4,7 +4,6 @@ pub mod Views
 pub mod Bounds
 pub mod Counting
 pub mod Terms
-pub mod Lists
 pub mod Joining
 pub mod Besides
 pub mod Latencies

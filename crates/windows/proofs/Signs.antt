@@ -1,7 +1,7 @@
 -- A signed number of 32 bits by its sign, and -1 less a number below 0, as the code holds them. Assumes nothing.
 use Prim.Native.Nat.{ℕ, suc, _<_}
 use native.Mathlib.Omega.{arith}
-use mathlib.Core.Path.{_≡_, refl, ap, sym, subst, _∙_}
+use mathlib.Core.Path.{_≡_, refl, ap, sym, _∙_}
 use mathlib.Core.Bool.{true, false}
 use borrow.Author.Tests.{le-ltb, leb-false}
 use lib.Dec.{T}

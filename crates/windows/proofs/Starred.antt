@@ -1,6 +1,6 @@
 -- The starred cases of 01, 'Windows': chain 1 of the sample with the sample's four latency lines, and both halves of 'At the edge',
 -- over the stored bytes. A window is found by the laws of the climb, at the few points where it stops. Assumes nothing.
-use Prim.Native.Nat.{ℕ, zero, suc, zero-le, _+_, _*_, _-_, _/_, _%_, max, _≤_, _<_}
+use Prim.Native.Nat.{ℕ, zero, suc, _+_, _-_, _/_, _%_, max, _≤_, _<_}
 use mathlib.Core.Path.{_≡_, refl, ap, subst, sym, _∙_}
 use mathlib.Core.List.{List, [], _∷_, _++_, flatten, map}
 use mathlib.Core.Bool.{Bool, true, false, _&&_}
@@ -8,12 +8,12 @@ use native.Mathlib.Omega.{arith}
 use native.Mathlib.Nat.{mul-zero}
 use borrow.Author.Tests.{ltb-true}
 use lib.Dec.{ltb, lit≤}
-use lib.ListN.{length, getD, replicate}
+use lib.ListN.{length, replicate}
 use lib.IntN.{pos, negsuc}
 use Rattle.search.specs.Choice.{_when_else_}
 use Rattle.search.specs.Find.{first, last}
 use Rattle.search.specs.Lists.{sumOf, mostOf}
-use Rattle.table.specs.Limits.{maxChains, maxTasks, maxDistances, horizon}
+use Rattle.table.specs.Limits.{maxTasks, maxDistances, horizon}
 use Rattle.table.specs.Bytes.{word, Bytes}
 use Rattle.table.specs.Record.{every, pad, rowAt}
 use Rattle.table.specs.Find.{rowOf, findOf}
@@ -23,20 +23,19 @@ use Rattle.table.specs.Read.{blank, accepted, unless, start, records, readTable
 use Rattle.table.specs.declared.Row.{Row}
 use Rattle.table.specs.declared.Table.{Table}
 use Rattle.table.specs.declared.Reading.{Reading}
-use Rattle.table.proofs.Accepted.{accepted-good}
+use Rattle.table.proofs.Accepted.{taken}
 use Rattle.arrivals.specs.Arrivals.{distances, asListed, δ, η}
 use Rattle.arrivals.proofs.Rows.{good-distances}
 use Rattle.segments.specs.Tasks.{tasksFrom, lowest, some, before}
-use Rattle.segments.specs.Segments.{stretches, onward, around, full, segments, cuts, parts, cutSegments}
+use Rattle.segments.specs.Segments.{stretches, onward, around, full, cuts, parts, cutSegments}
 use Rattle.segments.specs.View.{viewOf}
 use Rattle.windows.specs.Demand.{termOf, partOf, demandOf, othersOf}
 use Rattle.windows.specs.Window.{windowOf, Under}
-use Rattle.windows.specs.Latency.{overOf, marginOf, windowsOf, boundOf, chainOf, latencyOf}
+use Rattle.windows.specs.Latency.{overOf, marginOf, boundOf, chainOf, latencyOf}
 use Rattle.windows.specs.declared.Windows.{Windows}
 use Rattle.windows.specs.declared.Window.the-variants.{At, Nothing}
-use Rattle.windows.specs.declared.Answer.{Answer}
 use Rattle.windows.specs.declared.Answer.the-variants.{Figures, Refused}
-use Rattle.windows.proofs.Least.{Grows, under-one, under-next, under-solves, under-none}
+use Rattle.windows.proofs.Least.{under-one, under-next, under-solves, under-none}
 use Rattle.windows.proofs.Growth.{Growing, demand-growing}
 use Rattle.windows.proofs.Besides.{others-paced}
 use Rattle.windows.proofs.Walks.{walk-start, walk-close, walk-none}
@@ -139,7 +138,7 @@ record Stored (s : List ℕ) (t : Table) : Type 0 where
 stored-good : {s : List ℕ} {t : Table} → Stored s t → GoodTable t
 stored-good {s} a =
     subst GoodTable (ap (λ (r : Reading). r .table) (a .reads))
-    (accepted-good s (small-bytes s (a .are)) (ap (λ (r : Reading). r .verdict) (a .reads)))
+    (taken s (small-bytes s (a .are)) (ap (λ (r : Reading). r .verdict) (a .reads)) .good)
 
 abbrev demandAt : Table → ℕ → ℕ → ℕ → ℕ
 demandAt t k = demandOf (rowOf t k) (othersOf t k)

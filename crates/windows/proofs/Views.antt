@@ -1,5 +1,5 @@
 -- The demand goes by the views alone: not by their order, and views that are alike give the same. Assumes nothing.
-use Prim.Native.Nat.{ℕ, _+_, _*_}
+use Prim.Native.Nat.{ℕ}
 use mathlib.Core.Path.{_≡_, refl, ap, sym, fun-ext, _∙_}
 use mathlib.Core.List.{List, [], _∷_, map, List·Permᴰ}
 use lib.Dec.{eqb}
@@ -10,12 +10,11 @@ use Rattle.search.proofs.Lists.{perm-sum, paired-perm}
 use Rattle.search.proofs.Keeping.{keep}
 use Rattle.search.proofs.Pairing.{paired-keep, paired-weaker}
 use Rattle.table.specs.declared.Row.{Row}
-use Rattle.arrivals.specs.Arrivals.{η}
-use Rattle.segments.specs.View.{View, allOf, dearestOf, Alike}
+use Rattle.segments.specs.View.{View, Alike}
 use Rattle.segments.proofs.Lists.{sum-map}
 use Rattle.segments.proofs.Views.{alike-all, alike-dearest}
-use Rattle.windows.specs.Demand.{asynchronous, termOf, demandOf, typical}
-use Rattle.windows.specs.Latency.{boundOf, windowsOf}
+use Rattle.windows.specs.Demand.{termOf, demandOf, typical}
+use Rattle.windows.specs.Latency.{boundOf}
 
 -- no order of the views moves the demand, and so no figure
 module _ {vs ws : List View} (p : List·Permᴰ vs ws) (b : Row) where

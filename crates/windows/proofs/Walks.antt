@@ -1,7 +1,7 @@
 -- Taking q = 1, 2, .. until the windows close: where the walk stands, one turn more, and how it ends. It goes by what a demand has to
 -- be, and by the laws of δ. Assumes nothing.
-use Prim.Native.Nat.{ℕ, zero, suc, zero-le, _+_, _-_, max, _≤_, _<_}
-use mathlib.Core.Path.{_≡_, refl, subst, ap, ap₂, sym, _∙_}
+use Prim.Native.Nat.{ℕ, zero-le, _+_, _-_, max, _≤_, _<_}
+use mathlib.Core.Path.{_≡_, subst, ap, ap₂, sym, _∙_}
 use mathlib.Core.List.{List}
 use mathlib.Core.Bool.{true}
 use mathlib.Core.Logic.{⊎-elim}
@@ -15,10 +15,9 @@ use Rattle.arrivals.specs.Arrivals.{GoodDistances, δ}
 use Rattle.arrivals.proofs.Distances.{δ-one}
 use Rattle.windows.specs.Window.{Solution, windowOf, Under}
 use Rattle.windows.specs.Latency.{ends, closeOf, latencyAt, latencyTo, overOf, lateTo, marginOf, refusal, endsWith, windowsOf}
-use Rattle.windows.specs.declared.Window.{Window}
 use Rattle.windows.specs.declared.Window.the-variants.{At, Nothing}
 use Rattle.windows.specs.declared.Windows.{Windows}
-use Rattle.windows.specs.declared.Answer.the-variants.{Figures, Refused}
+use Rattle.windows.specs.declared.Answer.the-variants.{Figures}
 use Rattle.windows.proofs.Least.{window-at, window-under, under-one, under-lift}
 use Rattle.windows.proofs.Growth.{Growing}
 use Rattle.windows.proofs.Latencies.{latency-none, latency-more, latency-is, latency-near, late-none, late-more, late-few}

@@ -1,7 +1,7 @@
 -- The demand of a chain b (01, 'Windows'): what t has to equal for q activations of b. It goes by b's row and by b's views of the others.
 use Prim.Native.Nat.{ℕ, _+_, _*_, _-_}
 use mathlib.Core.List.{List, [], _∷_, _++_, map}
-use mathlib.Core.Bool.{Bool, true, false}
+use mathlib.Core.Bool.{Bool}
 use lib.ListN.{take, drop}
 use lib.Dec.{eqb}
 use Rattle.search.specs.Choice.{_when_else_}

@@ -1,5 +1,5 @@
 -- K, latency, late and margin (01, 'Windows'), over a demand for q activations in t, the distances of its chain, and its deadline.
-use Prim.Native.Nat.{ℕ, zero, suc, _+_, _-_, _≤_}
+use Prim.Native.Nat.{ℕ, zero, suc, _+_, _-_}
 use mathlib.Core.List.{List, [], _∷_}
 use mathlib.Core.Bool.{Bool, true}
 use lib.Dec.{eqb, ltb, leb}

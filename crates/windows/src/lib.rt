@@ -5,6 +5,7 @@ mod query;
 mod walking;
 
 pub use climbing::climb;
+pub use loading::load;
 pub use query::bound;
 pub use query::latency;
 pub use query::latency_in;
@@ -34,28 +35,22 @@ pub struct Windows {
 }
 
 // What another chain adds in t: η(t) times `rate`, and `once`.
-pub struct Term {
-    pub rate: u64,
-    pub once: u64,
+struct Term {
+    rate: u64,
+    once: u64,
 }
 
-// A demand: the chain's own distances, its cost and its own first part (0 if it is synchronous), what the others add once, and
-// the `count` of them that add η(t) times a rate too. Their lists stand one after the other, each with room for the longest.
-pub struct Load {
-    pub listed: usize,
-    pub list: [u32; Table::DISTANCES],
+// A chain's own part of its demand: where its record stands, its cost, its own first part (0 if it is synchronous), what the others
+// add once, and how many of them are held: two arrays beside it have each one's rate, and the place of its record.
+pub struct Own {
+    pub at: usize,
     pub cost: u64,
     pub part: u64,
     pub once: u64,
     pub count: usize,
-    pub rates: [u64; Table::CHAINS],
-    pub lengths: [usize; Table::CHAINS],
-    pub lists: [u32; Load::PLACES],
 }
 
-impl Load {
-    pub const PLACES: usize = Table::CHAINS * Table::DISTANCES;
-
+impl Own {
     // How many counts of arrivals a climb keeps: of each chain held, and of the chain itself at last.
     pub const COUNTS: usize = Table::CHAINS + 1;
 }

@@ -1,38 +1,41 @@
-// The latency query: over a table that was read, and over its bytes.
+// The latency query: over the bytes of an accepted table, and over any.
 use crate::Answer;
-use crate::Load;
 use crate::Windows;
+use crate::loading::load;
 use crate::walking::walk;
 use table::Table;
 use table::Verdict;
+use table::count;
 use table::find;
-use table::read;
+use table::judge;
 ghost use mathlib.Core.Path.{_≡_};
 ghost use Prim.Native.Nat.{_<_};
 ghost use Rattle.table.specs.Find.{rowOf};
-ghost use Rattle.table.specs.Good.{GoodTable};
+ghost use Rattle.table.specs.Taken.{tableOf, Taken};
 ghost use Rattle.windows.specs.Demand.{othersOf};
 ghost use Rattle.windows.specs.Latency.{boundOf, chainOf, latencyOf};
 
 // What the windows of the chain k give, worked out once for whoever needs it.
-pub fn bound(t: Table, k: usize) -> Windows
-    requires { ⌜ GoodTable t × (k < t .count) ⌝ }
-    ensures { λ r. ⌜ r ≡ boundOf (rowOf t k) (othersOf t k) ⌝ }
+pub fn bound(s: &[u8], k: usize) -> Windows
+    requires { ⌜ Taken (now s) × (k < tableOf (now s) .count) ⌝ }
+    ensures { λ r. ⌜ r ≡ boundOf (rowOf (tableOf (now (s .entry))) k) (othersOf (tableOf (now (s .entry))) k) ⌝ }
 {
-    let l = Load::of(t, k, true);
-    walk(l, t.row[k].deadline)
+    let mut rates = [0u64; Table::CHAINS];
+    let mut places = [0usize; Table::CHAINS];
+    let own = load(s, k, true, &mut rates, &mut places);
+    walk(s, own, &rates, &places)
 }
 
-// The answer for the chain with the id.
-pub fn latency_in(t: Table, id: u32) -> Answer
-    requires { ⌜ GoodTable t ⌝ }
-    ensures { λ r. ⌜ r ≡ chainOf t id ⌝ }
+// The answer for the chain with the id, of an accepted table.
+pub fn latency_in(s: &[u8], id: u32) -> Answer
+    requires { ⌜ Taken (now s) ⌝ }
+    ensures { λ r. ⌜ r ≡ chainOf (tableOf (now (s .entry))) id ⌝ }
 {
-    let k = find(t, id);
-    if k == t.count {
+    let k = find(s, id);
+    if k == count(s) {
         return Answer::Refused(12);
     }
-    let w = bound(t, k);
+    let w = bound(s, k);
     w.answer
 }
 
@@ -40,10 +43,8 @@ pub fn latency_in(t: Table, id: u32) -> Answer
 pub fn latency(table: &[u8], id: u32) -> Answer
     ensures { λ r. ⌜ r ≡ latencyOf (now (table .entry)) id ⌝ }
 {
-    let reading = read(table);
-    let verdict = reading.verdict;
-    match verdict {
-        Verdict::Accepted => latency_in(reading.table, id),
+    match judge(table) {
+        Verdict::Accepted => latency_in(table, id),
         Verdict::Refused(n) => Answer::Refused(n),
     }
 }

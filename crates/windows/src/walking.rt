@@ -1,16 +1,18 @@
 // K, latency, late, margin and the last window, activation by activation.
 use crate::Answer;
-use crate::Load;
+use crate::Own;
 use crate::Window;
 use crate::Windows;
 use crate::climbing::climb;
 use arrivals::delta;
 use table::Table;
+use table::deadline_at;
 ghost use mathlib.Core.Path.{_≡_};
 ghost use Prim.Native.Nat.{max, _≤_};
 ghost use Rattle.table.specs.Limits.{horizon, maxDeadline};
+ghost use Rattle.table.specs.Record.{rowAt};
 ghost use Rattle.windows.specs.Latency.{overOf, marginOf, refusal, windowsOf};
-ghost use Rattle.windows.specs.Load.{ownOf, demandIn, Sound};
+ghost use Rattle.windows.specs.Load.{loadOf, ownOf, demandIn, Sound};
 
 fn larger(a: u64, b: u64) -> u64
     ensures { λ r. ⌜ r ≡ max a b ⌝ }
@@ -43,13 +45,18 @@ fn refused(n: u32) -> Windows
 }
 
 // Takes q = 1, 2, ..: each window's climb, and its count of arrivals, starts where the window before ended.
-pub fn walk(l: Load, deadline: u32) -> Windows
-    requires { ⌜ Sound l × (deadline ≤ maxDeadline) ⌝ }
-    ensures { λ r. ⌜ r ≡ windowsOf (demandIn l) (ownOf l) deadline ⌝ }
+pub fn walk(
+    s: &[u8],
+    own: Own,
+    rates: &[u64; Table::CHAINS],
+    places: &[usize; Table::CHAINS],
+) -> Windows
+    requires { ⌜ Sound (loadOf (now s) own (now rates) (now places)) ⌝ }
+    ensures { λ r. ⌜ r ≡ windowsOf (demandIn (loadOf (now (s .entry)) own (now (rates .entry)) (now (places .entry)))) (ownOf (loadOf (now (s .entry)) own (now (rates .entry)) (now (places .entry)))) (rowAt (now (s .entry)) (own .at) .deadline) ⌝ }
 {
-    let listed = l.listed;
-    let list = l.list;
-    let mut counts = [0u64; Load::COUNTS];
+    let at = own.at;
+    let deadline = deadline_at(s, at);
+    let mut counts = [0u64; Own::COUNTS];
     let mut done: u32 = 0;
     let mut start: u64 = 1;
     let mut behind: u64 = 0;
@@ -57,12 +64,12 @@ pub fn walk(l: Load, deadline: u32) -> Windows
     let mut late: u32 = 0;
     while done < Table::ACTIVATIONS {
         let q = done + 1;
-        let w = climb(l, q as u64, start, &mut counts);
+        let w = climb(s, own, rates, places, q as u64, start, &mut counts);
         let Window::At(t) = w else {
             return refused(16);
         };
         let span = t - behind;
-        let next = delta(&list[..listed], q as u64 + 1);
+        let next = delta(s, at, q as u64 + 1);
         latency = larger(latency, span);
         late = late + over(span, deadline as u64);
         if t <= next {

@@ -1,10 +1,11 @@
--- `as_listed` meets its contract: the definition at 0, and at j from j - 1. An element of the slice fits.
+-- `as_listed` meets its contract: the definition at 0, and at j from j - 1.
 use Prim.Native.Nat.{_-_}
-use mathlib.Core.Path.{ap, sym}
+use mathlib.Core.Path.{ap, sym, _∙_}
 use native.Mathlib.Omega.{arith}
 use borrow.Author.Needs.{needs}
 use Rattle.arrivals.specs.Arrivals.{asListed}
 use Rattle.arrivals.proofs.Turns.{listed-at}
+use Rattle.arrivals.proofs.Rows.{distances-at}
 use Rattle.arrivals.proofs.as_listed.Statement.{statement}
 use Rattle.arrivals.proofs.as_listed.Tie as tie
 
@@ -12,22 +13,20 @@ returns : tie.Need-returns
 unfolding asListed
 returns c = sym (ap (asListed _) (c .if1 .taken))
 
-sub-result : tie.Need-sub-result
-sub-result c = search needs
+sub-distance-at : tie.Need-sub-distance-at
+sub-distance-at c = search needs
 
-mul-result : tie.Need-mul-result
-mul-result c = search needs
-
-shared-slice-read-result : tie.Need-shared-slice-read-result
-shared-slice-read-result c = search needs
+distance-at-requires : tie.Need-distance-at-requires
+distance-at-requires c κs = (c .before .before .pre .0, omega (arith, c .before .before .pre .1, c .if1 .left))
 
 cast-result : tie.Need-cast-result
-cast-result c = omega (arith, c .shared-slice-known .given (c .before .before .args .j - 1))
+cast-result c = search needs
 
 returns-2 : tie.Need-returns-2
-returns-2 c = sym (listed-at _ (c .before .before .args .j) (omega arith))
+returns-2 c =
+    let s = c .before .before .before in
+    c .distance-at .ensures ∙ sym (distances-at (s .pre .0 .good) (s .args .j - 1)) ∙ sym (listed-at _ (s .args .j) (omega (arith, c .before .if1 .left)))
 
 pub as-listed-spec : {M : Type 1} → statement M
 as-listed-spec =
-    tie.close
-    (tie.spec returns sub-result mul-result shared-slice-read-result cast-result returns-2)
+    tie.close (tie.spec returns sub-distance-at distance-at-requires cast-result returns-2)

@@ -1,17 +1,21 @@
 -- A refusal comes before the first write; where there is none, the array begins with the result.
-use Prim.Native.Nat.{ℕ, _≤_}
+use Prim.Native.Nat.{ℕ, _+_, _-_, _<_, _≤_}
 use mathlib.Core.Path.{_≡_, ap, sym, _∙_}
 use mathlib.Core.List.{List}
 use denote.Ref.{now}
 use lib.ListN.{length, take}
-use lib.Seq.{length-take-le, take-at}
+use lib.Seq.{length-take-le}
 use borrow.Author.Needs.{needs}
 use native.Mathlib.Omega.{arith}
-use Rattle.table.specs.Limits.{maxBytes}
-use Rattle.saving.specs.Save.{resultOf, changeFault, saveFault}
-use Rattle.saving.proofs.Splices.{pad-length}
-use Rattle.saving.proofs.Verdicts.{read-within}
-use Rattle.saving.proofs.Faults.{passed, save-beyond, save-within, refuses, accepts}
+use Rattle.table.specs.Bytes.{Bytes}
+use Rattle.table.specs.Taken.{tableOf}
+use Rattle.saving.specs.Save.{seenOf, resultOf, saveFault}
+use Rattle.saving.specs.Begins.{Begins}
+use Rattle.saving.proofs.Splices.{begins-length}
+use Rattle.saving.proofs.Verdicts.{read-accepted, read-within}
+use Rattle.saving.proofs.Seen.{seen-le, seen-inside, result-length}
+use Rattle.saving.proofs.Faults.{Passed, passed, save-beyond, save-within, refuses, accepts}
+use Rattle.saving.proofs.After.{bytes-take}
 use Rattle.saving.proofs.save.Statement.{statement}
 use Rattle.saving.proofs.save.Tie as tie
 
@@ -19,28 +23,54 @@ use Rattle.saving.proofs.save.Tie as tie
 abbrev fault : tie.Start → ℕ
 fault c = saveFault (now (c .args .buffer)) (c .args .used) (now (c .args .old)) (now (c .args .new))
 
-faulty : (c : tie.After-judged) → c .judged .result .fault ≡ fault (c .before .before .before .before .before .before)
-faulty c = let a = c .before .before .before .before .before .before .args in
-    rw (save-within (now (a .buffer)) (a .used) (now (a .old)) (now (a .new)) (c .before .before .if1 .left)) (c .judged .ensures .fault)
+faulty : (c : tie.After-judged) → c .judged .result ≡ fault (c .before .before .before .before .before .before .before)
+faulty c = let a = c .before .before .before .before .before .before .before .args in
+    c .judged .ensures .0 ∙ sym (save-within (now (a .buffer)) (a .used) (now (a .old)) (now (a .new)) (c .before .before .before .if1 .left))
 
 -- Where there is none
 
 abbrev start : tie.Else2 → tie.Start
-start c = c .before .before .before .before .before .before .before
+start c = c .before .before .before .before .before .before .before .before
+
+abbrev s : tie.Else2 → List ℕ
+s c = take (start c .args .used) (now (start c .args .buffer))
+
+abbrev old : tie.Else2 → List ℕ
+old c = now (start c .args .old)
+
+abbrev new : tie.Else2 → List ℕ
+new c = now (start c .args .new)
 
 abbrev result : tie.Else2 → List ℕ
-result c = resultOf (take (start c .args .used) (now (start c .args .buffer))) (now (start c .args .old)) (now (start c .args .new))
+result c = resultOf (s c) (old c) (new c)
 
-none : (c : tie.Else2) → changeFault (length (now (start c .args .buffer))) (take (start c .args .used) (now (start c .args .buffer))) (now (start c .args .old)) (now (start c .args .new)) ≡ 0
-none c = sym (c .before .judged .ensures .fault) ∙ c .if2 .left
+passes : (c : tie.Else2) → Passed (length (now (start c .args .buffer))) (s c) (old c) (new c)
+passes c = passed _ _ _ _ (sym (c .before .judged .ensures .0) ∙ c .if2 .left)
 
-small : (c : tie.Else2) → (length (result c) ≤ length (now (start c .args .buffer))) × (length (result c) ≤ maxBytes)
-small c = let p = passed _ _ _ _ (none c) in
-    (p .fits, read-within (result c) (p .result))
+found : (c : tie.Else2) → seenOf (s c) (old c) < tableOf (s c) .count
+found c = omega (arith, seen-le (s c) (old c), passes c .seen)
 
-begins : (c : tie.Else2) → take (c .before .judged .result .length) (c .before .judged .result .bytes) ≡ result c
-begins c = let j = c .before .judged .ensures in
-    ap (take (c .before .judged .result .length)) (j .bytes (none c)) ∙ take-at (result c) _ (c .before .judged .result .length) (sym (j .size (none c)))
+bytes : (c : tie.Else2) → Bytes (s c)
+bytes c = bytes-take (start c .args .used) (now (start c .args .buffer)) (λ k. omega (arith, c .before .before .before .before .before .before .before .slice-known .given k))
+
+used-length : (c : tie.Else2) → length (s c) ≡ start c .args .used
+used-length c = length-take-le (start c .args .used) (now (start c .args .buffer)) (c .before .before .before .before .if1 .left)
+
+old-inside : (c : tie.Else2) → length (old c) ≤ start c .args .used
+old-inside c = omega (arith, used-length c, seen-inside (s c) (old c) (read-accepted (s c) (passes c .table)) (bytes c) (found c))
+
+abbrev n : tie.Else2 → ℕ
+n c = start c .args .used - length (old c) + length (new c)
+
+result-long : (c : tie.Else2) → length (result c) ≡ n c
+result-long c = result-length (s c) (old c) (read-accepted (s c) (passes c .table)) (bytes c) (found c) (new c) ∙ ap (λ (m : ℕ). m - length (old c) + length (new c)) (used-length c)
+
+-- the array begins with the result, its first n bytes
+begins : (c : tie.Else2) → Begins (c .before .judged .last .1 .1 .1 .1 .0) (result c)
+begins c = c .before .judged .ensures .1 (c .if2 .left)
+
+first : (c : tie.Else2) → take (n c) (c .before .judged .last .1 .1 .1 .1 .0) ≡ result c
+first c = ap (λ (m : ℕ). take m (c .before .judged .last .1 .1 .1 .1 .0)) (sym (result-long c)) ∙ begins c .first
 
 returns : tie.Need-returns
 returns c = let a = c .before .before .before .before .args in
@@ -50,8 +80,7 @@ slice-reshare-prefix-judged : tie.Need-slice-reshare-prefix-judged
 slice-reshare-prefix-judged c = search needs
 
 slice-aggregate-judged : tie.Need-slice-aggregate-judged
-slice-aggregate-judged c = let a = c .before .before .before .before .before .args in
-    sym (length-take-le (a .used) (now (a .buffer)) (c .before .if1 .left))
+slice-aggregate-judged c = sym (length-take-le (c .before .before .before .before .before .args .used) (now (c .before .before .before .before .before .args .buffer)) (c .before .if1 .left))
 
 judged-requires : tie.Need-judged-requires
 judged-requires c κs = search needs
@@ -60,34 +89,37 @@ same-length : tie.Need-same-length
 same-length c = search needs
 
 returns-2 : tie.Need-returns-2
-returns-2 c = let a = c .before .before .before .before .before .before .before .args in
-    refuses (now (a .buffer)) (a .used) (now (a .old)) (now (a .new)) (c .before .judged .result .fault) (sym (faulty (c .before))) (c .if2 .taken)
+returns-2 c = let a = c .before .before .before .before .before .before .before .before .args in
+    refuses (now (a .buffer)) (a .used) (now (a .old)) (now (a .new)) (c .before .judged .result) (sym (faulty (c .before))) (c .if2 .taken)
+
+sub-n : tie.Need-sub-n
+sub-n c = old-inside c
+
+add-n : tie.Need-add-n
+add-n c = search needs
 
 array-share-prefix-bytes : tie.Need-array-share-prefix-bytes
-array-share-prefix-bytes c = let e = c .before .before in
-    let j = e .before .judged .ensures in
-    omega (arith, j .size (none e), ap length (j .bytes (none e)), pad-length maxBytes (result e) (small e .1), small e .1)
+array-share-prefix-bytes c = let e = c .before in
+    omega (arith, result-long e, begins-length (c .before .before .judged .last .1 .1 .1 .1 .0) (result e) (begins e))
 
 slice-aggregate-store : tie.Need-slice-aggregate-store
-slice-aggregate-store c = let e = c .before .before .before in
-    e .before .judged .ensures .size (none e) ∙ ap length (sym (begins e))
+slice-aggregate-store c = sym (result-long (c .before .before)) ∙ ap length (sym (first (c .before .before)))
 
 store-requires : tie.Need-store-requires
-store-requires c κs = let e = c .before .before .before in
-    (e .before .before .before .if1 .left, rw (begins e) (small e .0))
+store-requires c κs = let e = c .before .before in
+    (e .before .before .before .before .if1 .left, rw (first e) (passes e .fits))
 
-cast-t20 : tie.Need-cast-t20
-cast-t20 c = let e = c .before .before .before .before .before .before in
-    omega (arith, e .before .judged .ensures .size (none e), small e .1)
+cast-t23 : tie.Need-cast-t23
+cast-t23 c = let e = c .before .before .before .before .before in
+    omega (arith, result-long e, read-within (result e) (passes e .result))
 
 same-length-2 : tie.Need-same-length-2
 same-length-2 c = search needs
 
 returns-3 : tie.Need-returns-3
-returns-3 c = let e = c .before .before .before .before .before .before in
+returns-3 c = let e = c .before .before .before .before .before in
     let a = start e .args in
-    rw (e .before .judged .ensures .size (none e), c .before .before .store .ensures, begins e)
-    (accepts (now (a .buffer)) (a .used) (now (a .old)) (now (a .new)) (sym (faulty (e .before)) ∙ e .if2 .left))
+    rw (← result-long e, c .before .before .store .ensures, first e) (accepts (now (a .buffer)) (a .used) (now (a .old)) (now (a .new)) (sym (faulty (e .before)) ∙ e .if2 .left))
 
 pub save-spec : {M : Type 1} → statement M
 save-spec =
@@ -99,9 +131,11 @@ save-spec =
     judged-requires
     same-length
     returns-2
+    sub-n
+    add-n
     array-share-prefix-bytes
     slice-aggregate-store
     store-requires
-    cast-t20
+    cast-t23
     same-length-2
     returns-3)

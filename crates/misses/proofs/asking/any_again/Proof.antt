@@ -1,10 +1,16 @@
--- The loop's invariant: an overload chain may start again exactly where one from the row j on may.
-use Prim.Native.Nat.{_-_, _≤_}
-use mathlib.Core.Path.{_≡_, refl, sym, _∙_}
+-- The loop's invariant: an overload chain may start again exactly where one from the chain j on may; that one's record starts at `a`.
+use Prim.Native.Nat.{_+_, _-_, _≤_, _<_}
+use mathlib.Core.Path.{_≡_, refl, ap, sym, _∙_}
+use mathlib.Core.List.{[], _∷_}
 use native.Mathlib.Omega.{arith}
+use denote.Ref.{now}
 use lib.ListN.{drop}
-use Rattle.table.specs.Find.{rows}
+use Rattle.table.specs.Find.{rowOf, rows}
+use Rattle.table.specs.Place.{placeOf}
 use Rattle.table.specs.declared.Row.{Row}
+use Rattle.table.specs.Taken.{tableOf}
+use Rattle.table.proofs.Standing.{place-none}
+use Rattle.table.proofs.Stands.{row-there, stands, place-next}
 use Rattle.misses.specs.Tests.{some}
 use Rattle.misses.specs.Overloads.{overloads}
 use Rattle.misses.proofs.Starts.{starts, again-here, again-later, again-past}
@@ -12,49 +18,68 @@ use Rattle.misses.proofs.asking.any_again.Statement.{statement}
 use Rattle.misses.proofs.asking.any_again.Tie as tie
 
 abbrev Inv-loop : tie.InvT-loop
-Inv-loop t table j₀ j = (j ≤ table .count) × ((b : Row) → some (starts t) (overloads b (drop j (rows table))) ≡ some (starts t) (overloads b (rows table)))
+Inv-loop s t chains a₀ j₀ a j =
+    (j ≤ tableOf s .count) × (a ≡ placeOf (tableOf s) j)
+    × ((b : Row) → some (starts t) (overloads b (drop j (rows (tableOf s)))) ≡ some (starts t) (overloads b (rows (tableOf s))))
 
 abbrev μ-loop : tie.MeasureT-loop
-μ-loop t table j₀ j = table .count - j
+μ-loop s t chains a₀ j₀ a j = tableOf s .count - j
+
+-- the chain j is there
+within : (c : tie.In-loop Inv-loop μ-loop) → c .before .loop .j < tableOf (now (c .before .before .before .before .args .s)) .count
+within c = omega (arith, c .before .before .count .ensures, c .loop-test .taken)
+
+-- whether it may start again
+asked : (c : tie.After-again Inv-loop μ-loop) (b : Row)
+    → c .again .result ≡ some (starts (c .before .before .before .before .before .args .t)) (overloads b (rowOf (tableOf (now (c .before .before .before .before .before .args .s))) (c .before .before .loop .j) ∷ []))
+asked c b =
+    c .again .ensures b ∙ ap (λ r. some (starts (c .before .before .before .before .before .args .t)) (overloads b (r ∷ []))) (row-there (c .before .before .before .before .before .pre .0) (c .before .before .loop .inv .1) (within (c .before)))
+
+count-requires : tie.Need-count-requires Inv-loop μ-loop
+count-requires c κs = c .before .pre .0
 
 loop-holds : tie.Need-loop-holds Inv-loop μ-loop
-loop-holds c = (omega arith, λ b. refl)
-
-mul-again : tie.Need-mul-again Inv-loop μ-loop
-mul-again c = omega arith
-
-element-copy-out-again : tie.Need-element-copy-out-again Inv-loop μ-loop
-element-copy-out-again c = omega (arith, c .before .before .pre .0 .few)
+loop-holds c = (omega arith, place-none (tableOf (now (c .before .before .args .s))), λ b. refl)
 
 again-requires : tie.Need-again-requires Inv-loop μ-loop
-again-requires c κs = let s = c .before .before .before in (s .pre .0 .row (c .before .before .loop .j) (c .before .loop-test .taken), s .pre .1)
+again-requires c κs = let s = c .before .before .before .before in (stands (s .pre .0) (c .before .loop .inv .1) (within c), s .pre .1)
 
 returns : tie.Need-returns Inv-loop μ-loop
 returns c b =
-    let l = c .before .before .before .before in
-    let s = l .before in
-    sym (again-here b (s .args .t1) (s .pre .0) (s .args .t) (l .loop .j) (c .before .before .before .loop-test .taken) (sym (c .before .again .ensures b) ∙ c .if1 .taken))
-    ∙ l .loop .inv .1 b
+    let s = c .before .before .before .before .before .before in
+    let l = c .before .before .before .loop in
+    sym (again-here b (tableOf (now (s .args .s))) (s .pre .0 .good) (s .args .t) (l .j) (within (c .before .before)) (sym (asked (c .before) b) ∙ c .if1 .taken))
+    ∙ l .inv .2 b
+
+record-length-requires : tie.Need-record-length-requires Inv-loop μ-loop
+record-length-requires c κs = omega (arith, stands (c .before .before .before .before .before .before .pre .0) (c .before .before .before .loop .inv .1) (within (c .before .before)) .there)
+
+add-a : tie.Need-add-a Inv-loop μ-loop
+add-a c = omega (arith, c .record-length .ensures, stands (c .before .before .before .before .before .before .before .pre .0) (c .before .before .before .before .loop .inv .1) (within (c .before .before .before)) .there)
 
 add-j : tie.Need-add-j Inv-loop μ-loop
-add-j c = omega arith
+add-j c = omega (arith, c .before .before .before .before .before .before .before .pre .0 .good .few, within (c .before .before .before))
 
 loop-less : tie.Need-loop-less Inv-loop μ-loop
-loop-less c = omega arith
+loop-less c = omega (arith, within (c .before .before .before))
 
 loop-again : tie.Need-loop-again Inv-loop μ-loop
 loop-again c =
-    let l = c .before .before .before .before in
-    let s = l .before in (
-      omega arith,
-      λ b. sym (again-later b (s .args .t1) (s .pre .0) (s .args .t) (l .loop .j) (c .before .before .before .loop-test .taken) (sym (c .before .again .ensures b) ∙ c .if1 .left))
-          ∙ l .loop .inv .1 b,
+    let s = c .before .before .before .before .before .before .before in
+    let l = c .before .before .before .before .loop in
+    let h = within (c .before .before .before) in (
+      omega (arith, h),
+      ap (λ n. l .a + n) (c .record-length .ensures) ∙ place-next (s .pre .0) (l .inv .1) h,
+      λ b. sym (again-later b (tableOf (now (s .args .s))) (s .pre .0 .good) (s .args .t) (l .j) h (sym (asked (c .before .before) b) ∙ c .before .if1 .left))
+          ∙ l .inv .2 b,
     )
 
 returns-2 : tie.Need-returns-2 Inv-loop μ-loop
 returns-2 c b =
-    let s = c .before .before in
-    sym (again-past b (s .args .t1) (s .pre .0) (s .args .t) (c .before .loop .j) (omega arith)) ∙ c .before .loop .inv .1 b
+    let s = c .before .before .before .before in
+    let l = c .before .loop in
+    sym (again-past b (tableOf (now (s .args .s))) (s .pre .0 .good) (s .args .t) (l .j) (omega (arith, c .before .before .count .ensures, c .loop-test .left)))
+    ∙ l .inv .2 b
 
 pub any-again-spec : {M : Type 1} → statement M
 any-again-spec =
@@ -62,11 +87,12 @@ any-again-spec =
     (tie.spec
     Inv-loop
     μ-loop
+    count-requires
     loop-holds
-    mul-again
-    element-copy-out-again
     again-requires
     returns
+    record-length-requires
+    add-a
     add-j
     loop-less
     loop-again

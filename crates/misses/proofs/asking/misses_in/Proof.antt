@@ -2,75 +2,85 @@
 use mathlib.Core.Path.{_≡_, ap, sym, _∙_}
 use native.Mathlib.Omega.{arith}
 use Prim.Native.Nat.{_<_}
+use denote.Ref.{now}
 use Rattle.table.specs.Find.{rowOf}
+use Rattle.table.specs.declared.Table.{Table}
+use Rattle.table.specs.Taken.{tableOf}
 use Rattle.table.proofs.Finds.{find-le}
+use Rattle.table.proofs.Stands.{row-there, stands}
 use Rattle.windows.specs.Demand.{others, othersOf}
 use Rattle.misses.specs.Overloads.{overloads}
-use Rattle.misses.specs.Misses.{byBound, missesAt, chainOf}
+use Rattle.misses.specs.Misses.{earlyOf, byBound, missesAt, chainOf}
 use Rattle.misses.specs.declared.Answer.the-variants.{Refused}
 use Rattle.misses.proofs.Answers.{at-early, at-bound, chain-none, chain-found}
 use Rattle.misses.proofs.asking.misses_in.Statement.{statement}
 use Rattle.misses.proofs.asking.misses_in.Tie as tie
 
+abbrev t : tie.Start → Table
+t s = tableOf (now (s .args .s))
+
 -- the chain is there
-there : (c : tie.Else1) → c .before .find .result < c .before .before .args .t1 .count
-there c = let s = c .before .before in omega (arith, find-le (s .args .t1) (s .args .id), c .before .find .ensures, c .if1 .left)
+there : (c : tie.Else1) → c .before .before .find .result < t (c .before .before .before .before) .count
+there c = let s = c .before .before .before .before in omega (arith, find-le (t s) (s .args .id), c .before .before .find .ensures, c .before .count .ensures, c .if1 .left)
 
 -- and what is asked is asked of it
-found : (c : tie.Else1) → missesAt (c .before .before .args .t1) (c .before .find .result) (c .before .before .args .k) ≡ chainOf (c .before .before .args .t1) (c .before .before .args .id) (c .before .before .args .k)
+found : (c : tie.Else1) → missesAt (t (c .before .before .before .before)) (c .before .before .find .result) (c .before .before .before .before .args .k) ≡ chainOf (t (c .before .before .before .before)) (c .before .before .before .before .args .id) (c .before .before .before .before .args .k)
 found c =
-    let a = c .before .before .args in
-    let f = c .before .find .ensures in
-    ap (λ j. missesAt (a .t1) j (a .k)) f ∙ sym (chain-found (a .t1) (a .id) (a .k) (λ e. c .if1 .left (f ∙ e)))
+    let s = c .before .before .before .before in
+    let f = c .before .before .find .ensures in
+    ap (λ j. missesAt (t s) j (s .args .k)) f
+    ∙ sym (chain-found (t s) (s .args .id) (s .args .k) (λ e. c .if1 .left (f ∙ e ∙ sym (c .before .count .ensures))))
+
+-- what is refused of it before any window
+judged : (c : tie.After-early) → c .early .result ≡ earlyOf (rowOf (t (c .before .before .before .before .before .before)) (c .before .before .before .before .find .result)) (c .before .before .before .before .before .before .args .k)
+judged c = c .early .ensures ∙ ap (λ r. earlyOf r (c .before .before .before .before .before .before .args .k)) (row-there (c .before .before .before .before .before .before .pre) (c .before .place .ensures) (there (c .before .before)))
 
 find-requires : tie.Need-find-requires
-find-requires c κs = c .pre .few
+find-requires c κs = c .before .pre
+
+count-requires : tie.Need-count-requires
+count-requires c κs = c .before .before .pre
 
 returns : tie.Need-returns
-returns c = let a = c .before .before .args in sym (chain-none (a .t1) (a .id) (a .k) (sym (c .before .find .ensures) ∙ c .if1 .taken))
+returns c =
+    let s = c .before .before .before .before in
+    sym (chain-none (t s) (s .args .id) (s .args .k) (sym (c .before .before .find .ensures) ∙ c .if1 .taken ∙ c .before .count .ensures))
 
-mul-early : tie.Need-mul-early
-mul-early c = omega (arith, there c, c .before .before .pre .few)
-
-element-copy-out-early : tie.Need-element-copy-out-early
-element-copy-out-early c = omega (arith, there c, c .before .before .pre .few)
+place-requires : tie.Need-place-requires
+place-requires c κs = (c .before .before .before .before .pre, omega (arith, there c))
 
 early-requires : tie.Need-early-requires
-early-requires c κs = tt
+early-requires c κs = omega (arith, stands (c .before .before .before .before .before .pre) (c .place .ensures) (there (c .before)) .there)
 
 returns-2 : tie.Need-returns-2
 returns-2 c =
-    let f = c .before .before .before in
-    let a = f .before .before .args in
-    let e = c .before .early .ensures in
-    ap Refused e ∙ sym (at-early (a .t1) (f .before .find .result) (a .k) (λ z. c .if2 .taken (e ∙ z))) ∙ found f
+    let s = c .before .before .before .before .before .before .before in
+    let e = judged (c .before) in
+    ap Refused e ∙ sym (at-early (t s) (c .before .before .before .before .before .find .result) (s .args .k) (λ z. c .if2 .taken (e ∙ z))) ∙ found (c .before .before .before)
 
 bound-requires : tie.Need-bound-requires
-bound-requires c κs = let f = c .before .before .before in (f .before .before .pre, there f)
+bound-requires c κs = (c .before .before .before .before .before .before .before .pre, there (c .before .before .before))
 
 by-bound-requires : tie.Need-by-bound-requires
-by-bound-requires c κs =
-    let f = c .before .before .before .before in
-    (f .before .before .pre, there f, sym (c .before .before .early .ensures) ∙ c .before .if2 .left, c .bound .ensures)
+by-bound-requires c κs = (c .before .before .before .before .before .before .before .before .pre, there (c .before .before .before .before), sym (judged (c .before .before)) ∙ c .before .if2 .left, c .bound .ensures)
 
 returns-3 : tie.Need-returns-3
 returns-3 c =
-    let f = c .before .before .before .before .before in
-    let a = f .before .before .args in
-    let at = f .before .find .result in
-    let b = rowOf (a .t1) at in
+    let s = c .before .before .before .before .before .before .before .before .before in
+    let at = c .before .before .before .before .before .before .before .find .result in
+    let b = rowOf (t s) at in
     c .by-bound .ensures
-    ∙ ap (λ w. byBound b (othersOf (a .t1) at) (overloads b (others (a .t1) at)) (a .k) (w .answer) (w .last)) (c .before .bound .ensures)
-    ∙ sym (at-bound (a .t1) at (a .k) (sym (c .before .before .before .early .ensures) ∙ c .before .before .if2 .left)) ∙ found f
+    ∙ ap (λ w. byBound b (othersOf (t s) at) (overloads b (others (t s) at)) (s .args .k) (w .answer) (w .last)) (c .before .bound .ensures)
+    ∙ sym (at-bound (t s) at (s .args .k) (sym (judged (c .before .before .before)) ∙ c .before .before .if2 .left)) ∙ found (c .before .before .before .before .before)
 
 pub misses-in-spec : {M : Type 1} → statement M
 misses-in-spec =
     tie.close
     (tie.spec
     find-requires
+    count-requires
     returns
-    mul-early
-    element-copy-out-early
+    place-requires
     early-requires
     returns-2
     bound-requires

@@ -1,43 +1,51 @@
 -- What is refused before any window, or what the windows give.
-use mathlib.Core.Path.{ap, sym, _∙_}
+use mathlib.Core.Path.{_≡_, ap, sym, _∙_}
 use native.Mathlib.Omega.{arith}
+use denote.Ref.{now}
 use Rattle.table.specs.Find.{rowOf}
+use Rattle.table.specs.declared.Table.{Table}
+use Rattle.table.specs.Taken.{tableOf}
+use Rattle.table.proofs.Stands.{row-there, stands}
 use Rattle.windows.specs.Demand.{others, othersOf}
 use Rattle.misses.specs.Overloads.{overloads}
-use Rattle.misses.specs.Misses.{byBound}
+use Rattle.misses.specs.Misses.{earlyOf, byBound}
 use Rattle.misses.specs.declared.Answer.the-variants.{Refused}
 use Rattle.misses.proofs.Answers.{at-early, at-bound}
 use Rattle.misses.proofs.asking.misses_with.Statement.{statement}
 use Rattle.misses.proofs.asking.misses_with.Tie as tie
 
-mul-early : tie.Need-mul-early
-mul-early c = omega (arith, c .pre .0 .few, c .pre .1)
+abbrev t : tie.Start → Table
+t s = tableOf (now (s .args .s))
 
-element-copy-out-early : tie.Need-element-copy-out-early
-element-copy-out-early c = omega (arith, c .pre .0 .few, c .pre .1)
+-- what is refused before any window
+judged : (c : tie.After-early) → c .early .result ≡ earlyOf (rowOf (t (c .before .before .before)) (c .before .before .before .args .at)) (c .before .before .before .args .k)
+judged c =
+    let s = c .before .before .before in
+    c .early .ensures ∙ ap (λ r. earlyOf r (s .args .k)) (row-there (s .pre .0) (c .before .place .ensures) (s .pre .1))
+
+place-requires : tie.Need-place-requires
+place-requires c κs = let p = c .before .pre in (p .0, omega (arith, p .1))
 
 early-requires : tie.Need-early-requires
-early-requires c κs = tt
+early-requires c κs = let p = c .before .before .pre in omega (arith, stands (p .0) (c .place .ensures) (p .1) .there)
 
 returns : tie.Need-returns
 returns c =
-    let a = c .before .before .before .args in
-    let e = c .before .early .ensures in
-    ap Refused e ∙ sym (at-early (a .t1) (a .at) (a .k) (λ z. c .if1 .taken (e ∙ z)))
+    let s = c .before .before .before .before in
+    let e = judged (c .before) in
+    ap Refused e ∙ sym (at-early (t s) (s .args .at) (s .args .k) (λ z. c .if1 .taken (e ∙ z)))
 
 by-bound-requires : tie.Need-by-bound-requires
-by-bound-requires c κs = let p = c .before .before .before .pre in (p .0, p .1, sym (c .before .early .ensures) ∙ c .if1 .left, p .2)
+by-bound-requires c κs = let p = c .before .before .before .before .pre in (p .0, p .1, sym (judged (c .before)) ∙ c .if1 .left, p .2)
 
 returns-2 : tie.Need-returns-2
 returns-2 c =
-    let s = c .before .before .before .before in
-    let a = s .args in
-    let b = rowOf (a .t1) (a .at) in
+    let s = c .before .before .before .before .before in
+    let b = rowOf (t s) (s .args .at) in
     c .by-bound .ensures
-    ∙ ap (λ w. byBound b (othersOf (a .t1) (a .at)) (overloads b (others (a .t1) (a .at))) (a .k) (w .answer) (w .last)) (s .pre .2)
-    ∙ sym (at-bound (a .t1) (a .at) (a .k) (sym (c .before .before .early .ensures) ∙ c .before .if1 .left))
+    ∙ ap (λ w. byBound b (othersOf (t s) (s .args .at)) (overloads b (others (t s) (s .args .at))) (s .args .k) (w .answer) (w .last)) (s .pre .2)
+    ∙ sym (at-bound (t s) (s .args .at) (s .args .k) (sym (judged (c .before .before)) ∙ c .before .if1 .left))
 
 pub misses-with-spec : {M : Type 1} → statement M
 misses-with-spec =
-    tie.close
-    (tie.spec mul-early element-copy-out-early early-requires returns by-bound-requires returns-2)
+    tie.close (tie.spec place-requires early-requires returns by-bound-requires returns-2)

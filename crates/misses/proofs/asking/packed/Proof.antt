@@ -2,11 +2,13 @@
 use mathlib.Core.Path.{refl, _∙_}
 use native.Mathlib.Omega.{arith}
 use borrow.Author.Needs.{needs}
+use denote.Ref.{now}
 use Rattle.packing.specs.Most.{flagged, capacity}
 use Rattle.packing.proofs.Laws.{most-same}
-use Rattle.windows.specs.Load.{ownOf, demandIn}
-use Rattle.misses.specs.Bad.{over, bad}
+use Rattle.windows.specs.Load.{loadOf}
+use Rattle.misses.specs.Bad.{bad}
 use Rattle.misses.specs.Held.{piecesIn}
+use Rattle.misses.specs.Settling.{overIn}
 use Rattle.misses.proofs.Packs.{price-within, flags-bad}
 use Rattle.misses.proofs.asking.packed.Statement.{statement}
 use Rattle.misses.proofs.asking.packed.Tie as tie
@@ -16,7 +18,7 @@ prices-requires c κs = search needs
 
 lowest-bad-requires : tie.Need-lowest-bad-requires
 lowest-bad-requires c κs =
-    let s = c .before .before .before in
+    let s = c .before .before .before .before in
     let p = s .args .p in (
       s .pre .0,
       s .pre .1,
@@ -34,9 +36,9 @@ most-uses-requires c κs = search needs
 
 returns : tie.Need-returns
 returns c =
-    let s = c .before .before .before .before .before .before .before .before .before in
+    let s = c .before .before .before .before .before .before .before .before .before .before in
     let a = s .args in
-    let test = over (demandIn (a .l)) (ownOf (a .l)) (a .deadline) (a .k) in
+    let test = overIn (loadOf (now (a .s)) (a .own) (now (a .rates)) (now (a .places))) (a .deadline) (a .k) in
     let flags = c .before .before .before .flags in
     let lowest = c .before .before .before .before .before .lowest-bad in
     let prices = c .before .before .before .before .before .before .before .prices in

@@ -6,10 +6,10 @@ use Rattle.misses.proofs.settling.pick.Statement.{statement}
 use Rattle.misses.proofs.settling.pick.Tie as tie
 
 abbrev Inv-loop : tie.InvT-loop
-Inv-loop costs s best₀ most₀ m₀ best most m = Picking s costs best most m
+Inv-loop costs ends best₀ most₀ m₀ best most m = Picking ends costs best most m
 
 abbrev μ-loop : tie.MeasureT-loop
-μ-loop costs s best₀ most₀ m₀ best most m = 64 - m
+μ-loop costs ends best₀ most₀ m₀ best most m = 64 - m
 
 loop-holds : tie.Need-loop-holds Inv-loop μ-loop
 loop-holds c = picking-none _ _
@@ -33,7 +33,7 @@ loop-again : tie.Need-loop-again Inv-loop μ-loop
 loop-again c =
     let l = c .before .before .before .before in
     let a = l .before .args in
-    picking-better (a .s) (a .costs .now) (l .loop .best) (l .loop .most) (l .loop .m) (c .before .inside .result) (l .loop .inv) (c .before .before .before .loop-test .taken) (c .before .inside .ensures) (c .if1 .taken)
+    picking-better (a .ends) (a .costs .now) (l .loop .best) (l .loop .most) (l .loop .m) (c .before .inside .result) (l .loop .inv) (c .before .before .before .loop-test .taken) (c .before .inside .ensures) (c .if1 .taken)
 
 loop-less-2 : tie.Need-loop-less-2 Inv-loop μ-loop
 loop-less-2 c = omega arith
@@ -42,13 +42,13 @@ loop-again-2 : tie.Need-loop-again-2 Inv-loop μ-loop
 loop-again-2 c =
     let l = c .before .before .before .before in
     let a = l .before .args in
-    picking-worse (a .s) (a .costs .now) (l .loop .best) (l .loop .most) (l .loop .m) (c .before .inside .result) (l .loop .inv) (c .before .before .before .loop-test .taken) (c .before .inside .ensures) (c .if1 .left)
+    picking-worse (a .ends) (a .costs .now) (l .loop .best) (l .loop .most) (l .loop .m) (c .before .inside .result) (l .loop .inv) (c .before .before .before .loop-test .taken) (c .before .inside .ensures) (c .if1 .left)
 
 returns : tie.Need-returns Inv-loop μ-loop
 returns c =
     let l = c .before .loop in
     let a = c .before .before .args in
-    picking-done (a .s) (a .costs .now) (l .best) (l .most) (l .m) (l .inv) (omega arith)
+    picking-done (a .ends) (a .costs .now) (l .best) (l .most) (l .m) (l .inv) (omega arith)
 
 pub pick-spec : {M : Type 1} → statement M
 pick-spec =

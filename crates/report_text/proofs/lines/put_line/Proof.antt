@@ -4,6 +4,10 @@ use Prim.Native.Nat.{ℕ}
 use mathlib.Core.Path.{_≡_, ap, ap₂, sym, subst, _∙_}
 use denote.Ref.{now}
 use Rattle.table.specs.Find.{rowOf}
+use Rattle.table.specs.Record.{rowAt}
+use Rattle.table.specs.Taken.{tableOf}
+use Rattle.table.specs.declared.Row.{Row}
+use Rattle.table.proofs.Stands.{row-there, stands}
 use Rattle.windows.specs.Demand.{othersOf}
 use Rattle.windows.specs.Latency.{boundOf}
 use Rattle.misses.specs.Misses.{missesAt}
@@ -17,36 +21,43 @@ use borrow.Author.Needs.{needs}
 use Rattle.report_text.proofs.lines.put_line.Statement.{statement}
 use Rattle.report_text.proofs.lines.put_line.Tie as tie
 
+-- the id that was read is the chain's
+id-is : (c : tie.After-wide) → c .wide .result ≡ rowOf (tableOf (now (c .before .before .before .before .before .before .before .before .args .s))) (c .before .before .before .before .before .before .before .before .args .i) .id
+unfolding rowAt
+id-is c =
+    c .wide .ensures .0 ∙ c .before .before .id-at .ensures
+    ∙ ap (λ (r : Row). r .id) (row-there (c .before .before .before .before .before .before .before .before .pre .1) (c .before .before .before .place .ensures) (c .before .before .before .before .before .before .before .before .pre .2))
+
 bound-requires : tie.Need-bound-requires
 bound-requires c κs = search needs
 
 misses-with-requires : tie.Need-misses-with-requires
 misses-with-requires c κs = search needs
 
-mul-id : tie.Need-mul-id
-mul-id c = search needs
+place-requires : tie.Need-place-requires
+place-requires c κs = search needs
 
-element-copy-out-id : tie.Need-element-copy-out-id
-element-copy-out-id c = search needs
+id-at-requires : tie.Need-id-at-requires
+id-at-requires c κs = omega (arith, stands (c .before .before .before .before .before .pre .1) (c .place .ensures) (c .before .before .before .before .before .pre .2) .there)
 
 wide-requires : tie.Need-wide-requires
 wide-requires c κs = search needs
 
 put-decimal-requires : tie.Need-put-decimal-requires
-put-decimal-requires c κs = omega (arith, c .before .before .before .before .before .pre .0, decimal-fits (c .wide .result) (omega (arith, c .wide .ensures .1)))
+put-decimal-requires c κs = omega (arith, c .before .before .before .before .before .before .before .before .pre .0, decimal-fits (c .wide .result) (omega (arith, c .wide .ensures .1)))
 
 put-answers-requires : tie.Need-put-answers-requires
 put-answers-requires c κs =
-    let s = c .before .before .before .before .before .before .before .before .before in
+    let s = c .before .before .before .before .before .before .before .before .before .before .before .before in
     let w = c .before .before .before .put-decimal .ensures in
     let id = c .before .before .before .before .wide in (
       omega (arith, s .pre .0, w .ends, w .long, decimal-fits (id .result) (omega (arith, id .ensures .1))),
-      subst (λ (a : Windows). Bounded (a .answer)) (sym (c .before .before .before .before .before .before .before .bound .ensures)) (bounded _ _),
+      subst (λ (a : Windows). Bounded (a .answer)) (sym (c .before .before .before .before .before .before .before .before .before .bound .ensures)) (bounded _ _),
     )
 
 put-byte-requires : tie.Need-put-byte-requires
 put-byte-requires c κs =
-    let s = c .before .before .before .before .before .before .before .before .before .before .before .before .before in
+    let s = c .before .before .before .before .before .before .before .before .before .before .before .before .before .before .before .before in
     let w = c .before .before .before .before .before .before .before .put-decimal .ensures in
     let a = c .before .before .before .put-answers .ensures in
     let id = c .before .before .before .before .before .before .before .before .wide in
@@ -57,17 +68,17 @@ same-length c = search needs
 
 returns : tie.Need-returns
 returns c =
-    let s = c .before .before .before .before .before .before .before .before .before .before .before .before .before .before .before .before in
-    let t = s .args .t3 in
+    let s = c .before .before .before .before .before .before .before .before .before .before .before .before .before .before .before .before .before .before .before in
+    let t = tableOf (now (s .args .s)) in
     let i = s .args .i in
     let id = c .before .before .before .before .before .before .before .before .before .before .before .wide in
-    let x = c .before .before .before .before .before .before .before .before .before .before .before .before .before .before .bound in
-    let m = c .before .before .before .before .before .before .before .before .before .before .before .before .before .misses-with in
+    let x = c .before .before .before .before .before .before .before .before .before .before .before .before .before .before .before .before .bound in
+    let m = c .before .before .before .before .before .before .before .before .before .before .before .before .before .before .before .misses-with in
     let w = c .before .before .before .before .before .before .before .before .before .before .put-decimal .ensures in
     let a = c .before .before .before .before .before .before .put-answers .ensures in
     let n = c .before .before .put-byte in
     let e : lineText (id .result) (x .result .answer) (m .result) ≡ lineText (rowOf t i .id) (boundOf (rowOf t i) (othersOf t i) .answer) (missesAt t i missRun) =
-    ap₂ (λ (k : ℕ) (q : Windows). lineText k (q .answer) (m .result)) (id .ensures .0) (x .ensures) ∙ ap (lineText (rowOf t i .id) (boundOf (rowOf t i) (othersOf t i) .answer)) (m .ensures) in (
+    ap₂ (λ (k : ℕ) (q : Windows). lineText k (q .answer) (m .result)) (id-is (c .before .before .before .before .before .before .before .before .before .before .before)) (x .ensures) ∙ ap (lineText (rowOf t i .id) (boundOf (rowOf t i) (othersOf t i) .answer)) (m .ensures) in (
       subst (λ l. Wrote (now (s .args .out)) (s .args .at) l (n .last .0) (n .result)) e (wrote-on (wrote-on w (a .0)) (n .ensures)),
       omega (arith, w .ends, a .1, n .ensures .ends, decimal-fits (id .result) (omega (arith, id .ensures .1))),
     )
@@ -78,8 +89,8 @@ put-line-spec =
     (tie.spec
     bound-requires
     misses-with-requires
-    mul-id
-    element-copy-out-id
+    place-requires
+    id-at-requires
     wide-requires
     put-decimal-requires
     put-answers-requires

@@ -1,33 +1,36 @@
 -- At each return the refusals so far, in order, are what the calls gave.
 use Prim.Native.Nat.{ℕ, _<_}
-use mathlib.Core.Path.{_≡_, ap, sym, _∙_}
+use mathlib.Core.Path.{_≡_, ap, sym, subst, _∙_}
 use mathlib.Core.List.{List}
 use denote.Ref.{now}
 use lib.ListN.{length}
 use borrow.Author.Needs.{needs}
 use native.Mathlib.Omega.{arith}
 use Rattle.table.specs.Bytes.{Bytes}
+use Rattle.table.specs.Record.{rowAt}
+use Rattle.table.specs.declared.Row.{Row}
 use Rattle.table.specs.Find.{rowOf}
 use Rattle.table.specs.Read.{numberOf, accepted, readTable}
-use Rattle.table.specs.Place.{size, placeOf}
-use Rattle.table.specs.declared.Table.{Table}
-use Rattle.table.specs.declared.Reading.{Reading}
-use Rattle.saving.specs.Save.{readFault, seenOf, unfit}
-use Rattle.saving.proofs.Verdicts.{read-accepted, read-within}
-use Rattle.saving.proofs.Stored.{stored-good, stored-holds, record-size}
-use Rattle.saving.proofs.Seen.{seen-le, seen-record, result-is}
-use Rattle.saving.proofs.Faults.{change-unread, change-unseen, change-unfit, change-result, judged-refused}
+use Rattle.table.specs.Place.{placeOf}
+use Rattle.table.specs.Taken.{tableOf, Taken}
+use Rattle.table.proofs.Stands.{row-there, stands}
+use Rattle.saving.specs.Save.{readFault, seenOf, unfit, splice, resultFault}
+use Rattle.saving.specs.Begins.{Begins}
+use Rattle.saving.proofs.Verdicts.{read-accepted}
+use Rattle.saving.proofs.Stored.{stored-taken}
+use Rattle.saving.proofs.Seen.{seen-le, seen-inside, result-is}
+use Rattle.saving.proofs.Faults.{change-unread, change-unseen, change-unfit, change-result}
 use Rattle.saving.proofs.judge.judged.Statement.{statement}
 use Rattle.saving.proofs.judge.judged.Tie as tie
 
 -- what `number_of` gave is the table's fault
-faulty : (c : tie.After-number-of) → c .number-of .result ≡ readFault (now (c .before .before .before .before .before .before .args .s))
-faulty c = c .number-of .ensures ∙ ap (λ (r : Reading). numberOf (r .verdict)) (c .before .before .read .ensures)
+faulty : (c : tie.After-number-of) → c .number-of .result ≡ readFault (now (c .before .before .before .before .before .args .s))
+faulty c = c .number-of .ensures ∙ ap numberOf (c .before .judge .ensures)
 
 -- Where there is none
 
 abbrev start : tie.Else1 → tie.Start
-start c = c .before .before .before .before .before .before .before
+start c = c .before .before .before .before .before .before
 
 abbrev s : tie.Else1 → List ℕ
 s c = now (start c .args .s)
@@ -38,112 +41,93 @@ old c = now (start c .args .old)
 abbrev new : tie.Else1 → List ℕ
 new c = now (start c .args .new)
 
-abbrev t : tie.Else1 → Table
-t c = c .before .before .before .read .result .table
-
 none : (c : tie.Else1) → readFault (s c) ≡ 0
 none c = sym (faulty (c .before)) ∙ c .if1 .left
 
-table-read : (c : tie.Else1) → readTable (s c) ≡ accepted (t c)
-table-read c = read-accepted (s c) (none c) ∙ ap (λ (r : Reading). accepted (r .table)) (sym (c .before .before .before .read .ensures))
+read : (c : tie.Else1) → readTable (s c) ≡ accepted (tableOf (s c))
+read c = read-accepted (s c) (none c)
 
 bytes : (c : tie.Else1) → Bytes (s c)
-bytes c = λ k. c .before .before .before .before .before .before .shared-slice-known .given k .fits
+bytes c = λ k. omega (arith, c .before .before .before .before .before .shared-slice-known .given k)
 
--- and a stored record is the old one
-found : (c : tie.Else2) → seenOf (s (c .before .before)) (old (c .before .before)) < t (c .before .before) .count
-found c = let e = c .before .before in
-    let h : seenOf (s e) (old e) ≡ t e .count → ⊥ = λ z. c .if2 .left (c .before .seen .ensures ∙ z) in
-    omega (arith, h, seen-le (s e) (t e) (table-read e) (old e))
+taken : (c : tie.Else1) → Taken (s c)
+taken c = stored-taken (s c) (tableOf (s c)) (read c) (bytes c)
 
-judged-fit : (c : tie.After-unfit) → c .unfit .result ≡ unfit (new (c .before .before .before)) (rowOf (t (c .before .before .before)) (seenOf (s (c .before .before .before)) (old (c .before .before .before))) .id)
-judged-fit c = let e = c .before .before .before in
-    c .unfit .ensures ∙ ap (λ (k : ℕ). unfit (new e) (rowOf (t e) k .id)) (c .before .before .seen .ensures)
+-- and a stored record is the old one, in its place
+found : (c : tie.Else2) → seenOf (s (c .before .before .before)) (old (c .before .before .before)) < tableOf (s (c .before .before .before)) .count
+found c = let e = c .before .before .before in
+    let h : seenOf (s e) (old e) ≡ tableOf (s e) .count → ⊥ = λ z. c .if2 .left (c .before .before .seen .ensures ∙ z ∙ sym (c .before .count .ensures)) in
+    omega (arith, h, seen-le (s e) (old e))
 
--- its place
-stands : (c : tie.After-place) → c .place .result ≡ placeOf (t (c .before .before .before .before .before)) (seenOf (s (c .before .before .before .before .before)) (old (c .before .before .before .before .before)))
-stands c = c .place .ensures ∙ ap (placeOf (t (c .before .before .before .before .before))) (c .before .before .before .before .seen .ensures)
+place : (c : tie.After-place) → c .place .result ≡ placeOf (tableOf (s (c .before .before .before .before))) (seenOf (s (c .before .before .before .before)) (old (c .before .before .before .before)))
+place c = c .place .ensures ∙ ap (placeOf (tableOf (s (c .before .before .before .before)))) (c .before .before .before .seen .ensures)
 
-read-requires : tie.Need-read-requires
-read-requires c κs = search needs
+judged-fit : (c : tie.After-unfit) → c .unfit .result ≡ unfit (new (c .before .before .before .before .before .before)) (rowOf (tableOf (s (c .before .before .before .before .before .before))) (seenOf (s (c .before .before .before .before .before .before)) (old (c .before .before .before .before .before .before))) .id)
+unfolding rowAt
+judged-fit c = c .unfit .ensures ∙ ap (unfit (new (c .before .before .before .before .before .before))) (c .before .id-at .ensures ∙ ap (λ (r : Row). r .id) (row-there (taken (c .before .before .before .before .before .before)) (place (c .before .before)) (found (c .before .before .before))))
+
+judge-requires : tie.Need-judge-requires
+judge-requires c κs = search needs
 
 number-of-requires : tie.Need-number-of-requires
 number-of-requires c κs = search needs
 
-refused-requires : tie.Need-refused-requires
-refused-requires c κs = search needs
-
 returns : tie.Need-returns
-returns c = let a = c .before .before .before .before .before .before .before .before .args in
-    let f = faulty (c .before .before) in
-    rw (change-unread (a .room) (now (a .s)) (now (a .old)) (now (a .new)) (λ z. c .before .if1 .taken (f ∙ z)))
-    (judged-refused _ _ (c .refused .result) (c .refused .ensures ∙ f) (λ z. c .before .if1 .taken (f ∙ z)))
+returns c = let a = c .before .before .before .before .before .before .args in
+    let f = faulty (c .before) in
+    (f ∙ sym (change-unread (a .room) (now (a .s)) (now (a .old)) (now (a .new)) (λ z. c .if1 .taken (f ∙ z))), λ z. absurd (c .if1 .taken z))
 
 seen-requires : tie.Need-seen-requires
-seen-requires c κs = table-read c
+seen-requires c κs = taken c
 
-refused-requires-2 : tie.Need-refused-requires-2
-refused-requires-2 c κs = search needs
+count-requires : tie.Need-count-requires
+count-requires c κs = taken (c .before)
 
 returns-2 : tie.Need-returns-2
 returns-2 c = let e = c .before .before .before in
-    rw (change-unseen (start e .args .room) (s e) (t e) (table-read e) (old e) (new e) (sym (c .before .before .seen .ensures) ∙ c .before .if2 .taken))
-    (judged-refused 22 _ (c .refused2 .result) (c .refused2 .ensures) (λ z. omega (arith, z)))
+    (sym (change-unseen (start e .args .room) (s e) (old e) (new e) (none e) (sym (c .before .before .seen .ensures) ∙ c .if2 .taken ∙ c .before .count .ensures)), λ z. absurd (omega (arith, z)))
 
-mul-unfit : tie.Need-mul-unfit
-mul-unfit c = omega (arith, found c, c .before .seen .ensures, stored-good (s (c .before .before)) (t (c .before .before)) (table-read (c .before .before)) (bytes (c .before .before)) .few)
+place-requires : tie.Need-place-requires
+place-requires c κs = (taken (c .before .before .before), omega (arith, found c, c .before .before .seen .ensures))
 
-element-copy-out-unfit : tie.Need-element-copy-out-unfit
-element-copy-out-unfit c = omega (arith, found c, c .before .seen .ensures, stored-good (s (c .before .before)) (t (c .before .before)) (table-read (c .before .before)) (bytes (c .before .before)) .few)
+id-at-requires : tie.Need-id-at-requires
+id-at-requires c κs = omega (arith, stands (taken (c .before .before .before .before)) (place c) (found (c .before)) .there)
 
 unfit-requires : tie.Need-unfit-requires
 unfit-requires c κs = search needs
 
-refused-requires-3 : tie.Need-refused-requires-3
-refused-requires-3 c κs = search needs
-
 returns-3 : tie.Need-returns-3
-returns-3 c = let e = c .before .before .before .before .before in
-    let h = found (c .before .before .before) in
-    rw (change-unfit (start e .args .room) (s e) (t e) (table-read e) (old e) (new e) (λ z. omega (arith, h, z)) (sym (judged-fit (c .before .before)) ∙ c .before .if3 .taken))
-    (judged-refused 23 _ (c .refused3 .result) (c .refused3 .ensures) (λ z. omega (arith, z)))
-
-place-requires : tie.Need-place-requires
-place-requires c κs = let e = c .before .before .before .before in
-    (stored-good (s e) (t e) (table-read e) (bytes e), omega (arith, found (c .before .before), c .before .before .before .seen .ensures))
+returns-3 c = let e = c .before .before .before .before .before .before .before in
+    let h = found (c .before .before .before .before) in
+    (sym (change-unfit (start e .args .room) (s e) (old e) (new e) (none e) (λ z. omega (arith, h, z)) (sym (judged-fit (c .before)) ∙ c .if3 .taken)), λ z. absurd (omega (arith, z)))
 
 result-requires : tie.Need-result-requires
-result-requires c κs = let e = c .before .before .before .before .before in
-    let h = found (c .before .before .before) in
-    let k = seenOf (s e) (old e) in
-    let n : length (old e) ≡ size (rowOf (t e) k) = ap length (sym (seen-record (s e) (t e) (table-read e) (old e) h)) ∙ record-size (s e) (t e) (table-read e) (bytes e) k h in
-    (omega (arith, stands c, n, stored-holds (s e) (t e) (table-read e) (bytes e) .inside k h), read-within (s e) (none e))
+result-requires c κs = let e = c .before .before .before .before .before .before .before .before in
+    (omega (arith, place (c .before .before .before .before), seen-inside (s e) (old e) (read e) (bytes e) (found (c .before .before .before .before .before))), c .result-arg .given .0 .1)
 
 returns-4 : tie.Need-returns-4
-returns-4 c = let e = c .before .before .before .before .before .before in
-    let h = found (c .before .before .before .before) in
-    rw (
-      change-result (start e .args .room) (s e) (t e) (table-read e) (old e) (new e) (λ z. omega (arith, h, z)) (sym (judged-fit (c .before .before .before)) ∙ c .before .before .if3 .left),
-      ← result-is (s e) (t e) (table-read e) (old e) (bytes e) h (new e),
-      ← stands (c .before),
-    ) (c .result .ensures)
+returns-4 c = let e = c .before .before .before .before .before .before .before .before .before in
+    let h = found (c .before .before .before .before .before .before) in
+    let there = ap (λ (at : ℕ). splice (s e) at (length (old e)) (new e)) (place (c .before .before .before .before .before)) ∙ result-is (s e) (old e) (read e) (bytes e) h (new e) in (
+      c .result .ensures .0
+          ∙ ap (resultFault (start e .args .room)) there
+          ∙ sym (change-result (start e .args .room) (s e) (old e) (new e) (none e) (λ z. omega (arith, h, z)) (sym (judged-fit (c .before .before .before)) ∙ c .before .before .if3 .left)),
+      λ z. subst (Begins (c .result .last .1 .1 .1 .1 .1 .0)) there (c .result .ensures .1 z),
+    )
 
 pub judged-spec : {M : Type 1} → statement M
 judged-spec =
     tie.close
     (tie.spec
-    read-requires
+    judge-requires
     number-of-requires
-    refused-requires
     returns
     seen-requires
-    refused-requires-2
+    count-requires
     returns-2
-    mul-unfit
-    element-copy-out-unfit
-    unfit-requires
-    refused-requires-3
-    returns-3
     place-requires
+    id-at-requires
+    unfit-requires
+    returns-3
     result-requires
     returns-4)

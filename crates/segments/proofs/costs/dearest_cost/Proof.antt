@@ -1,114 +1,102 @@
 -- The loop's invariant: the dearest segment is the dearer of `best` and what the tasks left make it, with `sum` for the stretch at hand.
-use Prim.Native.Nat.{_≤_, _+_, _*_, _-_, max}
+use Prim.Native.Nat.{_≤_, _<_, _+_, _*_, _-_, max}
 use native.Mathlib.Omega.{arith}
 use mathlib.Core.Path.{_≡_, ap, _∙_, sym}
 use mathlib.Core.Logic.{⊎-elim}
 use denote.Ref.{now}
 use lib.ListN.{getD}
 use Rattle.table.specs.Limits.{maxCost}
-use Rattle.segments.proofs.Steps.{ahead-inside, ahead-fits}
-use Rattle.segments.proofs.Costing.{dearFrom, dear-low, dear-high, dear-end, dearest-one, dearest-more}
+use Rattle.table.specs.Record.{tasksAt, rowAt}
+use Rattle.segments.specs.Held.{stretchOf}
+use Rattle.segments.proofs.Steps.{ahead-first, ahead-fits}
+use Rattle.segments.proofs.Costing.{dearFrom, dear-low, dear-high, dear-end, dearest-more}
 use Rattle.segments.proofs.costs.dearest_cost.Statement.{statement}
 use Rattle.segments.proofs.costs.dearest_cost.Tie as tie
 
 abbrev Inv-loop : tie.InvT-loop
-Inv-loop priority cost n floor first best₀ sum₀ k₀ best sum k = (k ≤ n) × (first .len + 1 ≤ k) × (sum ≤ maxCost * (k - (first .len + 1))) × (dearFrom priority cost n floor (first .cost) 0 (first .len + 1) ≡ max best (dearFrom priority cost n floor (first .cost) sum k))
+Inv-loop s at floor first n best₀ sum₀ k₀ best sum k =
+    (k ≤ tasksAt s at) × (first .len + 1 ≤ k) × (sum ≤ maxCost * (k - (first .len + 1)))
+    × (dearFrom (rowAt s at .priority) (rowAt s at .cost) (tasksAt s at) floor (first .cost) 0 (first .len + 1) ≡ max best (dearFrom (rowAt s at .priority) (rowAt s at .cost) (tasksAt s at) floor (first .cost) sum k))
 
 abbrev μ-loop : tie.MeasureT-loop
-μ-loop priority cost n floor first best₀ sum₀ k₀ best sum k = n - k
+μ-loop s at floor first n best₀ sum₀ k₀ best sum k = tasksAt s at - k
 
-ahead-requires : tie.Need-ahead-requires Inv-loop μ-loop
-ahead-requires c κs = (c .pre, omega arith)
+-- the task k is there
+within : (c : tie.In-loop Inv-loop μ-loop) → c .before .loop .k < tasksAt (now (c .before .before .before .before .before .args .s)) (c .before .before .before .before .before .args .at)
+within c = omega (arith, c .before .before .before .tasks-at .ensures .0, c .loop-test .taken)
 
-returns : tie.Need-returns Inv-loop μ-loop
-returns c =
-    let s = c .before .before .before in
-    let d = c .before .before .ahead in
-    dearest-one (now (s .args .priority)) (now (s .args .cost)) (s .args .n) (s .args .floor) (d .result) (d .ensures) (c .if1 .taken)
+tasks-at-requires : tie.Need-tasks-at-requires Inv-loop μ-loop
+tasks-at-requires c κs = omega (arith, c .before .pre .0 .there)
 
 add-k : tie.Need-add-k Inv-loop μ-loop
-add-k c =
-    let s = c .before .before .before .before in
-    let d = c .before .before .before .ahead in
-    omega (arith, ahead-inside (now (s .args .priority)) (now (s .args .cost)) (s .args .n) (s .args .floor) 0 (d .result) (d .ensures) (omega arith), c .before .if1 .left)
+add-k c = omega (arith, c .before .before .before .pre .2, c .before .tasks-at .ensures .0, c .before .tasks-at .ensures .1)
 
 loop-holds : tie.Need-loop-holds Inv-loop μ-loop
-loop-holds c =
-    let s = c .before .before .before .before in
-    let d = c .before .before .before .ahead in
-    let i = ahead-inside (now (s .args .priority)) (now (s .args .cost)) (s .args .n) (s .args .floor) 0 (d .result) (d .ensures) (omega arith) in
-    (omega (arith, i, c .before .if1 .left), omega arith, omega arith, omega arith)
+loop-holds c = (omega (arith, c .before .before .before .pre .2), omega arith, omega arith, omega arith)
 
-mul-wide : tie.Need-mul-wide Inv-loop μ-loop
-mul-wide c = omega arith
-
-element-copy-out-wide : tie.Need-element-copy-out-wide Inv-loop μ-loop
-element-copy-out-wide c = omega arith
-
-wide-requires : tie.Need-wide-requires Inv-loop μ-loop
-wide-requires c κs = tt
+priority-at-requires : tie.Need-priority-at-requires Inv-loop μ-loop
+priority-at-requires c κs = (c .before .before .before .before .before .pre .0, within c)
 
 greater-requires : tie.Need-greater-requires Inv-loop μ-loop
 greater-requires c κs = tt
 
-mul-sum : tie.Need-mul-sum Inv-loop μ-loop
-mul-sum c = omega arith
-
-element-copy-out-sum : tie.Need-element-copy-out-sum Inv-loop μ-loop
-element-copy-out-sum c = omega arith
+cost-at-requires : tie.Need-cost-at-requires Inv-loop μ-loop
+cost-at-requires c κs = (c .before .before .before .before .before .before .before .pre .0, within (c .before .before))
 
 add-sum : tie.Need-add-sum Inv-loop μ-loop
-add-sum c = omega (arith, c .before .before .before .before .before .before .before .before .before .before .pre .few, c .before .before .before .before .before .before .before .before .before .before .pre .costs-max (c .before .before .before .before .before .loop .k), c .before .before .before .before .before .loop .inv .2)
+unfolding rowAt
+add-sum c = let l = c .before .before .before .before .loop in omega (arith, c .before .before .before .before .before .before .before .before .pre .0 .good .tasks .few, c .before .before .before .before .before .before .before .before .pre .0 .good .tasks .costs-max (l .k), c .cost-at .ensures, l .inv .2, within (c .before .before .before))
 
 add-k-2 : tie.Need-add-k-2 Inv-loop μ-loop
-add-k-2 c = omega arith
+add-k-2 c = omega (arith, c .before .before .before .before .before .tasks-at .ensures .1, c .before .before .loop-test .taken)
 
 loop-less : tie.Need-loop-less Inv-loop μ-loop
-loop-less c = omega arith
+loop-less c = omega (arith, within (c .before .before))
 
 loop-again : tie.Need-loop-again Inv-loop μ-loop
 loop-again c =
-    let s = c .before .before .before .before .before .before .before .before .before in
-    let l = c .before .before .before .before .loop in
-    let f = c .before .before .before .before .before .before .before .before .ahead .result in
-    let m = s .pre .costs-max (l .k) in
-    let ps = now (s .args .priority) in
-    let cs = now (s .args .cost) in
+    let s = c .before .before .before .before .before .before .before in
+    let l = c .before .before .before .loop in
+    let f = s .args .first in
+    let r = rowAt (now (s .args .s)) (s .args .at) in
+    let n = tasksAt (now (s .args .s)) (s .args .at) in
+    let h = within (c .before .before) in
+    let m = s .pre .0 .good .tasks .costs-max (l .k) in
     let i = l .inv .3 in
     ⊎-elim
     (λ w.
-    let e : c .if2 .sum ≡ 0 = w .3 in
-    let g : c .if2 .best ≡ max (l .best) (l .sum) = w .2 ∙ w .1 .ensures in
-    (omega arith, omega arith, omega (arith, e), i ∙ rw (e, g) (omega (arith, dear-low ps cs (s .args .n) (s .args .floor) (f .cost) (l .sum) (l .k) (omega arith) (omega (arith, w .0 .taken))))))
+    let e : c .if1 .sum ≡ 0 = w .3 in
+    let g : c .if1 .best ≡ max (l .best) (l .sum) = w .2 ∙ w .1 .ensures in
+    (omega (arith, h), omega arith, omega (arith, e), i ∙ rw (e, g) (omega (arith, dear-low (r .priority) (r .cost) n (s .args .floor) (f .cost) (l .sum) (l .k) h (omega (arith, c .before .priority-at .ensures .0, w .0 .taken))))))
     (λ w.
-    let e : c .if2 .sum ≡ l .sum + getD cs (l .k) 0 = w .3 in
-    let g : c .if2 .best ≡ l .best = w .2 in
-    (omega arith, omega arith, omega (arith, e, m), i ∙ rw (e, g) (ap (λ x. max (l .best) x) (dear-high ps cs (s .args .n) (s .args .floor) (f .cost) (l .sum) (l .k) (omega arith) (omega (arith, w .0 .left))))))
-    (c .if2 .came)
+    let e : c .if1 .sum ≡ l .sum + getD (r .cost) (l .k) 0 = w .3 ∙ ap (λ x. l .sum + x) (w .1 .ensures) in
+    let g : c .if1 .best ≡ l .best = w .2 in
+    (omega (arith, h), omega arith, omega (arith, e, m), i ∙ rw (e, g) (ap (λ x. max (l .best) x) (dear-high (r .priority) (r .cost) n (s .args .floor) (f .cost) (l .sum) (l .k) h (omega (arith, c .before .priority-at .ensures .0, w .0 .left))))))
+    (c .if1 .came)
 
 add-greater : tie.Need-add-greater Inv-loop μ-loop
+unfolding rowAt
 add-greater c =
-    let s = c .before .before .before .before .before .before .before in
+    let s = c .before .before .before .before .before .before in
     let l = c .before .before .loop in
-    let d = c .before .before .before .before .before .before .ahead in
-    let f = ahead-fits (now (s .args .priority)) (now (s .args .cost)) (s .args .n) (s .args .floor) 0 (d .result) (d .ensures) (s .pre .costs-max) in
-    omega (arith, f, s .pre .few, l .inv .0, l .inv .1, l .inv .2)
+    let r = rowAt (now (s .args .s)) (s .args .at) in
+    let d = s .pre .1 ∙ ap stretchOf (sym (ahead-first (r .priority) (r .cost) (r .tasks) (s .args .floor))) in
+    omega (arith, ahead-fits (r .priority) (r .cost) (r .tasks) (s .args .floor) 0 (s .args .first) d (s .pre .0 .good .tasks .costs-max), s .pre .0 .good .tasks .few, l .inv .0, l .inv .1, l .inv .2)
 
 greater-requires-2 : tie.Need-greater-requires-2 Inv-loop μ-loop
 greater-requires-2 c κs = tt
 
-returns-2 : tie.Need-returns-2 Inv-loop μ-loop
-returns-2 c =
-    let s = c .before .before .before .before .before .before .before .before in
+returns : tie.Need-returns Inv-loop μ-loop
+unfolding rowAt
+returns c =
+    let s = c .before .before .before .before .before .before .before in
     let l = c .before .before .before .loop in
-    let d = c .before .before .before .before .before .before .before .ahead in
-    let ps = now (s .args .priority) in
-    let cs = now (s .args .cost) in
+    let r = rowAt (now (s .args .s)) (s .args .at) in
     c .greater2 .ensures
     ∙ sym
-    (dearest-more ps cs (s .args .n) (s .args .floor) (d .result) (d .ensures) (c .before .before .before .before .before .if1 .left)
+    (dearest-more (r .priority) (r .cost) (r .tasks) (s .args .floor) (s .args .first) (s .pre .1) (s .pre .2)
     ∙ l .inv .3
-    ∙ ap (λ x. max (l .best) x) (dear-end ps cs (s .args .n) (s .args .floor) (d .result .cost) (l .sum) (l .k) (omega arith)))
+    ∙ ap (λ x. max (l .best) x) (dear-end (r .priority) (r .cost) (r .tasks) (s .args .floor) (s .args .first .cost) (l .sum) (l .k) (omega (arith, c .before .before .before .before .before .tasks-at .ensures .0, c .before .before .loop-test .left))))
 
 pub dearest-cost-spec : {M : Type 1} → statement M
 dearest-cost-spec =
@@ -116,20 +104,16 @@ dearest-cost-spec =
     (tie.spec
     Inv-loop
     μ-loop
-    ahead-requires
-    returns
+    tasks-at-requires
     add-k
     loop-holds
-    mul-wide
-    element-copy-out-wide
-    wide-requires
+    priority-at-requires
     greater-requires
-    mul-sum
-    element-copy-out-sum
+    cost-at-requires
     add-sum
     add-k-2
     loop-less
     loop-again
     add-greater
     greater-requires-2
-    returns-2)
+    returns)

@@ -4,9 +4,12 @@ use native.Mathlib.Omega.{arith}
 use mathlib.Core.Path.{_≡_, ap₂, sym, _∙_}
 use mathlib.Core.Bool.{not, false, _||_}
 use mathlib.Core.Logic.{⊎-elim}
+use denote.Ref.{now}
 use borrow.Author.Tests.{eq-eqb, ne-eqb, eqb-true, eqb-false}
 use Rattle.search.proofs.Choice.{when-yes, when-no}
+use Rattle.table.specs.declared.Table.{Table}
 use Rattle.table.specs.Find.{findOf, used}
+use Rattle.table.specs.Taken.{tableOf}
 use Rattle.table.proofs.Firsts.{or-left, or-right, or-none}
 use Rattle.segments.specs.Query.{nthOf, answerOf}
 use Rattle.segments.proofs.Asking.{unknown, known, known-below}
@@ -14,17 +17,19 @@ use borrow.Author.Needs.{needs}
 use Rattle.segments.proofs.query.ask.Statement.{statement}
 use Rattle.segments.proofs.query.ask.Tie as tie
 
+abbrev table : tie.Start → Table
+table c = tableOf (now (c .args .s))
+
 -- both ids are in the table
-first : (c : tie.Else2) → findOf (c .before .before .before .before .before .before .args .t) (c .before .before .before .before .before .before .args .chain) < c .before .before .before .before .before .before .args .t .count
-first c = known-below (c .before .before .before .before .before .before .args .t) (c .before .before .before .before .before .before .args .chain) (λ e. c .before .before .if1 .left (c .before .before .before .before .before .find .ensures ∙ e))
+first : (c : tie.Else2) → findOf (table (c .before .before .before .before .before .before)) (c .before .before .before .before .before .before .args .chain) < table (c .before .before .before .before .before .before) .count
+first c = known-below (table (c .before .before .before .before .before .before)) (c .before .before .before .before .before .before .args .chain) (λ e. c .before .if1 .left (c .before .before .before .before .find .ensures ∙ e ∙ sym (c .before .before .count .ensures)))
 
-second : (c : tie.Else2) → findOf (c .before .before .before .before .before .before .args .t) (c .before .before .before .before .before .before .args .against) < c .before .before .before .before .before .before .args .t .count
-second c = known-below (c .before .before .before .before .before .before .args .t) (c .before .before .before .before .before .before .args .against) (λ e. eqb-false _ _ (c .if2 .left) (c .before .before .before .before .find2 .ensures ∙ e))
+second : (c : tie.Else2) → findOf (table (c .before .before .before .before .before .before)) (c .before .before .before .before .before .before .args .against) < table (c .before .before .before .before .before .before) .count
+second c = known-below (table (c .before .before .before .before .before .before)) (c .before .before .before .before .before .before .args .against) (λ e. eqb-false _ _ (c .if2 .left) (c .before .before .before .find2 .ensures ∙ e ∙ sym (c .before .before .count .ensures)))
 
-named : (c : tie.Else2) → (not (used (c .before .before .before .before .before .before .args .t) (c .before .before .before .before .before .before .args .chain)) || not (used (c .before .before .before .before .before .before .args .t) (c .before .before .before .before .before .before .args .against))) ≡ false
+named : (c : tie.Else2) → (not (used (table (c .before .before .before .before .before .before)) (c .before .before .before .before .before .before .args .chain)) || not (used (table (c .before .before .before .before .before .before)) (c .before .before .before .before .before .before .args .against))) ≡ false
 named c =
-    or-none _ _ (known (c .before .before .before .before .before .before .args .t) (c .before .before .before .before .before .before .args .chain) (λ e. omega (arith, first c)))
-    (known (c .before .before .before .before .before .before .args .t) (c .before .before .before .before .before .before .args .against) (λ e. omega (arith, second c)))
+    or-none _ _ (known (table (c .before .before .before .before .before .before)) (c .before .before .before .before .before .before .args .chain) (λ e. omega (arith, first c))) (known (table (c .before .before .before .before .before .before)) (c .before .before .before .before .before .before .args .against) (λ e. omega (arith, second c)))
 
 find-requires : tie.Need-find-requires
 find-requires c κs = search needs
@@ -32,13 +37,16 @@ find-requires c κs = search needs
 find-requires-2 : tie.Need-find-requires-2
 find-requires-2 c κs = search needs
 
+count-requires : tie.Need-count-requires
+count-requires c κs = search needs
+
 returns : tie.Need-returns
 unfolding answerOf
 returns c =
-    let s = c .before .before .before .before in
+    let s = c .before .before .before .before .before in
     sym (when-yes _ _ (⊎-elim
-    (λ w. or-left _ _ (unknown (s .args .t) (s .args .chain) (sym (c .before .before .before .find .ensures) ∙ w .taken)))
-    (λ w. or-right (not (used (s .args .t) (s .args .chain))) _ (unknown (s .args .t) (s .args .against) (sym (c .before .before .find2 .ensures) ∙ eqb-true _ _ (w .2 .taken))))
+    (λ w. or-left _ _ (unknown (table s) (s .args .chain) (sym (c .before .before .before .find .ensures) ∙ w .taken ∙ c .before .count .ensures)))
+    (λ w. or-right (not (used (table s) (s .args .chain))) _ (unknown (table s) (s .args .against) (sym (c .before .before .find2 .ensures) ∙ eqb-true _ _ (w .1 .taken) ∙ c .before .count .ensures)))
     (c .if1 .came)))
 
 returns-2 : tie.Need-returns-2
@@ -47,16 +55,23 @@ returns-2 c = sym (when-no _ _ (named (c .before)) ∙ when-yes _ _ (eq-eqb _ _ 
 
 nth-requires : tie.Need-nth-requires
 nth-requires c κs =
-    let s = c .before .before .before .before .before .before .before in
-    (s .pre, omega (arith, c .before .before .before .before .before .before .find .ensures, first (c .before)), omega (arith, c .before .before .before .before .before .find2 .ensures, second (c .before)))
+    (c .before .before .before .before .before .before .before .pre, omega (arith, c .before .before .before .before .before .find .ensures, first (c .before)), omega (arith, c .before .before .before .before .find2 .ensures, second (c .before)))
 
 returns-3 : tie.Need-returns-3
 unfolding answerOf
 returns-3 c =
     let s = c .before .before .before .before .before .before .before .before in
-    c .nth .ensures ∙ ap₂ (λ k j. nthOf (s .args .t) k j (s .args .number)) (c .before .before .before .before .before .before .before .find .ensures) (c .before .before .before .before .before .before .find2 .ensures)
+    c .nth .ensures ∙ ap₂ (λ k j. nthOf (table s) k j (s .args .number)) (c .before .before .before .before .before .before .find .ensures) (c .before .before .before .before .before .find2 .ensures)
     ∙ sym (when-no _ _ (named (c .before .before)) ∙ when-no _ _ (ne-eqb _ _ (c .before .if3 .left)))
 
 pub ask-spec : {M : Type 1} → statement M
 ask-spec =
-    tie.close (tie.spec find-requires find-requires-2 returns returns-2 nth-requires returns-3)
+    tie.close
+    (tie.spec
+    find-requires
+    find-requires-2
+    count-requires
+    returns
+    returns-2
+    nth-requires
+    returns-3)

@@ -1,67 +1,73 @@
 -- The loop's invariant (`Going`): what was passed and what is left make up the tasks before the first below the level.
-use Prim.Native.Nat.{_-_}
+use Prim.Native.Nat.{_-_, _<_}
 use native.Mathlib.Omega.{arith}
 use denote.Ref.{now}
+use Rattle.table.specs.Record.{tasksAt, rowAt}
 use Rattle.segments.proofs.Steps.{Going, going-start, going-on, going-done, ahead-stop, ahead-end}
 use Rattle.segments.proofs.tasks.ahead.Statement.{statement}
 use Rattle.segments.proofs.tasks.ahead.Tie as tie
 
 abbrev Inv-loop : tie.InvT-loop
-Inv-loop priority cost n from level sum₀ k₀ sum k = Going priority cost n level from k sum
+Inv-loop s at from level n sum₀ k₀ sum k = Going (rowAt s at .priority) (rowAt s at .cost) (tasksAt s at) level from k sum
 
 abbrev μ-loop : tie.MeasureT-loop
-μ-loop priority cost n from level sum₀ k₀ sum k = n - k
+μ-loop s at from level n sum₀ k₀ sum k = tasksAt s at - k
+
+-- the task k is there
+within : (c : tie.In-loop Inv-loop μ-loop) → c .before .loop .k < tasksAt (now (c .before .before .before .before .args .s)) (c .before .before .before .before .args .at)
+within c = omega (arith, c .before .before .tasks-at .ensures .0, c .loop-test .taken)
+
+tasks-at-requires : tie.Need-tasks-at-requires Inv-loop μ-loop
+tasks-at-requires c κs = omega (arith, c .before .pre .0 .there)
 
 loop-holds : tie.Need-loop-holds Inv-loop μ-loop
-loop-holds c = going-start _ _ _ _ _ (c .pre .1)
+loop-holds c = going-start _ _ _ _ _ (c .before .before .pre .1)
 
-mul-wide : tie.Need-mul-wide Inv-loop μ-loop
-mul-wide c = omega arith
+priority-at-requires : tie.Need-priority-at-requires Inv-loop μ-loop
+priority-at-requires c κs = (c .before .before .before .before .pre .0, within c)
 
-element-copy-out-wide : tie.Need-element-copy-out-wide Inv-loop μ-loop
-element-copy-out-wide c = omega arith
-
-wide-requires : tie.Need-wide-requires Inv-loop μ-loop
-wide-requires c κs = tt
-
-sub-t14 : tie.Need-sub-t14 Inv-loop μ-loop
-sub-t14 c = omega arith
+sub-t10 : tie.Need-sub-t10 Inv-loop μ-loop
+sub-t10 c = omega (arith, c .before .before .before .loop .inv .low)
 
 returns : tie.Need-returns Inv-loop μ-loop
+unfolding rowAt
 returns c =
-    let s = c .before .before .before .before .before in
-    let l = c .before .before .before .before .loop in
-    going-done (now (s .args .priority)) (now (s .args .cost)) (s .args .n) (s .args .level) (s .args .from) (l .k) (l .sum) (l .inv) (ahead-stop _ _ _ _ (l .k) (omega arith) (omega arith))
+    let s = c .before .before .before .before .before .before in
+    let l = c .before .before .before .loop in
+    let r = rowAt (now (s .args .s)) (s .args .at) in
+    going-done (r .priority) (r .cost) (r .tasks) (s .args .level) (s .args .from) (l .k) (l .sum) (l .inv) (ahead-stop _ _ _ _ (l .k) (within (c .before .before)) (omega (arith, c .before .priority-at .ensures .0, c .if1 .taken)))
 
-mul-sum : tie.Need-mul-sum Inv-loop μ-loop
-mul-sum c = omega arith
-
-element-copy-out-sum : tie.Need-element-copy-out-sum Inv-loop μ-loop
-element-copy-out-sum c = omega arith
+cost-at-requires : tie.Need-cost-at-requires Inv-loop μ-loop
+cost-at-requires c κs = (c .before .before .before .before .before .before .pre .0, within (c .before .before))
 
 add-sum : tie.Need-add-sum Inv-loop μ-loop
-add-sum c = omega (arith, c .before .before .before .before .before .before .pre .0 .few, c .before .before .before .before .before .before .pre .0 .costs-max (c .before .before .before .before .before .loop .k))
+unfolding rowAt
+add-sum c = let l = c .before .before .before .before .loop in omega (arith, c .before .before .before .before .before .before .before .pre .0 .good .tasks .few, c .before .before .before .before .before .before .before .pre .0 .good .tasks .costs-max (l .k), c .cost-at .ensures, l .inv .fits, l .inv .low, within (c .before .before .before))
 
 add-k : tie.Need-add-k Inv-loop μ-loop
-add-k c = omega arith
+add-k c = omega (arith, c .before .before .before .before .before .tasks-at .ensures .1, c .before .before .before .loop-test .taken)
 
 loop-less : tie.Need-loop-less Inv-loop μ-loop
-loop-less c = omega arith
+loop-less c = omega (arith, within (c .before .before .before))
 
 loop-again : tie.Need-loop-again Inv-loop μ-loop
 loop-again c =
-    let s = c .before .before .before .before .before .before in
-    let l = c .before .before .before .before .before .loop in
-    going-on (now (s .args .priority)) (now (s .args .cost)) (s .args .n) (s .args .level) (s .args .from) (l .k) (l .sum) (l .inv) (omega arith) (omega arith) (s .pre .0 .costs-max (l .k))
+    let s = c .before .before .before .before .before .before .before in
+    let l = c .before .before .before .before .loop in
+    let r = rowAt (now (s .args .s)) (s .args .at) in
+    rw (c .cost-at .ensures)
+    (going-on (r .priority) (r .cost) (tasksAt (now (s .args .s)) (s .args .at)) (s .args .level) (s .args .from) (l .k) (l .sum) (l .inv) (within (c .before .before .before)) (omega (arith, c .before .before .priority-at .ensures .0, c .before .if1 .left)) (s .pre .0 .good .tasks .costs-max (l .k)))
 
-sub-t17 : tie.Need-sub-t17 Inv-loop μ-loop
-sub-t17 c = omega arith
+sub-t11 : tie.Need-sub-t11 Inv-loop μ-loop
+sub-t11 c = omega (arith, c .before .loop .inv .low)
 
 returns-2 : tie.Need-returns-2 Inv-loop μ-loop
+unfolding rowAt
 returns-2 c =
-    let s = c .before .before in
+    let s = c .before .before .before .before in
     let l = c .before .loop in
-    going-done (now (s .args .priority)) (now (s .args .cost)) (s .args .n) (s .args .level) (s .args .from) (l .k) (l .sum) (l .inv) (ahead-end _ _ _ _ (l .k) (omega arith))
+    let r = rowAt (now (s .args .s)) (s .args .at) in
+    going-done (r .priority) (r .cost) (r .tasks) (s .args .level) (s .args .from) (l .k) (l .sum) (l .inv) (ahead-end _ _ _ _ (l .k) (omega (arith, c .before .before .tasks-at .ensures .0, c .loop-test .left)))
 
 pub ahead-spec : {M : Type 1} → statement M
 ahead-spec =
@@ -69,17 +75,15 @@ ahead-spec =
     (tie.spec
     Inv-loop
     μ-loop
+    tasks-at-requires
     loop-holds
-    mul-wide
-    element-copy-out-wide
-    wide-requires
-    sub-t14
+    priority-at-requires
+    sub-t10
     returns
-    mul-sum
-    element-copy-out-sum
+    cost-at-requires
     add-sum
     add-k
     loop-less
     loop-again
-    sub-t17
+    sub-t11
     returns-2)

@@ -3,56 +3,56 @@ use Prim.Native.Nat.{_≤_, _-_}
 use native.Mathlib.Omega.{arith}
 use mathlib.Core.Path.{_≡_, _∙_, sym, ap}
 use denote.Ref.{now}
+use Rattle.table.specs.Record.{tasksAt, rowAt}
 use Rattle.segments.specs.Tasks.{lowest}
 use Rattle.segments.proofs.Levels.{lowest-one, lowest-on}
 use Rattle.segments.proofs.tasks.floor_of.Statement.{statement}
 use Rattle.segments.proofs.tasks.floor_of.Tie as tie
 
 abbrev Inv-loop : tie.InvT-loop
-Inv-loop priority n low₀ k₀ low k = (1 ≤ k) × (k ≤ n) × (low ≡ lowest priority (k - 1))
+Inv-loop s at n low₀ k₀ low k = (1 ≤ k) × (k ≤ tasksAt s at) × (low ≡ lowest (rowAt s at .priority) (k - 1))
 
 abbrev μ-loop : tie.MeasureT-loop
-μ-loop priority n low₀ k₀ low k = n - k
+μ-loop s at n low₀ k₀ low k = tasksAt s at - k
 
-element-copy-out-wide : tie.Need-element-copy-out-wide Inv-loop μ-loop
-element-copy-out-wide c = omega arith
+tasks-at-requires : tie.Need-tasks-at-requires Inv-loop μ-loop
+tasks-at-requires c κs = omega (arith, c .before .pre .there)
 
-wide-requires : tie.Need-wide-requires Inv-loop μ-loop
-wide-requires c κs = tt
+priority-at-requires : tie.Need-priority-at-requires Inv-loop μ-loop
+unfolding rowAt
+priority-at-requires c κs = (c .before .before .pre, omega (arith, c .before .before .pre .good .tasks .some))
 
 loop-holds : tie.Need-loop-holds Inv-loop μ-loop
-loop-holds c = (omega arith, omega arith, c .wide .ensures .0 ∙ sym (lowest-one (now (c .before .before .args .priority))))
+unfolding rowAt
+loop-holds c =
+    let s = c .before .before .before in
+    (omega arith, omega (arith, s .pre .good .tasks .some), c .priority-at .ensures .0 ∙ sym (lowest-one (rowAt (now (s .args .s)) (s .args .at) .priority)))
 
-mul-wide : tie.Need-mul-wide Inv-loop μ-loop
-mul-wide c = omega arith
-
-element-copy-out-wide-2 : tie.Need-element-copy-out-wide-2 Inv-loop μ-loop
-element-copy-out-wide-2 c = omega arith
-
-wide-requires-2 : tie.Need-wide-requires-2 Inv-loop μ-loop
-wide-requires-2 c κs = tt
+priority-at-requires-2 : tie.Need-priority-at-requires-2 Inv-loop μ-loop
+priority-at-requires-2 c κs = (c .before .before .before .before .before .pre, omega (arith, c .before .before .before .tasks-at .ensures .0, c .loop-test .taken))
 
 lesser-requires : tie.Need-lesser-requires Inv-loop μ-loop
 lesser-requires c κs = tt
 
 add-k : tie.Need-add-k Inv-loop μ-loop
-add-k c = omega arith
+add-k c = omega (arith, c .before .before .before .before .before .tasks-at .ensures .1, c .before .before .loop-test .taken)
 
 loop-less : tie.Need-loop-less Inv-loop μ-loop
-loop-less c = omega arith
+loop-less c = omega (arith, c .before .before .before .before .before .tasks-at .ensures .0, c .before .before .loop-test .taken)
 
 loop-again : tie.Need-loop-again Inv-loop μ-loop
 loop-again c =
     let s = c .before .before .before .before .before .before .before in
-    let l = c .before .before .before .before .loop in
-    (omega arith, omega arith, rw (c .lesser .ensures, c .before .wide2 .ensures .0, l .inv .2) (sym (lowest-on (now (s .args .priority)) (l .k) (l .inv .0))))
+    let l = c .before .before .before .loop in
+    (omega arith, omega (arith, c .before .before .before .before .before .tasks-at .ensures .0, c .before .before .loop-test .taken), rw (c .lesser .ensures, c .before .priority-at2 .ensures .0, l .inv .2) (sym (lowest-on (rowAt (now (s .args .s)) (s .args .at) .priority) (l .k) (l .inv .0))))
 
 returns : tie.Need-returns Inv-loop μ-loop
+unfolding rowAt
 returns c =
-    let s = c .before .before .before .before in
+    let s = c .before .before .before .before .before in
     let l = c .before .loop in
-    let e : l .k ≡ s .args .n = omega arith in
-    l .inv .2 ∙ ap (λ k. lowest (now (s .args .priority)) (k - 1)) e
+    let e : l .k ≡ tasksAt (now (s .args .s)) (s .args .at) = omega (arith, c .before .before .before .tasks-at .ensures .0, c .loop-test .left) in
+    l .inv .2 ∙ ap (λ k. lowest (rowAt (now (s .args .s)) (s .args .at) .priority) (k - 1)) e
 
 pub floor-of-spec : {M : Type 1} → statement M
 floor-of-spec =
@@ -60,12 +60,10 @@ floor-of-spec =
     (tie.spec
     Inv-loop
     μ-loop
-    element-copy-out-wide
-    wide-requires
+    tasks-at-requires
+    priority-at-requires
     loop-holds
-    mul-wide
-    element-copy-out-wide-2
-    wide-requires-2
+    priority-at-requires-2
     lesser-requires
     add-k
     loop-less

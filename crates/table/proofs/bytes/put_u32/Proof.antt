@@ -1,5 +1,5 @@
 -- Four stores in a row are the four bytes.
-use Prim.Native.Nat.{suc, _+_, _/_, _%_}
+use Prim.Native.Nat.{suc, _+_}
 use mathlib.Core.Path.{_≡_}
 use lib.ListN.{length-set}
 use lib.Seq.{sets-eq}

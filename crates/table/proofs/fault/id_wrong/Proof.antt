@@ -1,5 +1,4 @@
 -- Each of the two tests decides.
-use mathlib.Core.Path.{ap, sym}
 use borrow.Author.Tests.{eq-eqb, ne-eqb}
 use borrow.Author.Needs.{needs}
 use Rattle.table.proofs.Before.{used-ids}

@@ -1,60 +1,83 @@
--- None of the first k rows bears the id.
+-- None of the first k chains bears the id; the record of the chain k starts at `at`.
 use Prim.Native.Nat.{ℕ, _+_, _≤_, _<_, _-_}
-use mathlib.Core.Path.{_≡_, sym, _∙_}
+use mathlib.Core.Path.{_≡_, ap, sym, _∙_}
 use mathlib.Core.Bool.{true}
+use denote.Ref.{now}
 use lib.Dec.{eqb}
 use borrow.Author.Count.{below-more}
 use borrow.Author.Tests.{eq-eqb, eqb-true}
 use Rattle.search.proofs.Find.{first-is, first-none}
+use Rattle.table.specs.declared.Row.{Row}
+use Rattle.table.specs.Record.{rowAt}
 use Rattle.table.specs.Find.{rowOf, findOf}
+use Rattle.table.specs.Place.{placeOf}
+use Rattle.table.specs.Taken.{tableOf}
+use Rattle.table.proofs.Standing.{place-none}
+use Rattle.table.proofs.Stands.{row-there, stands, place-next}
 use native.Mathlib.Omega.{arith}
 use Rattle.table.proofs.places.find.Statement.{statement}
 use Rattle.table.proofs.places.find.Tie as tie
 
 abbrev Inv-loop : tie.InvT-loop
-Inv-loop id t k₀ k = (k ≤ t .count) × ((j : ℕ) → j < k → eqb (rowOf t j .id) id ≡ true → ⊥)
+Inv-loop s id chains at₀ k₀ at k =
+    (k ≤ tableOf s .count) × (at ≡ placeOf (tableOf s) k) × ((j : ℕ) → j < k → eqb (rowOf (tableOf s) j .id) id ≡ true → ⊥)
 
 abbrev μ-loop : tie.MeasureT-loop
-μ-loop id t k₀ k = t .count - k
+μ-loop s id chains at₀ k₀ at k = tableOf s .count - k
+
+-- the chain k is there
+within : (c : tie.In-loop Inv-loop μ-loop) → c .before .loop .k < tableOf (now (c .before .before .before .before .args .s)) .count
+within c = omega (arith, c .before .before .count .ensures, c .loop-test .taken)
+
+-- its id, as the record has it
+bears : (c : tie.After-wide Inv-loop μ-loop) → c .wide .result ≡ rowOf (tableOf (now (c .before .before .before .before .before .before .args .s))) (c .before .before .before .loop .k) .id
+unfolding rowAt
+bears c = c .wide .ensures .0 ∙ c .before .id-at .ensures ∙ ap (λ (r : Row). r .id) (row-there (c .before .before .before .before .before .before .pre) (c .before .before .before .loop .inv .1) (within (c .before .before)))
+
+count-requires : tie.Need-count-requires Inv-loop μ-loop
+count-requires c κs = c .before .pre
 
 loop-holds : tie.Need-loop-holds Inv-loop μ-loop
-loop-holds c = (omega arith, λ j h e. absurd (omega (arith, h)))
+loop-holds c = (omega arith, place-none (tableOf (now (c .before .before .args .s))), λ j h e. absurd (omega (arith, h)))
 
-mul-wide : tie.Need-mul-wide Inv-loop μ-loop
-mul-wide c = omega arith
-
-element-copy-out-wide : tie.Need-element-copy-out-wide Inv-loop μ-loop
-element-copy-out-wide c = omega arith
+id-at-requires : tie.Need-id-at-requires Inv-loop μ-loop
+id-at-requires c κs = omega (arith, stands (c .before .before .before .before .pre) (c .before .loop .inv .1) (within c) .there)
 
 wide-requires : tie.Need-wide-requires Inv-loop μ-loop
-wide-requires c κs = omega arith
+wide-requires c κs = tt
 
 returns : tie.Need-returns Inv-loop μ-loop
 unfolding findOf
-returns c = let s = c .before .before .before .before in
-    let l = c .before .before .before .loop in
-    sym (first-is (λ j. eqb (rowOf (s .args .t1) j .id) (s .args .id)) 0 (s .args .t1 .count) (l .k) (omega arith) (omega arith)
-    (eq-eqb _ _ (sym (c .before .wide .ensures .0) ∙ c .if1 .taken)) (λ j a h e. l .inv .1 j h e))
+returns c = let t = tableOf (now (c .before .before .before .before .before .before .before .args .s)) in
+    let l = c .before .before .before .before .loop in
+    sym (first-is (λ j. eqb (rowOf t j .id) (c .before .before .before .before .before .before .before .args .id)) 0 (t .count) (l .k) (omega arith) (omega (arith, within (c .before .before .before)))
+    (eq-eqb _ _ (sym (bears (c .before)) ∙ c .if1 .taken)) (λ j a h e. l .inv .2 j h e))
+
+record-length-requires : tie.Need-record-length-requires Inv-loop μ-loop
+record-length-requires c κs = omega (arith, stands (c .before .before .before .before .before .before .before .pre) (c .before .before .before .before .loop .inv .1) (within (c .before .before .before)) .there)
+
+add-at : tie.Need-add-at Inv-loop μ-loop
+add-at c = omega (arith, c .record-length .ensures, stands (c .before .before .before .before .before .before .before .before .pre) (c .before .before .before .before .before .loop .inv .1) (within (c .before .before .before .before)) .there)
 
 add-k : tie.Need-add-k Inv-loop μ-loop
-add-k c = omega arith
+add-k c = omega (arith, c .before .before .before .before .before .before .before .before .pre .good .few, within (c .before .before .before .before))
 
 loop-less : tie.Need-loop-less Inv-loop μ-loop
-loop-less c = omega arith
+loop-less c = omega (arith, within (c .before .before .before .before))
 
 loop-again : tie.Need-loop-again Inv-loop μ-loop
 loop-again c = (
-  omega arith,
-  below-more _ _ (c .before .before .before .loop .inv .1)
-      (λ e. c .if1 .left (c .before .wide .ensures .0 ∙ eqb-true _ _ e)),
+  omega (arith, within (c .before .before .before .before)),
+  ap (λ n. c .before .before .before .before .before .loop .at + n) (c .record-length .ensures) ∙ place-next (c .before .before .before .before .before .before .before .before .pre) (c .before .before .before .before .before .loop .inv .1) (within (c .before .before .before .before)),
+  below-more _ _ (c .before .before .before .before .before .loop .inv .2) (λ e. c .before .if1 .left (bears (c .before .before) ∙ eqb-true _ _ e)),
 )
 
 returns-2 : tie.Need-returns-2 Inv-loop μ-loop
 unfolding findOf
-returns-2 c = let s = c .before .before in
+returns-2 c = let t = tableOf (now (c .before .before .before .before .args .s)) in
     let l = c .before .loop in
-    let e : l .k ≡ 0 + s .args .t1 .count = omega arith in
-    e ∙ sym (first-none (λ j. eqb (rowOf (s .args .t1) j .id) (s .args .id)) 0 (s .args .t1 .count) (λ j a h p. l .inv .1 j (omega arith) p))
+    let e : l .k ≡ 0 + t .count = omega (arith, c .before .before .count .ensures, c .loop-test .left) in
+    e ∙ sym (first-none (λ j. eqb (rowOf t j .id) (c .before .before .before .before .args .id)) 0 (t .count) (λ j a h p. l .inv .2 j (omega arith) p))
 
 pub find-spec : {M : Type 1} → statement M
 find-spec =
@@ -62,11 +85,13 @@ find-spec =
     (tie.spec
     Inv-loop
     μ-loop
+    count-requires
     loop-holds
-    mul-wide
-    element-copy-out-wide
+    id-at-requires
     wide-requires
     returns
+    record-length-requires
+    add-at
     add-k
     loop-less
     loop-again

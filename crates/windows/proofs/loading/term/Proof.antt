@@ -1,52 +1,91 @@
 -- `term` meets its contract: one law for each of the three kinds of other chain.
-use mathlib.Core.Path.{ap, sym, subst, _∙_}
+use Prim.Native.Nat.{_<_}
+use mathlib.Core.Path.{_≡_, ap, sym, _∙_}
+use native.Mathlib.Omega.{arith}
 use borrow.Author.Needs.{needs}
 use borrow.Author.Tests.{eq-eqb, ne-eqb}
-use Rattle.segments.specs.View.{viewOf, seenOf}
-use Rattle.segments.specs.declared.Seen.{Seen}
-use Rattle.windows.specs.Load.{Adds}
+use Rattle.table.specs.Record.{rowAt}
+use Rattle.table.specs.declared.Row.{Row}
+use Rattle.segments.specs.Tasks.{tasksOf, below, before}
+use Rattle.segments.specs.Held.{stretchOf}
+use Rattle.segments.proofs.Steps.{ahead-first, ahead-inside}
 use Rattle.windows.proofs.Terms.{free-adds, asynchronous-adds, synchronous-adds}
 use Rattle.windows.proofs.loading.term.Statement.{statement}
 use Rattle.windows.proofs.loading.term.Tie as tie
 
-see-requires : tie.Need-see-requires
-see-requires c κs = search needs
+-- the chain, its first stretch, and how many tasks it has
+module _ (c : tie.After-tasks-at) where
+  abbrev row : Row
+  row = rowAt (c .before .before .before .args .s .now) (c .before .before .before .args .a)
 
-cast-t5 : tie.Need-cast-t5
-cast-t5 c = search needs
+  first-is : c .before .ahead .result ≡ stretchOf (before (below (c .before .before .before .args .floor)) (tasksOf row))
+  first-is = c .before .ahead .ensures ∙ ap stretchOf (ahead-first (row .priority) (row .cost) (row .tasks) (c .before .before .before .args .floor))
 
-returns : tie.Need-returns
-returns c =
-    let s = c .before .before .before in
-    let e = c .before .before .see .ensures in
-    subst (λ (r : Seen). Adds (viewOf (s .args .a) (s .args .b)) (record { rate = r .cost; once = 0 })) (sym e)
-    (free-adds (s .args .a) (s .args .b) (s .pre .0) (ap (λ (r : Seen). r .free) (sym e) ∙ c .before .if1 .taken))
+  tasks-is : c .tasks-at .result ≡ row .tasks
+  unfolding rowAt
+  tasks-is = c .tasks-at .ensures .0
 
-cast-t6 : tie.Need-cast-t6
-cast-t6 c = search needs
+  inside : (c .before .ahead .result .len ≡ c .tasks-at .result → ⊥) → c .before .ahead .result .len < row .tasks
+  inside h = omega (arith, ahead-inside (row .priority) (row .cost) (row .tasks) (c .before .before .before .args .floor) 0 (c .before .ahead .result) (c .before .ahead .ensures) (omega arith), h, tasks-is)
+
+ahead-requires : tie.Need-ahead-requires
+ahead-requires c κs = search needs
+
+tasks-at-requires : tie.Need-tasks-at-requires
+tasks-at-requires c κs = search needs
 
 cast-t7 : tie.Need-cast-t7
 cast-t7 c = search needs
 
-returns-2 : tie.Need-returns-2
-returns-2 c =
-    let s = c .before .before .before .before .before .before in
-    let e = c .before .before .before .before .before .see .ensures in
-    subst (λ (r : Seen). Adds (viewOf (s .args .a) (s .args .b)) (record { rate = r .first; once = r .all })) (sym e)
-    (asynchronous-adds (s .args .a) (s .args .b) (s .pre .0) (ap (λ (r : Seen). r .free) (sym e) ∙ c .before .before .before .before .if1 .left)
-    (eq-eqb _ _ (c .before .before .if2 .taken)))
+returns : tie.Need-returns
+returns c = λ b e. let x = c .before .before .before in free-adds (row x) b (x .before .before .before .pre .good) e (first-is x) (c .before .if1 .taken ∙ tasks-is x)
 
-cast-t8 : tie.Need-cast-t8
-cast-t8 c = search needs
+kind-at-requires : tie.Need-kind-at-requires
+kind-at-requires c κs = search needs
+
+cast-t9 : tie.Need-cast-t9
+cast-t9 c = search needs
+
+all-cost-requires : tie.Need-all-cost-requires
+all-cost-requires c κs = search needs
+
+cast-t11 : tie.Need-cast-t11
+cast-t11 c = search needs
+
+returns-2 : tie.Need-returns-2
+unfolding rowAt
+returns-2 c = λ b e.
+    let x = c .before .before .before .before .before .before in
+    asynchronous-adds (row x) b (x .before .before .before .pre .good) e (first-is x) (λ f. c .before .before .before .before .if1 .left (f ∙ sym (tasks-is x)))
+    (eq-eqb _ _ (sym (c .before .before .before .kind-at .ensures) ∙ c .before .before .if2 .taken)) (c .all-cost .ensures)
+
+dearest-cost-requires : tie.Need-dearest-cost-requires
+unfolding rowAt
+dearest-cost-requires c κs = let x = c .before .before .before .before in (x .before .before .before .pre, first-is x, inside x (c .before .before .if1 .left))
+
+cast-t13 : tie.Need-cast-t13
+cast-t13 c = search needs
 
 returns-3 : tie.Need-returns-3
-returns-3 c =
-    let s = c .before .before .before .before .before in
-    let e = c .before .before .before .before .see .ensures in
-    subst (λ (r : Seen). Adds (viewOf (s .args .a) (s .args .b)) (record { rate = 0; once = r .dearest })) (sym e)
-    (synchronous-adds (s .args .a) (s .args .b) (s .pre .0) (ap (λ (r : Seen). r .free) (sym e) ∙ c .before .before .before .if1 .left)
-    (ne-eqb _ _ (c .before .if2 .left)))
+unfolding rowAt
+returns-3 c = λ b e.
+    let x = c .before .before .before .before .before in
+    synchronous-adds (row x) b (x .before .before .before .pre .good) e (first-is x) (λ f. c .before .before .before .if1 .left (f ∙ sym (tasks-is x)))
+    (ne-eqb _ _ (λ f. c .before .if2 .left (c .before .before .kind-at .ensures ∙ f))) (c .dearest-cost .ensures)
 
 pub term-spec : {M : Type 1} → statement M
 term-spec =
-    tie.close (tie.spec see-requires cast-t5 returns cast-t6 cast-t7 returns-2 cast-t8 returns-3)
+    tie.close
+    (tie.spec
+    ahead-requires
+    tasks-at-requires
+    cast-t7
+    returns
+    kind-at-requires
+    cast-t9
+    all-cost-requires
+    cast-t11
+    returns-2
+    dearest-cost-requires
+    cast-t13
+    returns-3)

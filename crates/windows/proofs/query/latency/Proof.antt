@@ -1,49 +1,38 @@
--- `latency` meets its contract: by the reading's verdict; every accepted table is a good one.
-use mathlib.Core.Path.{_≡_, ap, sym, subst, _∙_}
+-- `latency` meets its contract: by the verdict; the bytes of an accepted table meet what the chains are read by.
+use mathlib.Core.Path.{_≡_, sym, _∙_}
+use native.Mathlib.Omega.{arith}
 use borrow.Author.Needs.{needs}
-use Rattle.table.specs.Good.{GoodTable}
 use Rattle.table.specs.Read.{readTable}
-use Rattle.table.specs.declared.Reading.{Reading}
-use Rattle.table.specs.declared.Verdict.the-variants.{Accepted, Refused as Faulty}
-use Rattle.table.proofs.Accepted.{accepted-good}
-use Rattle.windows.specs.Latency.{chainOf}
+use Rattle.table.specs.declared.Verdict.the-variants.{Accepted}
+use Rattle.table.proofs.Accepted.{taken}
 use Rattle.windows.proofs.Answers.{latency-refused, latency-accepted}
 use Rattle.windows.proofs.query.latency.Statement.{statement}
 use Rattle.windows.proofs.query.latency.Tie as tie
 
--- the verdict of the reading
 accepted : (c : tie.After-enum-told) → readTable (c .before .before .before .before .args .table .now) .verdict ≡ Accepted
-accepted c = ap (λ (r : Reading). r .verdict) (sym (c .before .before .read .ensures)) ∙ c .enum-told .given .1
+accepted c = sym (c .before .before .judge .ensures) ∙ c .enum-told .given .1
 
-read-requires : tie.Need-read-requires
-read-requires c κs = search needs
+judge-requires : tie.Need-judge-requires
+judge-requires c κs = search needs
 
 enum-told : tie.Need-enum-told
 enum-told c = search needs
 
 latency-in-requires : tie.Need-latency-in-requires
-latency-in-requires c κs =
-    let s = c .before .before .before .before .args .table .now in
-    subst (λ (r : Reading). GoodTable (r .table)) (sym (c .before .before .read .ensures))
-    (accepted-good s (λ k. c .before .before .before .shared-slice-known .given k .fits) (accepted c))
+latency-in-requires c κs = taken (c .before .before .before .before .args .table .now) (λ k. omega (arith, c .before .before .before .shared-slice-known .given k)) (accepted c)
 
-enum-known-verdict : tie.Need-enum-known-verdict
-enum-known-verdict c = search needs
+enum-known-n : tie.Need-enum-known-n
+enum-known-n c = search needs
 
 returns : tie.Need-returns
-returns c =
-    let a = c .before .before .before .before .before .args in
-    c .latency-in .ensures
-    ∙ ap (λ (r : Reading). chainOf (r .table) (a .id)) (c .before .before .before .read .ensures)
-    ∙ sym (latency-accepted (a .table .now) (a .id) (accepted (c .before)))
+returns c = let a = c .before .before .before .before .before .args in c .latency-in .ensures ∙ sym (latency-accepted (a .table .now) (a .id) (accepted (c .before)))
 
 returns-2 : tie.Need-returns-2
 returns-2 c =
     let a = c .before .before .before .before .before .args in
-    sym (latency-refused (a .table .now) (a .id) (c .before .verdict .given .0 .0)
-    (ap (λ (r : Reading). r .verdict) (sym (c .before .before .before .read .ensures)) ∙ c .before .verdict .given .1))
+    sym (latency-refused (a .table .now) (a .id) (c .before .n .given .0 .0) (sym (c .before .before .before .judge .ensures) ∙ c .before .n .given .1))
 
 pub latency-spec : {M : Type 1} → statement M
 latency-spec =
     tie.close
-    (tie.spec read-requires enum-told latency-in-requires enum-known-verdict returns returns-2)
+    (tie.spec judge-requires enum-told latency-in-requires enum-known-n returns returns-2)

@@ -1,0 +1,9 @@
+-- What the code hands from its judgement to its writing: an array that begins with the result.
+use Prim.Native.Nat.{ℕ}
+use mathlib.Core.Path.{_≡_}
+use mathlib.Core.List.{List}
+use lib.ListN.{length, take}
+
+-- the first bytes of `out` are those
+pub record Begins (out bytes : List ℕ) : Type 0 where
+  pub first : take (length bytes) out ≡ bytes

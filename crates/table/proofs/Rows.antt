@@ -1,0 +1,110 @@
+-- The rows of a table, decoded one after the other, and what a reading can be. Assumes nothing.
+use Prim.Native.Nat.{ℕ, zero, suc, _+_, _*_, _≤_, _<_}
+use native.Mathlib.Omega.{arith}
+use native.Mathlib.Numerals.{add-one}
+use mathlib.Core.Path.{_≡_, refl, ap, ap₂, sym, _∙_}
+use mathlib.Core.List.{List}
+use mathlib.Core.Bool.{_||_}
+use mathlib.Core.Logic.{⊎-elim}
+use borrow.Author.Count.{below-more}
+use lib.ListN.{length, take, length-set, length-replicate, getD-replicate}
+use lib.Dec.{eqb, ltb}
+use lib.Seq.{ext-getD, getD-set-same, getD-set-other, take-suc}
+use Rattle.search.specs.Lists.{sumOf}
+use Rattle.search.proofs.Choice.{when-cases, lt-or-le}
+use Rattle.search.proofs.Lists.{sum-append}
+use Rattle.table.specs.Limits.{maxChains, maxTasks, maxBytes}
+use Rattle.table.specs.Bytes.{word}
+use Rattle.table.specs.Record.{lengthAt, rowAt}
+use Rattle.table.specs.Find.{none, rowOf}
+use Rattle.table.specs.Fault.{markOf, chainFault, endFault}
+use Rattle.table.specs.Read.{blank, empty, plus, refusal, accepted, unless, byMark, start, records, readTable}
+use Rattle.table.specs.Good.{GoodTable}
+use Rattle.table.specs.declared.Row.{Row}
+use Rattle.table.specs.declared.Table.{Table}
+use Rattle.table.specs.declared.Mark.{Mark}
+use Rattle.table.specs.declared.Mark.the-variants.{Chain, Task, End, Other}
+use Rattle.table.specs.declared.Verdict.the-variants.{Refused}
+use Rattle.table.specs.declared.Reading.{Reading}
+
+-- t has the first rows of all, and blank ones after them
+pub record Decoded (all t : Table) : Type 0 where
+  pub few : t .count ≤ all .count
+  pub size : length (t .row) ≡ maxChains
+  pub total : t .tasks ≡ sumOf (λ r. r .tasks) (take (t .count) (all .row))
+  pub small : t .tasks ≤ maxTasks * t .count
+  pub row : (k : ℕ) → k < t .count → rowOf t k ≡ rowOf all k
+  pub rest : (k : ℕ) → t .count ≤ k → k < maxChains → rowOf t k ≡ blank
+
+module _ {all : Table} (good : GoodTable all) where
+  pub decoded-none : Decoded all empty
+  unfolding sumOf
+  decoded-none = record {
+    few = omega arith;
+    size = length-replicate maxChains blank;
+    total = refl;
+    small = omega arith;
+    row = λ k h. absurd (omega (arith, h));
+    rest = λ k h l. getD-replicate maxChains k blank none l;
+  }
+
+  module _ {t : Table} (d : Decoded all t) where
+    -- one row more
+    pub decoded-on : t .count < all .count → (r : Row) → r ≡ rowOf all (t .count) → Decoded all (plus t r)
+    unfolding sumOf
+    decoded-on h r e =
+        let few : r .tasks ≤ maxTasks = omega (arith, ap (λ (x : Row). x .tasks) e, good .row (t .count) h .tasks .few) in
+        let sums : sumOf (λ r. r .tasks) (take (t .count + 1) (all .row)) ≡ sumOf (λ r. r .tasks) (take (t .count) (all .row)) + rowOf all (t .count) .tasks =
+        rw (add-one, take-suc (all .row) (t .count) none (omega (arith, good .few, good .size)), sum-append (λ (x : Row). x .tasks)) (omega arith) in
+        record {
+          few = omega arith;
+          size = length-set (t .row) (t .count) r ∙ d .size;
+          total = omega (arith, d .total, sums, ap (λ (x : Row). x .tasks) e);
+          small = omega (arith, d .small, few);
+          row = below-more (λ k. rowOf (plus t r) k ≡ rowOf all k) (t .count)
+              (λ k l. getD-set-other (t .row) (t .count) k r none (λ q. omega (arith, l, q)) ∙ d .row k l)
+              (getD-set-same (t .row) (t .count) r none (omega (arith, d .size, good .few)) ∙ e);
+          rest = λ k l m. getD-set-other (t .row) (t .count) k r none (λ q. omega (arith, l, q)) ∙ d .rest k (omega (arith, l)) m;
+        }
+
+    -- all of them
+    pub decoded-all : t .count ≡ all .count → t ≡ all
+    decoded-all e =
+        let rows : t .row ≡ all .row = ext-getD none (t .row) (all .row) (d .size ∙ sym (good .size))
+        (λ k h. ⊎-elim (λ l. d .row k l) (λ l. d .rest k l (omega (arith, h, d .size)) ∙ sym (good .past k (omega (arith, l)) (omega (arith, h, d .size)))) (lt-or-le k (t .count))) in
+        let tasks : t .tasks ≡ all .tasks = d .total ∙ ap (λ n. sumOf (λ r. r .tasks) (take n (all .row))) e ∙ sym (good .tasks) in
+        ap (λ n. record { count = n; tasks = t .tasks; row = t .row }) e ∙ ap₂ (λ n l. record { count = all .count; tasks = n; row = l }) tasks rows
+
+-- what a reading can be: the empty table with a refusal, or a table that is accepted
+module _ (P : Reading → Type 0) (faulty : (n : ℕ) → P (refusal n)) (right : (t : Table) → P (accepted t)) where
+  unless-is : (n : ℕ) (r : Reading) → P r → P (unless n r)
+  unfolding unless
+  unless-is zero r p = p
+  unless-is (suc n) r p = faulty (suc n)
+
+  mark-is : (m : Mark) (chain end : Reading) → P chain → P end → P (byMark m chain end)
+  mark-is Chain chain end p q = p
+  mark-is Task chain end p q = faulty 3
+  mark-is End chain end p q = q
+  mark-is Other chain end p q = faulty 3
+
+  start-is : (s : List ℕ) (at : ℕ) (t : Table) (chain : Reading) → P chain → P (start s at t chain)
+  unfolding start
+  start-is s at t chain p =
+      when-cases P (ltb (length s) (at + 2)) (λ e. faulty 2)
+      (λ e. mark-is (markOf (word 2 s at)) chain (unless (endFault s at t) (accepted t)) p (unless-is (endFault s at t) (accepted t) (right t)))
+
+  records-is : (left : ℕ) (s : List ℕ) (at : ℕ) (t : Table) → P (records left s at t)
+  unfolding records
+  records-is zero s at t = start-is s at t (refusal 11) (faulty 11)
+  records-is (suc left) s at t =
+      start-is s at t _ (unless-is (chainFault s at t) _ (records-is left s (at + lengthAt s at) (plus t (rowAt s at))))
+
+  pub reading-is : (s : List ℕ) → P (readTable s)
+  unfolding readTable
+  reading-is s = when-cases P (eqb (length s) 0 || ltb maxBytes (length s)) (λ e. faulty 1) (λ e. records-is maxChains s 0 empty)
+
+pub refused-reading : (s : List ℕ) (n : ℕ) → readTable s .verdict ≡ Refused n → readTable s ≡ refusal n
+refused-reading s n =
+    reading-is (λ r. r .verdict ≡ Refused n → r ≡ refusal n) (λ m e. let same : m ≡ n = cc in ap refusal same)
+    (λ t e. absurd (let z : _≡_ {A = ℕ} 0 1 = cc in omega arith)) s

@@ -1,0 +1,51 @@
+-- A chain of an accepted table stands at its place; what its record holds there. Assumes nothing.
+use Prim.Native.Nat.{ℕ, _+_, _*_, _<_}
+use native.Mathlib.Omega.{arith}
+use mathlib.Core.Path.{_≡_, refl, ap, sym, subst, _∙_}
+use mathlib.Core.List.{List}
+use lib.ListN.{getD}
+use Rattle.table.specs.Limits.{maxDistances, maxTasks}
+use Rattle.table.specs.Bytes.{word}
+use Rattle.table.specs.Record.{listedAt, tasksAt, firstTask, lengthAt, priorityAt, costAt, distancesAt, prioritiesAt, costsAt, rowAt}
+use Rattle.table.specs.Find.{rowOf}
+use Rattle.table.specs.Place.{size, placeOf}
+use Rattle.table.specs.Good.{GoodRow}
+use Rattle.table.specs.Taken.{tableOf, Taken, Stands}
+use Rattle.table.proofs.Lists.{every-at}
+use Rattle.table.proofs.Goods.{pad-at}
+use Rattle.table.proofs.Standing.{place-on}
+
+-- the numbers listed, by their offsets
+module _ (s : List ℕ) (at : ℕ) where
+  pub list-at : (j : ℕ) → j < listedAt s at → getD (rowAt s at .list) j 0 ≡ word 4 s (at + 16 + 4 * j)
+  unfolding rowAt
+  list-at j h = pad-at maxDistances (distancesAt s at) j ∙ every-at (word 4 s) 4 (listedAt s at) j (at + 16) h
+
+  pub priority-at : (k : ℕ) → k < tasksAt s at → getD (rowAt s at .priority) k 0 ≡ priorityAt s (firstTask s at + 8 * k)
+  unfolding rowAt
+  priority-at k h = pad-at maxTasks (prioritiesAt s at) k ∙ every-at (priorityAt s) 8 (tasksAt s at) k (firstTask s at) h
+
+  pub cost-at : (k : ℕ) → k < tasksAt s at → getD (rowAt s at .cost) k 0 ≡ costAt s (firstTask s at + 8 * k)
+  unfolding rowAt
+  cost-at k h = pad-at maxTasks (costsAt s at) k ∙ every-at (costAt s) 8 (tasksAt s at) k (firstTask s at) h
+
+  -- a record is as long as its row's counts say
+  pub length-at : lengthAt s at ≡ size (rowAt s at)
+  unfolding rowAt
+  length-at = refl
+
+-- the chain k of an accepted table, at its place
+module _ {s : List ℕ} (t : Taken s) {k at : ℕ} (e : at ≡ placeOf (tableOf s) k) (h : k < tableOf s .count) where
+  pub row-there : rowAt s at ≡ rowOf (tableOf s) k
+  row-there = ap (rowAt s) e ∙ t .holds .makes k h
+
+  pub stands : Stands s at
+  stands =
+      record {
+        there = omega (arith, t .holds .inside k h, length-at s at, ap size row-there);
+        good = subst GoodRow (sym row-there) (t .good .row k h);
+      }
+
+  -- the next one starts where its record ends
+  pub place-next : at + lengthAt s at ≡ placeOf (tableOf s) (k + 1)
+  place-next = omega (arith, place-on (tableOf s) k (omega (arith, t .good .few, t .good .size)), length-at s at, ap size row-there)

@@ -1,0 +1,123 @@
+// A table decoded: all its chains as rows.
+use crate::Reading;
+use crate::Row;
+use crate::Table;
+use crate::Verdict;
+use crate::bytes::u16_at;
+use crate::bytes::u32_at;
+use crate::places::count;
+use crate::reader::judge;
+use crate::record::deadline_at;
+use crate::record::first_task;
+use crate::record::gap_at;
+use crate::record::id_at;
+use crate::record::kind_at;
+use crate::record::listed_at;
+use crate::record::overload_at;
+use crate::record::record_length;
+use crate::record::tasks_at;
+ghost use mathlib.Core.Path.{_≡_};
+ghost use Prim.Native.Nat.{_+_, _*_, _≤_};
+ghost use lib.ListN.{length};
+ghost use Rattle.table.specs.Limits.{maxDistances, maxTasks};
+ghost use Rattle.table.specs.Bytes.{word};
+ghost use Rattle.table.specs.Record.{every, pad, priorityAt, costAt, rowAt};
+ghost use Rattle.table.specs.Read.{readTable};
+ghost use Rattle.table.specs.Taken.{tableOf, Taken, Stands};
+
+// The n distances from `from` on, and 0 past them.
+fn list_of(s: &[u8], from: usize, n: usize) -> [u32; Table::DISTANCES]
+    requires { ⌜ (n ≤ maxDistances) × (from + 4 * n ≤ length (now s)) ⌝ }
+    ensures { λ r. ⌜ r ≡ pad maxDistances (every (word 4 (now (s .entry))) 4 n from) ⌝ }
+{
+    let mut list = [0u32; Table::DISTANCES];
+    let mut k: usize = 0;
+    while k < n {
+        list[k] = u32_at(s, from + 4 * k);
+        k += 1;
+    }
+    list
+}
+
+// What n task records hold, and 0 past them.
+struct Tasks {
+    priority: [u16; Table::TASKS],
+    cost: [u32; Table::TASKS],
+}
+
+// The n tasks from `from` on.
+fn tasks_of(s: &[u8], from: usize, n: usize) -> Tasks
+    requires { ⌜ (n ≤ maxTasks) × (from + 8 * n ≤ length (now s)) ⌝ }
+    ensures { λ r. ⌜ (r .priority ≡ pad maxTasks (every (priorityAt (now (s .entry))) 8 n from)) × (r .cost ≡ pad maxTasks (every (costAt (now (s .entry))) 8 n from)) ⌝ }
+{
+    let mut priority = [0u16; Table::TASKS];
+    let mut cost = [0u32; Table::TASKS];
+    let mut k: usize = 0;
+    while k < n {
+        priority[k] = u16_at(s, from + 8 * k + 2);
+        cost[k] = u32_at(s, from + 8 * k + 4);
+        k += 1;
+    }
+    Tasks { priority, cost }
+}
+
+// The row of the chain record that stands at `at`.
+fn row_of(s: &[u8], at: usize) -> Row
+    requires { ⌜ Stands (now s) at ⌝ }
+    ensures { λ r. ⌜ r ≡ rowAt (now (s .entry)) at ⌝ }
+{
+    let listed = listed_at(s, at);
+    let tasks = tasks_at(s, at);
+    let list = list_of(s, at + 16, listed);
+    let held = tasks_of(s, first_task(s, at), tasks);
+    let priority = held.priority;
+    let cost = held.cost;
+    Row {
+        id: id_at(s, at),
+        kind: kind_at(s, at),
+        overload: overload_at(s, at),
+        deadline: deadline_at(s, at),
+        gap: gap_at(s, at),
+        listed,
+        tasks,
+        list,
+        priority,
+        cost,
+    }
+}
+
+// All rows of an accepted table.
+fn rows(s: &[u8]) -> Table
+    requires { ⌜ Taken (now s) ⌝ }
+    ensures { λ r. ⌜ r ≡ tableOf (now (s .entry)) ⌝ }
+{
+    let chains = count(s);
+    let mut t = Table::empty();
+    let mut at: usize = 0;
+    while t.count < chains {
+        let k = t.count;
+        let row = row_of(s, at);
+        at = at + record_length(s, at);
+        t.tasks = t.tasks + row.tasks;
+        t.row[k] = row;
+        t.count = k + 1;
+    }
+    t
+}
+
+// Reads a stored table. No byte past the slice is looked at.
+pub fn read(s: &[u8]) -> Reading
+    ensures { λ r. ⌜ r ≡ readTable (now (s .entry)) ⌝ }
+{
+    let verdict = judge(s);
+    match verdict {
+        Verdict::Accepted => Reading {
+            verdict,
+            table: rows(s),
+        },
+        Verdict::Refused(_) => Reading {
+            verdict,
+            table: Table::empty(),
+        },
+    }
+}
