@@ -7,7 +7,7 @@ use native.Mathlib.Omega.{arith}
 use lib.Dec.{lit≤}
 use lib.ListN.{length, take}
 use Rattle.search.proofs.Choice.{when-cases}
-use Rattle.table.specs.Read.{readTable}
+use Rattle.table.specs.Read.{byVerdict, readTable}
 use Rattle.table.specs.Read as read
 use Rattle.table.specs.declared.Row.{Row}
 use Rattle.table.specs.declared.Reading.{Reading}
@@ -15,6 +15,7 @@ use Rattle.table.specs.declared.Verdict.{Verdict}
 use Rattle.table.specs.declared.Verdict.the-variants.{Accepted, Refused as Faulty}
 use Rattle.segments.specs.Query as segment
 use Rattle.segments.specs.declared.Answer.{Answer as Segment}
+use Rattle.segments.specs.declared.Answer.the-variants.{Refused as NoSegment}
 use Rattle.segments.specs.View.{View}
 use Rattle.arrivals.specs.Arrivals.{distances}
 use Rattle.windows.specs.Demand.{demandOf}
@@ -69,7 +70,7 @@ pub latency-one : (s : List ℕ) (id : ℕ) → OneLatency (latency.latencyOf s 
 unfolding latency.latencyOf latency.chainOf
 latency-one s id = by (readTable s .verdict) refl
   where
-    by : (v : Verdict) → readTable s .verdict ≡ v → OneLatency (latency.byVerdict v (latency.chainOf (readTable s .table) id))
+    by : (v : Verdict) → readTable s .verdict ≡ v → OneLatency (byVerdict NoLatency v (latency.chainOf (readTable s .table) id))
     by Accepted e = when-cases OneLatency _ (λ f. refuses LatencyRefusal 4 12 (lit≤ tt) (inl (lit≤ tt, lit≤ tt))) (λ f. bound-one _ _)
     by (Faulty f) e = faulty LatencyRefusal 4 (λ f h. inl (h .0, omega (arith, h .1))) s f e
 
@@ -112,7 +113,7 @@ pub misses-one : (s : List ℕ) (id k : ℕ) → OneMisses (misses.missesOf s id
 unfolding misses.missesOf misses.chainOf misses.missesAt
 misses-one s id k = by (readTable s .verdict) refl
   where
-    by : (v : Verdict) → readTable s .verdict ≡ v → OneMisses (misses.byVerdict v (misses.chainOf (readTable s .table) id k))
+    by : (v : Verdict) → readTable s .verdict ≡ v → OneMisses (byVerdict NoMisses v (misses.chainOf (readTable s .table) id k))
     by Accepted e = when-cases OneMisses _ (λ f. refuses MissesRefusal 1 12 (lit≤ tt) (lit≤ tt, lit≤ tt)) (λ f. in-one _ _ _ k)
     by (Faulty f) e = faulty MissesRefusal 1 (λ f h. (h .0, omega (arith, h .1))) s f e
 
@@ -124,7 +125,7 @@ pub segment-one : (s : List ℕ) (chain against number : ℕ) → OneSegment (se
 unfolding segment.segmentOf segment.answerOf segment.nthOf
 segment-one s chain against number = by (readTable s .verdict) refl
   where
-    by : (v : Verdict) → readTable s .verdict ≡ v → OneSegment (segment.judged v (segment.answerOf (readTable s .table) chain against number))
+    by : (v : Verdict) → readTable s .verdict ≡ v → OneSegment (byVerdict NoSegment v (segment.answerOf (readTable s .table) chain against number))
     by Accepted e =
         when-cases OneSegment _ (λ f. refuses SegmentRefusal 2 12 (lit≤ tt) (inl (lit≤ tt, lit≤ tt))) (λ f.
         when-cases OneSegment _ (λ f. refuses SegmentRefusal 2 25 (lit≤ tt) (inr (lit≤ tt, lit≤ tt))) (λ f.

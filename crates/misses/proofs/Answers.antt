@@ -10,7 +10,7 @@ use Rattle.search.proofs.Choice.{when-yes, when-no}
 use Rattle.table.specs.Limits.{maxRun, maxOverloads, maxCapacity}
 use Rattle.table.specs.Fault.{outside}
 use Rattle.table.specs.Find.{rowOf, findOf}
-use Rattle.table.specs.Read.{readTable}
+use Rattle.table.specs.Read.{byVerdict, readTable}
 use Rattle.table.specs.declared.Row.{Row}
 use Rattle.table.specs.declared.Table.{Table}
 use Rattle.table.specs.declared.Verdict.the-variants.{Accepted, Refused as Faulty}
@@ -20,7 +20,7 @@ use Rattle.windows.specs.Latency.{boundOf}
 use Rattle.packing.specs.Most.{mostUses}
 use Rattle.misses.specs.Tests.{some}
 use Rattle.misses.specs.Overloads.{Overload, overloads, piecesOf}
-use Rattle.misses.specs.Misses.{earlyOf, unless, badOf, roomOf, byFigures, byBound, missesIn, missesAt, chainOf, byVerdict, missesOf}
+use Rattle.misses.specs.Misses.{earlyOf, unless, badOf, roomOf, byFigures, byBound, missesIn, missesAt, chainOf, missesOf}
 use Rattle.misses.specs.declared.Answer.{Answer}
 use Rattle.misses.specs.declared.Answer.the-variants.{Misses, Refused}
 use Rattle.misses.proofs.Starts.{starts}
@@ -111,8 +111,8 @@ module _ (t : Table) (id k : ℕ) where
 module _ (s : List ℕ) (id k : ℕ) where
   pub misses-refused : (n : ℕ) → readTable s .verdict ≡ Faulty n → missesOf s id k ≡ Refused n
   unfolding missesOf
-  misses-refused n e = ap (λ v. byVerdict v (chainOf (readTable s .table) id k)) e
+  misses-refused n e = ap (λ v. byVerdict Refused v (chainOf (readTable s .table) id k)) e
 
   pub misses-accepted : readTable s .verdict ≡ Accepted → missesOf s id k ≡ chainOf (readTable s .table) id k
   unfolding missesOf
-  misses-accepted e = ap (λ v. byVerdict v (chainOf (readTable s .table) id k)) e
+  misses-accepted e = ap (λ v. byVerdict Refused v (chainOf (readTable s .table) id k)) e

@@ -8,11 +8,10 @@ use Rattle.search.specs.Choice.{_when_else_}
 use Rattle.table.specs.Limits.{maxRun, maxOverloads, maxCapacity}
 use Rattle.table.specs.Fault.{outside}
 use Rattle.table.specs.Find.{rowOf, findOf}
-use Rattle.table.specs.Read.{readTable}
+use Rattle.table.specs.Read.{byVerdict, readTable}
+use Rattle.table.specs.Taken.{tableOf}
 use Rattle.table.specs.declared.Row.{Row}
 use Rattle.table.specs.declared.Table.{Table}
-use Rattle.table.specs.declared.Verdict.{Verdict}
-use Rattle.table.specs.declared.Verdict.the-variants.{Accepted, Refused as Faulty}
 use Rattle.arrivals.specs.Arrivals.{distances, η, largest}
 use Rattle.segments.specs.View.{View}
 use Rattle.windows.specs.Demand.{demandOf, typical, others, othersOf}
@@ -26,7 +25,7 @@ use Rattle.misses.specs.Bad.{over, bad}
 use Rattle.misses.specs.declared.Answer.{Answer}
 use Rattle.misses.specs.declared.Answer.the-variants.{Misses, Refused}
 
--- this paper's number for each answer, 0 or the refusal, and its value: how many deadlines are missed
+-- document 01's number for each answer, 0 or the refusal, and its value: how many deadlines are missed
 abbrev pub numberOf : Answer → ℕ
 numberOf (Misses n) = 0
 numberOf (Refused n) = n
@@ -87,11 +86,6 @@ missesAt t at k = missesIn (rowOf t at) (othersOf t at) (overloads (rowOf t at) 
 unfoldable pub chainOf : Table → ℕ → ℕ → Answer
 chainOf t id k = Refused 12 when eqb (findOf t id) (t .count) else missesAt t (findOf t id) k
 
--- the table's own refusals come first
-abbrev pub byVerdict : Verdict → Answer → Answer
-byVerdict Accepted answer = answer
-byVerdict (Faulty n) answer = Refused n
-
--- what the miss query answers for a run of k activations of the chain with the id, of a stored table
+-- what the miss query answers for a run of k activations of the chain with the id, of a stored table: its own refusals come first
 unfoldable pub missesOf : List ℕ → ℕ → ℕ → Answer
-missesOf s id k = byVerdict (readTable s .verdict) (chainOf (readTable s .table) id k)
+missesOf s id k = byVerdict Refused (readTable s .verdict) (chainOf (tableOf s) id k)

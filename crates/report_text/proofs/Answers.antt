@@ -9,7 +9,7 @@ use lib.Seq.{take-suc, take-at}
 use Rattle.table.specs.Bytes.{Bytes}
 use Rattle.table.specs.Find.{none, rowOf, rows, findOf}
 use Rattle.table.specs.Good.{GoodTable}
-use Rattle.table.specs.Read.{readTable}
+use Rattle.table.specs.Read.{byVerdict, readTable}
 use Rattle.table.specs.declared.Table.{Table}
 use Rattle.table.specs.declared.Verdict.the-variants.{Accepted, Refused as Faulty}
 use Rattle.table.proofs.Accepted.{taken}
@@ -21,8 +21,7 @@ use Rattle.windows.proofs.Answers.{chain-found as latency-found}
 use Rattle.misses.specs.Misses.{missesAt, missesOf}
 use Rattle.misses.proofs.Answers.{misses-accepted}
 use Rattle.misses.proofs.Answers.{chain-found as misses-found}
-use Rattle.report_text.specs.Numbers.{decimal}
-use Rattle.report_text.specs.Report.{header, refusedWord, feed, missRun, lineText, lineOf, byVerdict, reportOf, longest, Reported}
+use Rattle.report_text.specs.Report.{header, missRun, lineText, lineOf, refusedText, reportOf, longest, Reported}
 use Rattle.report_text.specs.Writing.{Wrote, lineIn, linesIn}
 use Rattle.report_text.proofs.Writes.{wrote-none}
 
@@ -74,12 +73,12 @@ module _ (s : List ℕ) (bytes : Bytes s) (yes : readTable s .verdict ≡ Accept
   -- the report of an accepted table
   pub report-accepted : reportOf s ≡ header ++ linesIn t (t .count)
   unfolding reportOf
-  report-accepted = ap (λ v. byVerdict v (header ++ flatMap (lineOf s) (rows t))) yes ∙ ap (λ l. header ++ l) (lines-are (t .count) (omega arith))
+  report-accepted = ap (λ v. byVerdict refusedText v (header ++ flatMap (lineOf s) (rows t))) yes ∙ ap (λ l. header ++ l) (lines-are (t .count) (omega arith))
 
 -- the report of a refused one
-pub report-refused : (s : List ℕ) (n : ℕ) → readTable s .verdict ≡ Faulty n → reportOf s ≡ refusedWord ++ decimal n ++ feed
+pub report-refused : (s : List ℕ) (n : ℕ) → readTable s .verdict ≡ Faulty n → reportOf s ≡ refusedText n
 unfolding reportOf
-report-refused s n e = ap (λ v. byVerdict v (header ++ flatMap (lineOf s) (rows (readTable s .table)))) e
+report-refused s n e = ap (λ v. byVerdict refusedText v (header ++ flatMap (lineOf s) (rows (readTable s .table)))) e
 
 -- the report stands first in the buffer
 pub wrote-report : (s : List ℕ) {text before after : List ℕ} {r : ℕ} → reportOf s ≡ text → length before ≡ longest → Wrote before 0 text after r

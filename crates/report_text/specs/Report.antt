@@ -5,10 +5,9 @@ use mathlib.Core.List.{List, [], _∷_, _++_, flatMap}
 use lib.ListN.{length, drop}
 use Rattle.table.specs.Find.{rows}
 use Rattle.table.specs.Limits.{maxChains}
-use Rattle.table.specs.Read.{readTable}
+use Rattle.table.specs.Read.{byVerdict, readTable}
+use Rattle.table.specs.Taken.{tableOf}
 use Rattle.table.specs.declared.Row.{Row}
-use Rattle.table.specs.declared.Verdict.{Verdict}
-use Rattle.table.specs.declared.Verdict.the-variants.{Accepted, Refused as Faulty}
 use Rattle.windows.specs.Latency.{latencyOf}
 use Rattle.windows.specs.declared.Answer.{Answer as Latency}
 use Rattle.windows.specs.declared.Answer.the-variants.{Figures, Refused as Unbounded}
@@ -60,13 +59,12 @@ abbrev pub lineOf : List ℕ → Row → List ℕ
 lineOf s r = lineText (r .id) (latencyOf s (r .id)) (missesOf s (r .id) missRun)
 
 -- a refused table prints only one line, `refused` and the number, without the header
-abbrev pub byVerdict : Verdict → List ℕ → List ℕ
-byVerdict Accepted text = text
-byVerdict (Faulty n) text = refusedWord ++ decimal n ++ feed
+abbrev pub refusedText : ℕ → List ℕ
+refusedText n = refusedWord ++ decimal n ++ feed
 
 -- the whole text: header, then a line per chain in table order
 unfoldable pub reportOf : List ℕ → List ℕ
-reportOf s = byVerdict (readTable s .verdict) (header ++ flatMap (lineOf s) (rows (readTable s .table)))
+reportOf s = byVerdict refusedText (readTable s .verdict) (header ++ flatMap (lineOf s) (rows (tableOf s)))
 
 -- more bytes no report has: 35 in the header, and 68 in a line of six numbers of 32 bits, one with a sign and one after `r`
 abbrev pub longest : ℕ

@@ -14,8 +14,7 @@ ghost use mathlib.Core.List.{_++_};
 ghost use Prim.Native.Nat.{_≤_};
 ghost use lib.ListN.{length};
 ghost use Rattle.table.specs.Taken.{tableOf, Taken};
-ghost use Rattle.report_text.specs.Numbers.{decimal};
-ghost use Rattle.report_text.specs.Report.{header, refusedWord, feed, longest, Reported};
+ghost use Rattle.report_text.specs.Report.{header, refusedText, longest, Reported};
 ghost use Rattle.report_text.specs.Writing.{Wrote, linesIn};
 
 // The longest line, and the longest report: the header and a line for each chain.
@@ -26,7 +25,7 @@ pub const LONGEST: usize = 35 + Table::CHAINS * LINE;
 // The only line of a refused table.
 fn put_refused(out: &mut [u8], n: u32) -> usize
     requires { ⌜ longest ≤ length (now out) ⌝ }
-    ensures { λ r. ⌜ Wrote (now (out .entry)) 0 (refusedWord ++ decimal n ++ feed) (now (out .exit)) r ⌝ }
+    ensures { λ r. ⌜ Wrote (now (out .entry)) 0 (refusedText n) (now (out .exit)) r ⌝ }
 {
     let word = put_text(out, 0, b"refused ");
     let number = put_decimal(out, word, n);

@@ -19,7 +19,7 @@ use Rattle.table.specs.declared.Mark.the-variants.{Chain, Task, End, Other}
 use Rattle.saving.specs.declared.Saved.{Saved}
 use Rattle.saving.specs.declared.Saved.the-variants.{Used, Refused}
 
--- this page's number for each answer, 0 where the save is accepted
+-- document 01's number for each answer, 0 where the save is accepted
 abbrev pub numberOf : Saved → ℕ
 numberOf (Used n) = 0
 numberOf (Refused n) = n

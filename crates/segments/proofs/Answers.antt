@@ -14,7 +14,7 @@ use Rattle.table.specs.Bytes.{word, Bytes}
 use Rattle.table.specs.Record.{priorityAt, costAt, firstTask, every, pad, rowAt}
 use Rattle.table.specs.Find.{rowOf, findOf, used}
 use Rattle.table.specs.Place.{placeOf, Holds}
-use Rattle.table.specs.Read.{readTable}
+use Rattle.table.specs.Read.{byVerdict, readTable}
 use Rattle.table.specs.declared.Row.{Row}
 use Rattle.table.specs.declared.Table.{Table}
 use Rattle.table.specs.declared.Verdict.{Verdict}
@@ -25,7 +25,7 @@ use Rattle.table.proofs.Firsts.{none-or}
 use Rattle.table.proofs.Faultless.{inside}
 use Rattle.table.proofs.Accepted.{taken}
 use Rattle.segments.specs.Actives.{Active, nothing, activesOf}
-use Rattle.segments.specs.Query.{firstTaskOf, nthOf, answerOf, judged, segmentOf, partOf}
+use Rattle.segments.specs.Query.{firstTaskOf, nthOf, answerOf, segmentOf, partOf}
 use Rattle.segments.specs.declared.Answer.the-variants.{Records, Refused}
 use Rattle.segments.proofs.Standing.{Stands, actives-stand, all-at}
 
@@ -117,7 +117,7 @@ module _ (s : List ℕ) (bytes : Bytes s) (chain against number offset len : ℕ
   unfolding segmentOf
   accepted = by (readTable s .verdict) e
     where
-      by : (v : Verdict) → judged v (answerOf (readTable s .table) chain against number) ≡ Records offset len → v ≡ verdict.Accepted
+      by : (v : Verdict) → byVerdict Refused v (answerOf (readTable s .table) chain against number) ≡ Records offset len → v ≡ verdict.Accepted
       by verdict.Accepted q = refl
       by (verdict.Refused n) q = refused n offset len q
 
@@ -125,7 +125,7 @@ module _ (s : List ℕ) (bytes : Bytes s) (chain against number offset len : ℕ
   unfolding segmentOf
   answer-of =
       answered (readTable s .table) chain against number offset len
-      (sym (ap (λ v. judged v (answerOf (readTable s .table) chain against number)) accepted) ∙ e)
+      (sym (ap (λ v. byVerdict Refused v (answerOf (readTable s .table) chain against number)) accepted) ∙ e)
 
   holds : Holds s (readTable s .table)
   holds = taken s bytes accepted .holds

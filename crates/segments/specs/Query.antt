@@ -10,10 +10,9 @@ use Rattle.search.specs.Choice.{_when_else_}
 use Rattle.table.specs.Find.{rowOf, findOf, used}
 use Rattle.table.specs.Fault.{outside}
 use Rattle.table.specs.Place.{placeOf}
-use Rattle.table.specs.Read.{readTable}
+use Rattle.table.specs.Read.{byVerdict, readTable}
+use Rattle.table.specs.Taken.{tableOf}
 use Rattle.table.specs.declared.Table.{Table}
-use Rattle.table.specs.declared.Verdict.{Verdict}
-use Rattle.table.specs.declared.Verdict.the-variants as verdict
 use Rattle.segments.specs.Actives.{Active, nothing, activesOf}
 use Rattle.segments.specs.declared.Answer.{Answer}
 use Rattle.segments.specs.declared.Answer.the-variants.{Records, Refused}
@@ -48,13 +47,9 @@ answerOf t chain against number =
     Refused 25 when eqb chain against else
     nthOf t (findOf t chain) (findOf t against) number
 
--- a table that is refused refuses the query
-abbrev pub judged : Verdict → Answer → Answer
-judged verdict.Accepted answer = answer
-judged (verdict.Refused n) answer = Refused n
-
+-- over a stored table: its own refusals come first
 unfoldable pub segmentOf : List ℕ → ℕ → ℕ → ℕ → Answer
-segmentOf s chain against number = judged (readTable s .verdict) (answerOf (readTable s .table) chain against number)
+segmentOf s chain against number = byVerdict Refused (readTable s .verdict) (answerOf (tableOf s) chain against number)
 
 -- handed back as that part of the caller's own table bytes; a refusal hands back an empty part
 abbrev pub partOf : List ℕ → Answer → List ℕ

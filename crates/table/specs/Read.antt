@@ -28,10 +28,15 @@ empty = record { count = 0; tasks = 0; row = replicate maxChains blank }
 abbrev pub plus : Table → Row → Table
 plus t r = record { count = t .count + 1; tasks = t .tasks + r .tasks; row = set (t .row) (t .count) r }
 
--- this page's number for each verdict: 0 for an accepted table, else the refusal
+-- document 01's number for each verdict: 0 for an accepted table, else the refusal
 abbrev pub numberOf : Verdict → ℕ
 numberOf Accepted = 0
 numberOf (Refused n) = n
+
+-- a refused table refuses every query, each in its own way; an accepted one is asked
+abbrev pub byVerdict : {A : Type 0} → (ℕ → A) → Verdict → A → A
+byVerdict refuse Accepted answer = answer
+byVerdict refuse (Refused n) answer = refuse n
 
 -- a refusal carries the empty table
 abbrev pub refusal : ℕ → Reading

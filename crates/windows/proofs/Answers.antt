@@ -5,13 +5,13 @@ use mathlib.Core.List.{List}
 use borrow.Author.Tests.{eq-eqb, ne-eqb}
 use Rattle.search.proofs.Choice.{when-yes, when-no}
 use Rattle.table.specs.Find.{rowOf, findOf}
-use Rattle.table.specs.Read.{readTable}
+use Rattle.table.specs.Read.{byVerdict, readTable}
 use Rattle.table.specs.declared.Row.{Row}
 use Rattle.table.specs.declared.Table.{Table}
 use Rattle.table.specs.declared.Verdict.the-variants.{Accepted, Refused as Faulty}
 use Rattle.segments.specs.View.{View}
 use Rattle.windows.specs.Demand.{othersOf}
-use Rattle.windows.specs.Latency.{windowsOf, boundOf, chainOf, byVerdict, latencyOf}
+use Rattle.windows.specs.Latency.{windowsOf, boundOf, chainOf, latencyOf}
 use Rattle.windows.specs.Load.{Load, ownOf, demandIn, Loads}
 use Rattle.windows.specs.declared.Answer.the-variants.{Refused}
 
@@ -33,8 +33,8 @@ module _ (t : Table) (id : ℕ) where
 module _ (s : List ℕ) (id : ℕ) where
   pub latency-refused : (n : ℕ) → readTable s .verdict ≡ Faulty n → latencyOf s id ≡ Refused n
   unfolding latencyOf
-  latency-refused n e = ap (λ v. byVerdict v (chainOf (readTable s .table) id)) e
+  latency-refused n e = ap (λ v. byVerdict Refused v (chainOf (readTable s .table) id)) e
 
   pub latency-accepted : readTable s .verdict ≡ Accepted → latencyOf s id ≡ chainOf (readTable s .table) id
   unfolding latencyOf
-  latency-accepted e = ap (λ v. byVerdict v (chainOf (readTable s .table) id)) e
+  latency-accepted e = ap (λ v. byVerdict Refused v (chainOf (readTable s .table) id)) e

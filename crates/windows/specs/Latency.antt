@@ -9,11 +9,10 @@ use Rattle.search.specs.Find.{first}
 use Rattle.search.specs.Lists.{sumOf, mostOf}
 use Rattle.table.specs.Limits.{maxActivations}
 use Rattle.table.specs.Find.{rowOf, findOf}
-use Rattle.table.specs.Read.{readTable}
+use Rattle.table.specs.Read.{byVerdict, readTable}
+use Rattle.table.specs.Taken.{tableOf}
 use Rattle.table.specs.declared.Row.{Row}
 use Rattle.table.specs.declared.Table.{Table}
-use Rattle.table.specs.declared.Verdict.{Verdict}
-use Rattle.table.specs.declared.Verdict.the-variants.{Accepted, Refused as Faulty}
 use Rattle.arrivals.specs.Arrivals.{distances, δ}
 use Rattle.segments.specs.View.{View}
 use Rattle.windows.specs.Demand.{demandOf, othersOf}
@@ -91,14 +90,9 @@ chainOf t id =
     Refused 12 when eqb (findOf t id) (t .count) else
     boundOf (rowOf t (findOf t id)) (othersOf t (findOf t id)) .answer
 
--- the table's own refusals come first
-abbrev pub byVerdict : Verdict → Answer → Answer
-byVerdict Accepted answer = answer
-byVerdict (Faulty n) answer = Refused n
-
--- what the latency query answers for the chain with the id, of a stored table
+-- what the latency query answers for the chain with the id, of a stored table: its own refusals come first
 unfoldable pub latencyOf : List ℕ → ℕ → Answer
-latencyOf s id = byVerdict (readTable s .verdict) (chainOf (readTable s .table) id)
+latencyOf s id = byVerdict Refused (readTable s .verdict) (chainOf (tableOf s) id)
 
 -- document 01's number for each answer, 0 or the refusal, and its values: K, latency, late, margin, or none
 abbrev pub numberOf : Answer → ℕ

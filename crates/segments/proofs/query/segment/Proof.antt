@@ -4,7 +4,9 @@ use mathlib.Core.Path.{ap, sym, _∙_}
 use denote.Ref.{now}
 use Rattle.table.specs.Taken.{tableOf}
 use Rattle.table.proofs.Accepted.{taken}
-use Rattle.segments.specs.Query.{segmentOf, judged, answerOf}
+use Rattle.table.specs.Read.{byVerdict}
+use Rattle.segments.specs.Query.{segmentOf, answerOf}
+use Rattle.segments.specs.declared.Answer.the-variants.{Refused}
 use borrow.Author.Needs.{needs}
 use Rattle.segments.proofs.query.segment.Statement.{statement}
 use Rattle.segments.proofs.query.segment.Tie as tie
@@ -26,13 +28,13 @@ returns : tie.Need-returns
 unfolding segmentOf
 returns c =
     let s = c .before .before .before .before .before in
-    c .ask .ensures ∙ ap (λ v. judged v (answerOf (tableOf (now (s .args .table))) (s .args .chain) (s .args .against) (s .args .number))) (sym (c .before .enum-told .given .1) ∙ c .before .before .before .judge .ensures)
+    c .ask .ensures ∙ ap (λ v. byVerdict Refused v (answerOf (tableOf (now (s .args .table))) (s .args .chain) (s .args .against) (s .args .number))) (sym (c .before .enum-told .given .1) ∙ c .before .before .before .judge .ensures)
 
 returns-2 : tie.Need-returns-2
 unfolding segmentOf
 returns-2 c =
     let s = c .before .before .before .before .before in
-    ap (λ v. judged v (answerOf (tableOf (now (s .args .table))) (s .args .chain) (s .args .against) (s .args .number))) (sym (c .before .n .given .1) ∙ c .before .before .before .judge .ensures)
+    ap (λ v. byVerdict Refused v (answerOf (tableOf (now (s .args .table))) (s .args .chain) (s .args .against) (s .args .number))) (sym (c .before .n .given .1) ∙ c .before .before .before .judge .ensures)
 
 pub segment-spec : {M : Type 1} → statement M
 segment-spec =
