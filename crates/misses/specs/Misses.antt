@@ -86,6 +86,6 @@ missesAt t at k = missesIn (rowOf t at) (othersOf t at) (overloads (rowOf t at) 
 unfoldable pub chainOf : Table → ℕ → ℕ → Answer
 chainOf t id k = Refused 12 when eqb (findOf t id) (t .count) else missesAt t (findOf t id) k
 
--- what the miss query answers for a run of k activations of the chain with the id, of a stored table: its own refusals come first
+-- what the miss query answers for a run of k activations of the chain with the id, of a stored table, whose own refusals come first
 unfoldable pub missesOf : List ℕ → ℕ → ℕ → Answer
 missesOf s id k = byVerdict Refused (readTable s .verdict) (chainOf (tableOf s) id k)

@@ -47,7 +47,7 @@ answerOf t chain against number =
     Refused 25 when eqb chain against else
     nthOf t (findOf t chain) (findOf t against) number
 
--- over a stored table: its own refusals come first
+-- over a stored table, whose own refusals come first
 unfoldable pub segmentOf : List ℕ → ℕ → ℕ → ℕ → Answer
 segmentOf s chain against number = byVerdict Refused (readTable s .verdict) (answerOf (tableOf s) chain against number)
 

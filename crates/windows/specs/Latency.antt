@@ -90,7 +90,7 @@ chainOf t id =
     Refused 12 when eqb (findOf t id) (t .count) else
     boundOf (rowOf t (findOf t id)) (othersOf t (findOf t id)) .answer
 
--- what the latency query answers for the chain with the id, of a stored table: its own refusals come first
+-- what the latency query answers for the chain with the id, of a stored table, whose own refusals come first
 unfoldable pub latencyOf : List ℕ → ℕ → Answer
 latencyOf s id = byVerdict Refused (readTable s .verdict) (chainOf (tableOf s) id)
 
