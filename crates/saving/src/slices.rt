@@ -1,9 +1,22 @@
 // Byte slices: compared, copied and cleared.
+use table::u32_at;
 ghost use mathlib.Core.Path.{_≡_};
-ghost use Prim.Native.Nat.{_+_, _≤_};
-ghost use lib.ListN.{length, replicate};
+ghost use Prim.Native.Nat.{ℕ, _+_, _≤_, _<_};
+ghost use lib.ListN.{length, getD, replicate};
 ghost use Rattle.saving.specs.Save.{same as sameOf, splice, written};
 ghost use Rattle.saving.specs.Begins.{Begins};
+
+// How far the two agree for certain, four bytes at a time.
+fn agree(a: &[u8], b: &[u8]) -> usize
+    requires { ⌜ length (now a) ≡ length (now b) ⌝ }
+    ensures { λ r. ⌜ (r ≤ length (now (a .entry))) × ((k : ℕ) → k < r → getD (now (a .entry)) k 0 ≡ getD (now (b .entry)) k 0) ⌝ }
+{
+    let mut i: usize = 0;
+    while 4 <= a.len() - i && u32_at(a, i) == u32_at(b, i) {
+        i += 4;
+    }
+    i
+}
 
 // Whether the two are the same in every byte.
 pub fn same(a: &[u8], b: &[u8]) -> bool
@@ -12,7 +25,7 @@ pub fn same(a: &[u8], b: &[u8]) -> bool
     if a.len() != b.len() {
         return false;
     }
-    let mut i: usize = 0;
+    let mut i = agree(a, b);
     while i < a.len() {
         if a[i] != b[i] {
             return false;

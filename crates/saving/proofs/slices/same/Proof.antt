@@ -18,11 +18,14 @@ abbrev μ-loop : tie.MeasureT-loop
 μ-loop a b i₀ i = length a - i
 
 returns : tie.Need-returns Inv-loop μ-loop
-returns c = let a = c .before .args in
+returns c = let a = c .before .before .before .args in
     sym (same-no (now (a .a)) (now (a .b)) (λ e. c .if1 .taken (ap length e)))
 
+agree-requires : tie.Need-agree-requires Inv-loop μ-loop
+agree-requires c κs = c .if1 .left
+
 loop-holds : tie.Need-loop-holds Inv-loop μ-loop
-loop-holds c = (omega arith, λ k h. absurd (omega (arith, h)))
+loop-holds c = c .agree .ensures
 
 shared-slice-read-if2 : tie.Need-shared-slice-read-if2 Inv-loop μ-loop
 shared-slice-read-if2 c = omega arith
@@ -31,7 +34,7 @@ shared-slice-read-if2-2 : tie.Need-shared-slice-read-if2-2 Inv-loop μ-loop
 shared-slice-read-if2-2 c = omega arith
 
 returns-2 : tie.Need-returns-2 Inv-loop μ-loop
-returns-2 c = let a = c .before .before .before .before .before .before .args in
+returns-2 c = let a = c .before .before .before .before .before .before .before .before .before .args in
     sym (same-no (now (a .a)) (now (a .b)) (λ e. c .if2 .taken (ap (λ (l : List ℕ). getD l (c .before .before .before .before .loop .i) 0) e)))
 
 add-i : tie.Need-add-i Inv-loop μ-loop
@@ -44,9 +47,9 @@ loop-again : tie.Need-loop-again Inv-loop μ-loop
 loop-again c = (omega arith, below-more _ _ (c .before .before .before .before .loop .inv .1) (c .if2 .left))
 
 returns-3 : tie.Need-returns-3 Inv-loop μ-loop
-returns-3 c = let a = c .before .before .before .args in
+returns-3 c = let a = c .before .before .before .before .before .before .args in
     let l = c .before .loop in
-    sym (same-yes (now (a .a)) (now (a .b)) (ext-getD 0 (now (a .a)) (now (a .b)) (c .before .before .if1 .left) (λ k h. l .inv .1 k (omega (arith, h, c .loop-test .left)))))
+    sym (same-yes (now (a .a)) (now (a .b)) (ext-getD 0 (now (a .a)) (now (a .b)) (c .before .before .before .if1 .left) (λ k h. l .inv .1 k (omega (arith, h, c .loop-test .left)))))
 
 pub same-spec : {M : Type 1} → statement M
 same-spec =
@@ -55,6 +58,7 @@ same-spec =
     Inv-loop
     μ-loop
     returns
+    agree-requires
     loop-holds
     shared-slice-read-if2
     shared-slice-read-if2-2
