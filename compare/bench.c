@@ -186,12 +186,13 @@ static void measure_all(const char *name, unsigned entry, struct stored *first, 
     measure(&what);
 }
 
-static void measure_reports(const char *name, struct stored *first, unsigned count)
+/* Several tables, once each: a save or a report. */
+static void measure_tables(const char *name, unsigned entry, struct stored *first, unsigned count)
 {
     static struct bench_case what;
     what = (struct bench_case){.name = name, .calls = count};
     for (unsigned t = 0; t < count; t++)
-        what.call[t] = (struct call){.entry = REPORT, .table = &first[t]};
+        what.call[t] = (struct call){.entry = entry, .table = &first[t]};
     measure(&what);
 }
 
@@ -210,13 +211,18 @@ static void usual_cases(struct source *source)
     struct stored *random = &tables[tables_used];
     for (unsigned i = 0; i < 16; i++)
         keep(light_table(source, 16));
+    struct stored *small = &tables[tables_used];
+    for (unsigned i = 0; i < 8; i++)
+        keep(light_table(source, 1));
     measure_all("latency, random tables of 16 chains", LATENCY, random, 16, 0);
     measure_all("misses, random tables of 16 chains, k 10", MISSES, random, 16, 10);
     measure_one("two saves, sample", SAVE, sample, 0, 0, 0);
     measure_one("two saves, full table", SAVE, full, 0, 0, 0);
+    measure_tables("two saves, random tables of 1 chain", SAVE, small, 8);
+    measure_tables("two saves, random tables of 16 chains", SAVE, random, 16);
     measure_one("report, sample", REPORT, sample, 0, 0, 0);
     measure_one("report, case study", REPORT, study, 0, 0, 0);
-    measure_reports("report, random tables of 16 chains", random, 16);
+    measure_tables("report, random tables of 16 chains", REPORT, random, 16);
 }
 
 /* ---- Slow cases ---- */
