@@ -33,7 +33,7 @@ use Rattle.misses.specs.declared.Answer.the-variants.{Refused as NoMisses}
 use Rattle.saving.specs.Save as save
 use Rattle.saving.proofs.Verdicts.{read-accepted}
 use Rattle.editor.specs.Entry.{latencyFigures}
-use Rattle.demands.specs.Entries.{Between, LatencyRefusal, MissesRefusal, SegmentRefusal, SaveRefusal, OneAnswer}
+use Rattle.demands.specs.Entries.{Between, TableRefusal, LatencyRefusal, MissesRefusal, SegmentRefusal, SaveRefusal, OneAnswer}
 use Rattle.demands.proofs.Numbers.{table-number, save-number}
 
 module _ (Refusal : ℕ → Type 0) (n : ℕ) where
@@ -51,6 +51,10 @@ module _ (Refusal : ℕ → Type 0) (n : ℕ) where
       let z : _≡_ {A = ℕ} 0 1 = cc in
       absurd (omega arith)
   faulty low s (suc f) e = refuses (suc f) (omega arith) (low (suc f) (omega arith, omega (arith, table-number s, ap read.numberOf e)))
+
+-- a table
+pub verdict-one : (s : List ℕ) → OneAnswer TableRefusal 0 (read.numberOf (readTable s .verdict)) []
+verdict-one s = record { answered = λ z. refl; refused = λ h. ((omega (arith, h), table-number s), refl) }
 
 -- latency
 abbrev OneLatency : Latency → Type 0

@@ -1,7 +1,7 @@
 -- Demand 1, entry by entry: the library's reader, queries, save and report, and the C entries. Assumes nothing.
 use Prim.Native.Nat.{ℕ, zero, suc, _*_}
 use mathlib.Core.Path.{_≡_, refl, ap, ap₂, sym, subst, _∙_}
-use mathlib.Core.List.{List}
+use mathlib.Core.List.{List, []}
 use mathlib.Core.Logic.{inl, inr, ⊎-elim}
 use lib.Dec.{ltb}
 use lib.ListN.{length}
@@ -9,7 +9,7 @@ use borrow.Author.Tests.{lt-ltb, le-ltb, ne-eqb}
 use denote.Ref.{RefT, ptr, now}
 use Rattle.search.specs.Choice.{_when_else_}
 use Rattle.search.proofs.Choice.{when-yes, when-no, when-cases, lt-or-le}
-use Rattle.table.specs.Read.{readTable}
+use Rattle.table.specs.Read.{numberOf, readTable}
 use Rattle.table.specs.declared.Reading.{Reading}
 use Rattle.segments.specs.Query as segment
 use Rattle.segments.specs.declared.Answer.{Answer as Segment}
@@ -19,14 +19,17 @@ use Rattle.saving.specs.Save as save
 use Rattle.saving.proofs.After.{saved-number}
 use Rattle.editor.specs.Entry.{returned, leftBy, latencyFigures, Answered, Stored}
 use Rattle.report_text.specs.Report.{Reported}
-use Rattle.demands.specs.Entries.{LatencyRefusal, MissesRefusal, SegmentRefusal, SaveRefusal, AtEntry, OneAnswer, Query, Call}
-use Rattle.demands.proofs.Answers.{latency-one, misses-one, segment-one, save-one}
+use Rattle.demands.specs.Entries.{TableRefusal, LatencyRefusal, MissesRefusal, SegmentRefusal, SaveRefusal, AtEntry, OneAnswer, Query, Call}
+use Rattle.demands.proofs.Answers.{verdict-one, latency-one, misses-one, segment-one, save-one}
 
 -- a statement that names the answer
 query : {A : Type 0} (right : A) (Refusal : ℕ → Type 0) (n : ℕ) (number : A → ℕ) (figures : A → List ℕ) → OneAnswer Refusal n (number right) (figures right) → Query (λ a. a ≡ right) Refusal n number figures
 query right Refusal n number figures one = record { some = (right, refl); one = λ e f. e ∙ sym f; answer = λ e. rw e one }
 
--- reading a table: one reading for any bytes
+-- judging a table, and reading it: one reading for any bytes
+pub judging : (s : List ℕ) → Query (λ v. v ≡ readTable s .verdict) TableRefusal 0 numberOf (λ v. [])
+judging s = query (readTable s .verdict) TableRefusal 0 numberOf (λ v. []) (verdict-one s)
+
 pub reading : (s : List ℕ) {r q : Reading} → r ≡ readTable s → q ≡ readTable s → r ≡ q
 reading s e f = e ∙ sym f
 

@@ -10,7 +10,10 @@ use lib.ListN.{length}
 abbrev pub Between : ℕ → ℕ → ℕ → Type 0
 Between low high n = (low ≤ n) × (n ≤ high)
 
--- the numbers that each query, and a save, can be refused with; a C entry also with 27
+-- the numbers that a table, each query, and a save can be refused with; a C entry also with 27
+abbrev pub TableRefusal : ℕ → Type 0
+TableRefusal n = Between 1 11 n
+
 abbrev pub LatencyRefusal : ℕ → Type 0
 LatencyRefusal n = Between 1 12 n ⊎ Between 16 17 n
 
