@@ -1,12 +1,18 @@
 -- How the code holds tasks and active segments.
+use Prim.Native.Nat.{ℕ, _-_}
 use mathlib.Core.List.{List, map}
 use lib.ListN.{length}
 use Rattle.table.specs.Limits.{maxTasks}
 use Rattle.table.specs.Record.{pad}
-use Rattle.segments.specs.Tasks.{Task, costOf}
+use Rattle.table.specs.declared.Row.{Row}
+use Rattle.segments.specs.Tasks.{Task, tasksFrom, costOf}
 use Rattle.segments.specs.Actives.{Active}
 use Rattle.segments.specs.declared.tasks.Stretch.{Stretch}
 use Rattle.segments.specs.declared.Actives.{Actives}
+
+-- the tasks of a chain after its first k
+abbrev pub tasksAfter : Row → ℕ → List Task
+tasksAfter r k = tasksFrom (r .priority) (r .cost) (r .tasks - k) k
 
 -- some tasks in a row: how many there are, and what they cost
 abbrev pub stretchOf : List Task → Stretch

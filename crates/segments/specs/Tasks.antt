@@ -22,10 +22,6 @@ tasksFrom ps cs (suc n) k = record { place = k; priority = getD ps k 0; cost = g
 abbrev pub tasksOf : Row → List Task
 tasksOf r = tasksFrom (r .priority) (r .cost) (r .tasks) 0
 
--- the tasks of a chain after its first k
-abbrev pub tasksAfter : Row → ℕ → List Task
-tasksAfter r k = tasksFrom (r .priority) (r .cost) (r .tasks - k) k
-
 -- what tasks cost together, and what a chain costs
 abbrev pub costOf : List Task → ℕ
 costOf ts = sumOf (λ t. t .cost) ts
