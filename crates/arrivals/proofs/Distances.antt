@@ -8,7 +8,8 @@ use native.Mathlib.Nat.{mul-le-mul-left, le-mul-of-pos-right, le-of-eq, le-trans
 use lib.ListN.{length, getD}
 use Rattle.search.proofs.Choice.{lt-or-le}
 use Rattle.table.specs.Limits.{maxDistance}
-use Rattle.arrivals.specs.Arrivals.{GoodDistances, asListed, δ}
+use Rattle.arrivals.specs.Arrivals.{asListed, δ}
+use Rattle.arrivals.specs.code.Bounds.{GoodDistances}
 use Rattle.arrivals.proofs.Turns.{listed-rises, listed-near, last-above, δ-turns, δ-first, δ-step}
 
 module _ {ds : List ℕ} (good : GoodDistances ds) where

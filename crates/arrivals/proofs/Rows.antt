@@ -9,11 +9,12 @@ use lib.ListN.{length, getD, List·getD-eq-default}
 use lib.Seq.{length-take-le, getD-take}
 use Rattle.search.proofs.Choice.{lt-or-le}
 use Rattle.table.specs.Limits.{maxGap}
-use Rattle.table.specs.Good.{GoodRow}
+use Rattle.table.specs.code.Good.{GoodRow}
 use Rattle.table.specs.declared.Row.{Row}
-use Rattle.table.specs.Record.{listedAt, rowAt}
-use Rattle.table.specs.Taken.{Stands}
-use Rattle.arrivals.specs.Arrivals.{distances, GoodDistances, largest}
+use Rattle.table.specs.Record.{listedAt, rowAt, distances}
+use Rattle.table.specs.code.Taken.{Stands}
+use Rattle.arrivals.specs.Arrivals.{largest}
+use Rattle.arrivals.specs.code.Bounds.{GoodDistances}
 
 module _ {r : Row} (good : GoodRow r) where
   -- the last listed distance is above 0, so the list reaches it

@@ -3,9 +3,10 @@ use table::distance_at;
 use table::listed_at;
 ghost use mathlib.Core.Path.{_≡_};
 ghost use Prim.Native.Nat.{_≤_, min};
-ghost use Rattle.table.specs.Record.{listedAt, rowAt};
-ghost use Rattle.table.specs.Taken.{Stands};
-ghost use Rattle.arrivals.specs.Arrivals.{distances, asListed, δ, η, longest, farthest};
+ghost use Rattle.table.specs.Record.{listedAt, rowAt, distances};
+ghost use Rattle.table.specs.code.Taken.{Stands};
+ghost use Rattle.arrivals.specs.Arrivals.{asListed, δ, η};
+ghost use Rattle.arrivals.specs.code.Bounds.{longestSpan, farthest};
 
 // The distance of 1 + j activations as listed.
 fn as_listed(s: &[u8], at: usize, j: usize) -> u64
@@ -34,7 +35,7 @@ pub fn delta(s: &[u8], at: usize, n: u64) -> u64
 
 // The smaller of η(t) and `most`. It counts activation by activation and goes no further than `most`.
 pub fn eta_up_to(s: &[u8], at: usize, t: u64, most: u64) -> u64
-    requires { ⌜ Stands (now s) at × (t ≤ longest) ⌝ }
+    requires { ⌜ Stands (now s) at × (t ≤ longestSpan) ⌝ }
     ensures { λ r. ⌜ r ≡ min (η (distances (rowAt (now (s .entry)) at)) t) most ⌝ }
 {
     let listed = listed_at(s, at);
@@ -57,7 +58,7 @@ pub fn eta_up_to(s: &[u8], at: usize, t: u64, most: u64) -> u64
 
 // η(t) where it is known to be no less than `from`: counted on from there.
 pub fn eta_from(s: &[u8], at: usize, t: u64, from: u64) -> u64
-    requires { ⌜ Stands (now s) at × (t ≤ longest) × (from ≤ η (distances (rowAt (now s) at)) t) ⌝ }
+    requires { ⌜ Stands (now s) at × (t ≤ longestSpan) × (from ≤ η (distances (rowAt (now s) at)) t) ⌝ }
     ensures { λ r. ⌜ r ≡ η (distances (rowAt (now (s .entry)) at)) t ⌝ }
 {
     let most = listed_at(s, at) as u64 * t;

@@ -7,7 +7,7 @@ use native.Mathlib.Omega.{arith}
 use lib.Dec.{lit≤}
 use lib.ListN.{length, take}
 use Rattle.search.proofs.Choice.{when-cases}
-use Rattle.table.specs.Read.{byVerdict, readTable}
+use Rattle.table.specs.Read.{byVerdict, unless, readTable}
 use Rattle.table.specs.Read as read
 use Rattle.table.specs.declared.Row.{Row}
 use Rattle.table.specs.declared.Reading.{Reading}
@@ -17,7 +17,7 @@ use Rattle.segments.specs.Query as segment
 use Rattle.segments.specs.declared.Answer.{Answer as Segment}
 use Rattle.segments.specs.declared.Answer.the-variants.{Refused as NoSegment}
 use Rattle.segments.specs.View.{View}
-use Rattle.arrivals.specs.Arrivals.{distances}
+use Rattle.table.specs.Record.{distances}
 use Rattle.windows.specs.Demand.{demandOf}
 use Rattle.windows.specs.Window.{windowOf}
 use Rattle.windows.specs.Latency as latency
@@ -71,10 +71,10 @@ bound-one b views =
     by demand ds deadline k Nothing = refuses LatencyRefusal 4 16 (lit≤ tt) (inr (lit≤ tt, lit≤ tt))
 
 pub latency-one : (s : List ℕ) (id : ℕ) → OneLatency (latency.latencyOf s id)
-unfolding latency.latencyOf latency.chainOf
+unfolding latency.latencyOf latency.latencyIn
 latency-one s id = by (readTable s .verdict) refl
   where
-    by : (v : Verdict) → readTable s .verdict ≡ v → OneLatency (byVerdict NoLatency v (latency.chainOf (readTable s .table) id))
+    by : (v : Verdict) → readTable s .verdict ≡ v → OneLatency (byVerdict NoLatency v (latency.latencyIn (readTable s .table) id))
     by Accepted e = when-cases OneLatency _ (λ f. refuses LatencyRefusal 4 12 (lit≤ tt) (inl (lit≤ tt, lit≤ tt))) (λ f. bound-one _ _)
     by (Faulty f) e = faulty LatencyRefusal 4 (λ f h. inl (h .0, omega (arith, h .1))) s f e
 
@@ -98,11 +98,11 @@ early-low b k = when-cases Low _ (λ e. lit≤ tt) (λ e. when-cases Low _ (λ e
     Low : ℕ → Type 0
     Low f = f ≤ 21
 
-in-one : (b : Row) (views : List View) (os : List Overload) (k : ℕ) → OneMisses (misses.missesIn b views os k)
-unfolding misses.missesIn
+in-one : (b : Row) (views : List View) (os : List Overload) (k : ℕ) → OneMisses (misses.missesBeside b views os k)
+unfolding misses.missesBeside unless
 in-one b views os k = by (misses.earlyOf b k) (early-low b k) (latency.boundOf b views .answer) (latency.boundOf b views .last) (bound-one b views)
   where
-    by : (f : ℕ) → f ≤ 21 → (a : Latency) (last : ℕ) → OneLatency a → OneMisses (misses.unless f (misses.byBound b views os k a last))
+    by : (f : ℕ) → f ≤ 21 → (a : Latency) (last : ℕ) → OneLatency a → OneMisses (unless NoMisses f (misses.byBound b views os k a last))
     by zero l (Figures close latency late margin) last o = figures-one b views os k close latency late last
     by zero l (NoLatency n) last o = some n o
       where
@@ -114,10 +114,10 @@ in-one b views os k = by (misses.earlyOf b k) (early-low b k) (latency.boundOf b
     by (suc f) l a last o = refuses MissesRefusal 1 (suc f) (omega arith) (omega arith, l)
 
 pub misses-one : (s : List ℕ) (id k : ℕ) → OneMisses (misses.missesOf s id k)
-unfolding misses.missesOf misses.chainOf misses.missesAt
+unfolding misses.missesOf misses.missesIn misses.missesAt
 misses-one s id k = by (readTable s .verdict) refl
   where
-    by : (v : Verdict) → readTable s .verdict ≡ v → OneMisses (byVerdict NoMisses v (misses.chainOf (readTable s .table) id k))
+    by : (v : Verdict) → readTable s .verdict ≡ v → OneMisses (byVerdict NoMisses v (misses.missesIn (readTable s .table) id k))
     by Accepted e = when-cases OneMisses _ (λ f. refuses MissesRefusal 1 12 (lit≤ tt) (lit≤ tt, lit≤ tt)) (λ f. in-one _ _ _ k)
     by (Faulty f) e = faulty MissesRefusal 1 (λ f h. (h .0, omega (arith, h .1))) s f e
 

@@ -13,21 +13,20 @@ use borrow.Author.Tests.{ne-eqb, eqb-true}
 use Rattle.search.proofs.Find.{first-le, first-hit, first-miss}
 use Rattle.search.proofs.Keeping.{keep, keep-none, keep-one, keep-rest}
 use Rattle.table.specs.Find.{none, rowOf, rows, findOf}
-use Rattle.table.specs.Good.{GoodTable}
-use Rattle.table.specs.Read.{accepted, readTable, numberOf}
+use Rattle.table.specs.code.Good.{GoodTable}
+use Rattle.table.specs.Read.{accepted, readTable, numberOf, tableOf}
 use Rattle.table.specs.declared.Row.{Row}
 use Rattle.table.specs.declared.Table.{Table}
 use Rattle.table.proofs.Accepted.{taken}
 use Rattle.segments.specs.View.{viewOf}
-use Rattle.windows.specs.Demand.{othersOf}
+use Rattle.windows.specs.Demand.{viewsOf}
 use Rattle.windows.specs.Latency.{boundOf, latencyOf}
 use Rattle.windows.specs.declared.Answer.the-variants.{Refused}
 use Rattle.windows.proofs.Answers as latency
 use Rattle.misses.specs.Overloads.{overloads}
-use Rattle.misses.specs.Misses.{missesIn, missesAt, missesOf}
+use Rattle.misses.specs.Misses.{missesBeside, missesAt, missesOf}
 use Rattle.misses.specs.declared.Answer.the-variants.{Refused as Unanswered}
 use Rattle.misses.proofs.Answers as misses
-use Rattle.table.specs.Taken.{tableOf}
 use Rattle.saving.proofs.Verdicts.{read-accepted}
 use Rattle.saving.proofs.Splits.{rowIn}
 use Rattle.saving.proofs.Records.{record-row}
@@ -51,12 +50,12 @@ module _ {s : List ℕ} {id : ℕ} (h : Has s id) where
   found e = omega (arith, e, h .there)
 
   pub latency-is : latencyOf s id ≡ boundOf (chainOf s id) (map (λ a. viewOf a (chainOf s id)) (stored.othersOf s id)) .answer
-  unfolding othersOf
+  unfolding viewsOf
   latency-is = latency.latency-accepted s id (h .table .accepted) ∙ latency.chain-found (tableOf s) id found
 
   pub misses-are : (k : ℕ) → missesOf s id k
-      ≡ missesIn (chainOf s id) (map (λ a. viewOf a (chainOf s id)) (stored.othersOf s id)) (overloads (chainOf s id) (stored.othersOf s id)) k
-  unfolding othersOf missesAt
+      ≡ missesBeside (chainOf s id) (map (λ a. viewOf a (chainOf s id)) (stored.othersOf s id)) (overloads (chainOf s id) (stored.othersOf s id)) k
+  unfolding viewsOf missesAt
   misses-are k = misses.misses-accepted s id k (h .table .accepted) ∙ misses.chain-found (tableOf s) id k found
 
 -- no chain has the id: 12

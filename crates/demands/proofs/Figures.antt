@@ -13,12 +13,14 @@ use Rattle.search.specs.Find.{first, Greatest}
 use Rattle.search.specs.Lists.{sumOf}
 use Rattle.search.proofs.Choice.{lt-or-le}
 use Rattle.search.proofs.Find.{first-ge, first-hit, first-miss, greatest-unique}
-use Rattle.table.specs.Good.{GoodRow}
+use Rattle.table.specs.code.Good.{GoodRow}
 use Rattle.table.specs.declared.Row.{Row}
 use Rattle.table.specs.Limits.{maxActivations}
-use Rattle.arrivals.specs.Arrivals.{GoodDistances, distances, δ}
+use Rattle.arrivals.specs.Arrivals.{δ}
+use Rattle.arrivals.specs.code.Bounds.{GoodDistances}
+use Rattle.table.specs.Record.{distances}
 use Rattle.arrivals.proofs.Rows.{good-distances}
-use Rattle.windows.specs.Demand.{othersOf}
+use Rattle.windows.specs.Demand.{viewsOf}
 use Rattle.windows.specs.Window.{Solution, windowOf}
 use Rattle.windows.specs.Latency.{long, ends, latencyAt, upTo, latencyTo, overOf, lateTo, marginOf, endsWith, windowsOf, boundOf, latencyOf}
 use Rattle.windows.specs.declared.Window.{Window}
@@ -32,7 +34,7 @@ use Rattle.windows.proofs.Besides.{others-paced}
 use Rattle.windows.proofs.Walks.{Open, windows-end, windows-open}
 use Rattle.windows.proofs.Latencies.{latency-greatest}
 use Rattle.windows.proofs.Closing as closing
-use Rattle.table.specs.Taken.{tableOf}
+use Rattle.table.specs.Read.{tableOf}
 use Rattle.demands.specs.Stored.{Has, at, chainOf}
 use Rattle.demands.specs.Stored as stored
 use Rattle.demands.specs.Figures.{count, OpenTo, NoWindow, NoClose, Closes, Means}
@@ -231,7 +233,7 @@ module _ {s : List ℕ} {id : ℕ} (h : Has s id) where
   good = table-good (h .table) .row (at s id) (h .there)
 
   growing : Growing demandFor
-  unfolding othersOf
+  unfolding viewsOf
   growing = demand-growing b _ good (others-paced (tableOf s) (table-good (h .table)) (at s id))
 
   -- demand 2: the answer of the latency query for a chain of an accepted table

@@ -9,15 +9,16 @@ use native.Mathlib.Decide.{ℕ-discrete}
 use lib.Dec.{ltb}
 use lib.ListN.{length, getD}
 use borrow.Author.Tests.{lt-ltb, le-ltb, ltb-false}
-use Rattle.search.specs.Lists.{All}
+use Rattle.search.specs.Lists.{All, some}
 use Rattle.search.proofs.Choice.{true-not-false, lt-or-le}
 use Rattle.search.proofs.Lists.{all-map}
 use Rattle.table.specs.Limits.{maxRun, maxOverloads, maxCapacity}
 use Rattle.table.specs.Fault.{outside}
-use Rattle.table.specs.Good.{GoodRow}
+use Rattle.table.specs.code.Good.{GoodRow}
 use Rattle.table.specs.declared.Row.{Row}
 use Rattle.table.proofs.Firsts.{none-or, or-left, or-right}
-use Rattle.arrivals.specs.Arrivals.{distances, η}
+use Rattle.arrivals.specs.Arrivals.{η}
+use Rattle.table.specs.Record.{distances}
 use Rattle.arrivals.proofs.Rows.{good-distances}
 use Rattle.segments.specs.View.{View}
 use Rattle.windows.specs.Demand as demand
@@ -29,14 +30,13 @@ use Rattle.windows.proofs.Besides.{others-good, others-paced}
 use Rattle.packing.proofs.Most.{most-greatest, most-is}
 use Rattle.packing.proofs.Laws.{most-same}
 use Rattle.packing.specs.Most.{mostUses}
-use Rattle.misses.specs.Tests.{some}
 use Rattle.misses.specs.Overloads.{Overload}
-use Rattle.misses.specs.Misses.{earlyOf, unless, badOf, roomOf, byFigures, byBound, missesIn, missesOf}
+use Rattle.misses.specs.Misses.{earlyOf, badOf, roomOf, byFigures, byBound, missesBeside, missesOf}
 use Rattle.misses.specs.declared.Answer.{Answer}
 use Rattle.misses.specs.declared.Answer.the-variants.{Misses, Refused}
 use Rattle.misses.proofs.Starts.{starts}
 use Rattle.misses.proofs.Answers as answers
-use Rattle.table.specs.Taken.{tableOf}
+use Rattle.table.specs.Read.{tableOf, unless}
 use Rattle.demands.specs.Stored.{Has, at, chainOf, othersOf}
 use Rattle.demands.specs.Figures.{Exactly}
 use Rattle.demands.specs.Misses.{views, marked, pieces, full, IsBad, MayAsk, Figured, lastOf, Few, Once, Fine, Capped, Most, Says, Right}
@@ -91,7 +91,7 @@ module _ (b : Row) (l : List Row) (good : GoodRow b) (rows : All GoodRow l) (pac
   os = marked b l
 
   abbrev answer : Answer
-  answer = missesIn b vs os k
+  answer = missesBeside b vs os k
 
   -- the full analysis
   abbrev windows : Windows
@@ -105,14 +105,14 @@ module _ (b : Row) (l : List Row) (good : GoodRow b) (rows : All GoodRow l) (pac
   asked-early a = answers.early-none b k (inside (a .low) (a .high)) (a .typical) (λ e. omega (arith, e, a .gap))
 
   early-refused : (n : ℕ) → earlyOf b k ≡ suc n → answer ≡ Refused (suc n)
-  unfolding missesIn
-  early-refused n e = ap (λ x. unless x (byBound b vs os k (boundOf b vs .answer) (boundOf b vs .last))) e
+  unfolding missesBeside unless
+  early-refused n e = ap (λ x. unless Refused x (byBound b vs os k (boundOf b vs .answer) (boundOf b vs .last))) e
 
   -- the windows refuse, or their figures decide
   by-windows : MayAsk b l k → (w : Windows) → windows ≡ w → answer ≡ byBound b vs os k (w .answer) (w .last)
-  unfolding missesIn boundOf
+  unfolding missesBeside boundOf unless
   by-windows a w e =
-      ap (λ x. unless x (byBound b vs os k (windows .answer) (windows .last))) (asked-early a)
+      ap (λ x. unless Refused x (byBound b vs os k (windows .answer) (windows .last))) (asked-early a)
       ∙ ap (λ (x : Windows). byBound b vs os k (x .answer) (x .last)) e
 
   refused-by : MayAsk b l k → (n : ℕ) → windows .answer ≡ Unbounded n → answer ≡ Refused n
@@ -225,7 +225,7 @@ module _ (b : Row) (l : List Row) (good : GoodRow b) (rows : All GoodRow l) (pac
 
 -- demand 2: the answer of the miss query for a chain of an accepted table
 pub misses-mean : {s : List ℕ} {id : ℕ} → Has s id → (k : ℕ) (a : Answer) → Exactly (missesOf s id k ≡ a) (Says (chainOf s id) (othersOf s id) k a)
-unfolding demand.othersOf
+unfolding demand.viewsOf
 misses-mean {s} {id} h k a =
     let t = table-good (h .table) in
     let b = t .row (at s id) (h .there) in

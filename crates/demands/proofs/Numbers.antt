@@ -62,7 +62,7 @@ end-low s at t = when-cases Low _ (λ e. lit≤ tt) (λ e. when-cases Low _ (λ 
 abbrev Numbered : Reading → Type 0
 Numbered r = numberOf (r .verdict) ≤ 11
 
-unless-low : (f : ℕ) (r : Reading) → Low f → Numbered r → Numbered (unless f r)
+unless-low : (f : ℕ) (r : Reading) → Low f → Numbered r → Numbered (unless refusal f r)
 unfolding unless
 unless-low zero r l h = h
 unless-low (suc f) r l h = l
@@ -71,7 +71,7 @@ start-low : (s : List ℕ) (at : ℕ) (t : Table) (chain : Reading) → Numbered
 unfolding start
 start-low s at t chain h = when-cases Numbered _ (λ e. lit≤ tt) (λ e. by (markOf (word 2 s at)))
   where
-    by : (m : Mark) → Numbered (byMark m chain (unless (endFault s at t) (accepted t)))
+    by : (m : Mark) → Numbered (byMark m chain (unless refusal (endFault s at t) (accepted t)))
     by Chain = h
     by Task = lit≤ tt
     by End = unless-low (endFault s at t) (accepted t) (end-low s at t) (lit≤ tt)

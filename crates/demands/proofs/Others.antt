@@ -7,12 +7,12 @@ use mathlib.Core.Logic.{⊎-elim}
 use native.Mathlib.Omega.{arith}
 use lib.ListN.{length, take}
 use borrow.Author.Tests.{eqb-true}
-use Rattle.search.specs.Lists.{sumOf, Paired}
+use Rattle.search.specs.Lists.{sumOf, Paired, some}
 use Rattle.search.proofs.Keeping.{keep}
 use Rattle.search.proofs.Pairing.{paired-keep, paired-weaker, paired-cons, paired-map, paired-order, paired-length, paired-single}
 use Rattle.table.specs.Find.{rows}
 use Rattle.table.specs.declared.Row.{Row}
-use Rattle.segments.specs.Tasks.{Task, tasksOf, costOf, floorOf, tailOf, below, some, before}
+use Rattle.segments.specs.Tasks.{Task, tasksOf, costOf, floorOf, tailOf, below, before}
 use Rattle.segments.specs.Segments.{cutSegments}
 use Rattle.segments.specs.View.{viewOf, Alike}
 use Rattle.segments.proofs.Lists.{sum-map, sum-flatten}
@@ -20,9 +20,9 @@ use Rattle.windows.specs.Latency.{boundOf}
 use Rattle.windows.specs.declared.Windows.{Windows}
 use Rattle.windows.proofs.Views.{alike-bound}
 use Rattle.misses.specs.Overloads.{overloads}
-use Rattle.misses.specs.Misses.{missesIn}
+use Rattle.misses.specs.Misses.{missesBeside}
 use Rattle.misses.proofs.Views.{alike-misses}
-use Rattle.table.specs.Taken.{tableOf}
+use Rattle.table.specs.Read.{tableOf}
 use Rattle.saving.proofs.Splits.{rowIn}
 use Rattle.demands.specs.Stored.{IsTable, Has, at, chainOf, othersOf}
 use Rattle.demands.specs.Misses.{Right}
@@ -60,7 +60,7 @@ module _ {s r : List ℕ} {id : ℕ} (one : Has s id) (two : Has r id) (row : ch
         ∙ sym (latency-is two);
     misses = λ k.
         misses-are one k ∙ alike-misses b alike k
-        ∙ ap (λ x. missesIn x (map (λ a. viewOf a x) (othersOf r id)) (overloads x (othersOf r id)) k) row
+        ∙ ap (λ x. missesBeside x (map (λ a. viewOf a x) (othersOf r id)) (overloads x (othersOf r id)) k) row
         ∙ sym (misses-are two k);
   }
 

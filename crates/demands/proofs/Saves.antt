@@ -16,7 +16,7 @@ use Rattle.table.specs.Record.{idAt, listedAt, tasksAt, priorityAt, costAt, dis
 use Rattle.table.specs.Find.{none, rows}
 use Rattle.table.specs.declared.Reading.{Reading}
 use Rattle.saving.specs.Save.{numberOf, seenOf}
-use Rattle.table.specs.Taken.{tableOf}
+use Rattle.table.specs.Read.{tableOf}
 use Rattle.saving.specs.Later.{State, stored, Edit, answer, after}
 use Rattle.saving.proofs.Alike.{Alike, every-alike, word-alike}
 use Rattle.saving.proofs.Verdicts.{read-accepted}

@@ -8,11 +8,12 @@ use native.Mathlib.Decide.{ℕ-discrete}
 use lib.Dec.{ltb}
 use lib.ListN.{length}
 use borrow.Author.Tests.{ltb-true, lt-ltb, eq-eqb, ne-eqb, eqb-true}
-use Rattle.search.specs.Lists.{All}
+use Rattle.search.specs.Lists.{All, some, every}
 use Rattle.search.proofs.Choice.{when-yes, when-no, when-cases, true-not-false}
-use Rattle.table.specs.Good.{GoodRow}
+use Rattle.table.specs.code.Good.{GoodRow}
 use Rattle.table.specs.declared.Row.{Row}
-use Rattle.arrivals.specs.Arrivals.{distances, δ}
+use Rattle.arrivals.specs.Arrivals.{δ}
+use Rattle.table.specs.Record.{distances}
 use Rattle.segments.specs.View.{View}
 use Rattle.windows.specs.Demand.{typical}
 use Rattle.windows.specs.Window.{windowOf}
@@ -22,9 +23,8 @@ use Rattle.windows.proofs.Growth.{Paced}
 use Rattle.windows.proofs.Least.{window-only, window-at}
 use Rattle.packing.specs.Packing.{bit}
 use Rattle.packing.proofs.Bits.{bit-suc}
-use Rattle.misses.specs.Tests.{some, every}
 use Rattle.misses.specs.Overloads.{Piece}
-use Rattle.misses.specs.Sets.{members, agree, together, allowed, costOf}
+use Rattle.misses.specs.Sets.{members, agree, together, allowed, setCost}
 use Rattle.misses.specs.Bad.{withCost, longer, over, bad}
 use Rattle.misses.specs.Misses.{badOf}
 use Rattle.misses.proofs.Bools.{and-left, and-right}
@@ -135,7 +135,7 @@ typical-paced (v ∷ vs) h = when-cases Paced _ (λ e. (h .0, typical-paced vs (
 module _ (b : Row) (l : List Row) (good : GoodRow b) (rows : All GoodRow l) (paced : Paced (views b l)) {deadline close latency late : ℕ} {margin : _}
     (c : Closes (full b l) (distances b) deadline close latency late margin) where
   abbrev cost : ℕ → ℕ
-  cost m = costOf (members (pieces b l) m)
+  cost m = setCost (members (pieces b l) m)
 
   is-bad : (m : ℕ) → badOf b (views b l) (marked b l) close m ≡ true → IsBad b l close m
   unfolding badOf bad over

@@ -7,11 +7,11 @@ use native.Mathlib.Omega.{arith}
 use lib.Dec.{ltb}
 use borrow.Author.Tests.{le-ltb}
 use Rattle.search.specs.Choice.{_when_else_}
-use Rattle.search.specs.Lists.{sumOf}
+use Rattle.search.specs.Lists.{sumOf, some}
 use Rattle.search.proofs.Choice.{when-no}
 use Rattle.table.specs.declared.Row.{Row}
-use Rattle.segments.specs.Tasks.{Task, tasksOf, costOf, floorOf, tailOf, below, some, before}
-use Rattle.segments.specs.Segments.{_on_, stretches, around, full, cuts, parts, cutSegments}
+use Rattle.segments.specs.Tasks.{Task, tasksOf, costOf, floorOf, tailOf, below, before}
+use Rattle.segments.specs.Segments.{_on_, stretches, around, nonempty, cuts, parts, cutSegments}
 use Rattle.segments.proofs.Lists.{around-map}
 use Rattle.segments.proofs.Order.{costs}
 use Rattle.segments.proofs.Renaming.{full-costs}
@@ -122,11 +122,11 @@ module _ (floor tail : ℕ) where
   split-before (Split.two {x} {y} {z} {xs} {ys} a b t f g c s) = rw (high x a, high y b, high z f) (omega (arith, split-before s))
 
   -- the active-segment costs of the segments go by what the stretches cost
-  segments-costed : (ts : List Task) → costs (cutSegments floor tail ts) ≡ full (around _++_ (costed ts))
+  segments-costed : (ts : List Task) → costs (cutSegments floor tail ts) ≡ nonempty (around _++_ (costed ts))
   unfolding cutSegments parts
   segments-costed ts =
       let ps = parts floor tail ts in
-      full-costs (around _++_ ps) ∙ ap full (around-map _++_ _++_ (map costOf) (map-append costOf) ps ∙ ap (around _++_) (parts-costed ts))
+      full-costs (around _++_ ps) ∙ ap nonempty (around-map _++_ _++_ (map costOf) (map-append costOf) ps ∙ ap (around _++_) (parts-costed ts))
 
 pub split-actives : (b a c : Row) → SplitTasks b a c → SameActives b a c
 split-actives b a c h = record {
@@ -137,6 +137,6 @@ split-actives b a c h = record {
   first = split-before (floorOf b) (tailOf b) (h .tasks);
   costs =
       segments-costed (floorOf b) (tailOf b) (tasksOf a)
-      ∙ ap (λ l. full (around _++_ l)) (split-costed (floorOf b) (tailOf b) (h .tasks))
+      ∙ ap (λ l. nonempty (around _++_ l)) (split-costed (floorOf b) (tailOf b) (h .tasks))
       ∙ sym (segments-costed (floorOf b) (tailOf b) (tasksOf c));
 }

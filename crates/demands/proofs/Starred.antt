@@ -8,15 +8,15 @@ use Rattle.search.specs.Choice.{_when_else_}
 use Rattle.search.specs.Find.{first}
 use Rattle.search.specs.Lists.{sumOf}
 use Rattle.table.specs.Bytes.{word}
-use Rattle.table.specs.Record.{every, rowAt}
+use Rattle.table.specs.Record.{spaced, rowAt}
 use Rattle.table.specs.Find.{rowOf, findOf}
 use Rattle.table.specs.Fault.{_then_, markOf, headFault, falls, gapShort, listFault, taskFault, tasksFault, chainFault, endFault}
-use Rattle.table.specs.Read.{unless, start, records, readTable}
+use Rattle.table.specs.Read.{unless, start, records, readTable, tableOf}
 use Rattle.table.specs.declared.Row.{Row}
 use Rattle.table.specs.declared.Table.{Table}
 use Rattle.arrivals.proofs.Starred as arrivals
 use Rattle.segments.specs.Tasks.{tasksFrom, lowest}
-use Rattle.segments.specs.Segments.{stretches, onward, around, full, segments, segmentsOf, cuts, parts}
+use Rattle.segments.specs.Segments.{stretches, onward, around, nonempty, segments, segmentsOf, cuts, parts}
 use Rattle.segments.specs.Actives.{startOf, numbered, inOrder, actives, activesOf}
 use Rattle.windows.specs.Demand as demand
 use Rattle.windows.specs.Window.{windowOf}
@@ -24,7 +24,6 @@ use Rattle.windows.specs.declared.Window.the-variants.{At}
 use Rattle.windows.proofs.Starred as windows
 use Rattle.misses.specs.Misses.{badOf, roomOf}
 use Rattle.misses.proofs.Starred as misses
-use Rattle.table.specs.Taken.{tableOf}
 use Rattle.demands.specs.Stored.{chainOf, othersOf}
 use Rattle.demands.specs.Misses as words
 use Rattle.demands.specs.Starred.{sample, edge, past, chain1, others1, chain3, task, Starred}
@@ -44,7 +43,7 @@ past-same = refl
 
 -- and the sample's rows are theirs
 table-same : tableOf sample ≡ windows.sampled
-unfolding sample windows.sampled readTable records start unless chainFault headFault listFault falls gapShort tasksFault taskFault endFault _then_ markOf word every rowAt findOf first _when_else_
+unfolding sample windows.sampled readTable records start unless chainFault headFault listFault falls gapShort tasksFault taskFault endFault _then_ markOf word spaced rowAt findOf first _when_else_
 table-same = refl
 
 finds : (findOf windows.sampled 1 ≡ 0) × (findOf windows.sampled 3 ≡ 2)
@@ -65,7 +64,7 @@ of-chain3 : (P : Row → Row → Type 0) → P (rowOf windows.sampled 2) (rowOf 
 of-chain3 P p = rw (row-same 3 2 (finds .1), row-same 1 0 (finds .0)) p
 
 segment : segmentsOf (rowOf windows.sampled 2) (rowOf windows.sampled 0) ≡ (task 2 7 10 ∷ task 0 8 6 ∷ []) ∷ []
-unfolding windows.sampled tasksFrom lowest stretches onward around full segments _when_else_
+unfolding windows.sampled tasksFrom lowest stretches onward around nonempty segments _when_else_
 segment = refl
 
 active : map (λ a. a .cost) (activesOf (rowOf windows.sampled 2) (rowOf windows.sampled 0)) ≡ 6 ∷ 10 ∷ []
@@ -73,7 +72,7 @@ unfolding windows.sampled tasksFrom lowest stretches cuts parts startOf numbered
 active = refl
 
 pub starred : Starred
-unfolding demand.othersOf
+unfolding demand.viewsOf
 starred =
     let m = misses.starred-misses in
     record {

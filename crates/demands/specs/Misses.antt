@@ -9,14 +9,15 @@ use lib.ListN.{length, getD}
 use Rattle.search.specs.Lists.{All}
 use Rattle.table.specs.Limits.{maxRun, maxOverloads, maxCapacity}
 use Rattle.table.specs.declared.Row.{Row}
-use Rattle.arrivals.specs.Arrivals.{distances, δ, η}
+use Rattle.arrivals.specs.Arrivals.{δ, η}
+use Rattle.table.specs.Record.{distances}
 use Rattle.segments.specs.View.{View, viewOf}
 use Rattle.windows.specs.Demand.{demandOf, typical}
 use Rattle.windows.specs.Window.{Solution}
 use Rattle.windows.specs.Latency.{latencyOf}
 use Rattle.packing.specs.Packing.{bit, IsMost}
 use Rattle.misses.specs.Overloads.{Overload, overloads, Piece, piecesOf}
-use Rattle.misses.specs.Sets.{members, costOf}
+use Rattle.misses.specs.Sets.{members, setCost}
 use Rattle.misses.specs.Bad.{withCost}
 use Rattle.misses.specs.Misses.{roomOf, missesOf}
 use Rattle.misses.specs.declared.Answer.{Answer}
@@ -58,7 +59,7 @@ module _ (b : Row) (l : List Row) where
     pub low : 1 ≤ q
     pub high : q ≤ close
     pub t : ℕ
-    pub window : Solution (withCost without (costOf (members pieces m)) q) t
+    pub window : Solution (withCost without (setCost (members pieces m)) q) t
     pub late : δ (distances b) q + b .deadline < t
 
   -- before any window: k in 1 to 1,000, no overload chain, a known gap

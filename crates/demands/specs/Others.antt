@@ -7,12 +7,12 @@ use lib.ListN.{length, getD, take, drop}
 use Rattle.search.specs.Lists.{Paired}
 use Rattle.table.specs.Find.{rows}
 use Rattle.table.specs.declared.Row.{Row}
-use Rattle.arrivals.specs.Arrivals.{distances}
+use Rattle.table.specs.Record.{distances}
 use Rattle.segments.specs.Tasks.{Task, tasksOf, costOf, floorOf, tailOf, below, deferred, firstCost}
 use Rattle.segments.specs.Segments.{cutSegments}
 use Rattle.windows.specs.Latency.{latencyOf}
 use Rattle.misses.specs.Misses.{missesOf}
-use Rattle.table.specs.Taken.{tableOf}
+use Rattle.table.specs.Read.{tableOf}
 use Rattle.demands.specs.Stored.{IsTable, Has, chainOf, bytesOf, othersOf}
 
 -- the segments of a chain a against a chain b, each as its active segments

@@ -4,11 +4,10 @@ use mathlib.Core.Path.{_≡_}
 use mathlib.Core.List.{List}
 use Rattle.table.specs.Bytes.{Bytes}
 use Rattle.table.specs.Find.{rowOf, findOf}
-use Rattle.table.specs.Read.{readTable}
+use Rattle.table.specs.Read.{readTable, tableOf}
 use Rattle.table.specs.declared.Row.{Row}
 use Rattle.table.specs.declared.Verdict.the-variants.{Accepted}
 use Rattle.saving.specs.Save.{recordOf}
-use Rattle.table.specs.Taken.{tableOf}
 use Rattle.windows.specs.Demand.{others}
 
 -- a byte string that is read as an accepted table

@@ -10,17 +10,17 @@ use Rattle.search.proofs.Choice.{when-yes, when-no}
 use Rattle.table.specs.Limits.{maxRun, maxOverloads, maxCapacity}
 use Rattle.table.specs.Fault.{outside}
 use Rattle.table.specs.Find.{rowOf, findOf}
-use Rattle.table.specs.Read.{byVerdict, readTable}
+use Rattle.table.specs.Read.{byVerdict, readTable, unless}
 use Rattle.table.specs.declared.Row.{Row}
 use Rattle.table.specs.declared.Table.{Table}
 use Rattle.table.specs.declared.Verdict.the-variants.{Accepted, Refused as Faulty}
 use Rattle.segments.specs.View.{View}
-use Rattle.windows.specs.Demand.{others, othersOf}
+use Rattle.windows.specs.Demand.{others, viewsOf}
 use Rattle.windows.specs.Latency.{boundOf}
 use Rattle.packing.specs.Most.{mostUses}
-use Rattle.misses.specs.Tests.{some}
+use Rattle.search.specs.Lists.{some}
 use Rattle.misses.specs.Overloads.{Overload, overloads, piecesOf}
-use Rattle.misses.specs.Misses.{earlyOf, unless, badOf, roomOf, byFigures, byBound, missesIn, missesAt, chainOf, missesOf}
+use Rattle.misses.specs.Misses.{earlyOf, badOf, roomOf, byFigures, byBound, missesBeside, missesAt, missesIn, missesOf}
 use Rattle.misses.specs.declared.Answer.{Answer}
 use Rattle.misses.specs.declared.Answer.the-variants.{Misses, Refused}
 use Rattle.misses.proofs.Starts.{starts}
@@ -85,34 +85,35 @@ module _ (b : Row) (k : ℕ) where
       early-none h = when-no _ _ run ∙ when-no _ _ (ap not (eq-eqb (b .overload) 0 typical)) ∙ when-no _ _ (ne-eqb (b .gap) 0 h)
 
 -- a number refuses, 0 does not
-unless-some : (n : ℕ) (rest : Answer) → (n ≡ 0 → ⊥) → unless n rest ≡ Refused n
+unless-some : (n : ℕ) (rest : Answer) → (n ≡ 0 → ⊥) → unless Refused n rest ≡ Refused n
+unfolding unless
 unless-some zero rest h = absurd (h refl)
 unless-some (suc n) rest h = refl
 
 module _ (t : Table) (at k : ℕ) where
   pub at-early : (earlyOf (rowOf t at) k ≡ 0 → ⊥) → missesAt t at k ≡ Refused (earlyOf (rowOf t at) k)
-  unfolding missesAt missesIn
+  unfolding missesAt missesBeside unless
   at-early h = unless-some (earlyOf (rowOf t at) k) _ h
 
   pub at-bound : earlyOf (rowOf t at) k ≡ 0
-      → missesAt t at k ≡ byBound (rowOf t at) (othersOf t at) (overloads (rowOf t at) (others t at)) k (boundOf (rowOf t at) (othersOf t at) .answer) (boundOf (rowOf t at) (othersOf t at) .last)
-  unfolding missesAt missesIn
-  at-bound e = ap (λ n. unless n (byBound (rowOf t at) (othersOf t at) (overloads (rowOf t at) (others t at)) k (boundOf (rowOf t at) (othersOf t at) .answer) (boundOf (rowOf t at) (othersOf t at) .last))) e
+      → missesAt t at k ≡ byBound (rowOf t at) (viewsOf t at) (overloads (rowOf t at) (others t at)) k (boundOf (rowOf t at) (viewsOf t at) .answer) (boundOf (rowOf t at) (viewsOf t at) .last)
+  unfolding missesAt missesBeside unless
+  at-bound e = ap (λ n. unless Refused n (byBound (rowOf t at) (viewsOf t at) (overloads (rowOf t at) (others t at)) k (boundOf (rowOf t at) (viewsOf t at) .answer) (boundOf (rowOf t at) (viewsOf t at) .last))) e
 
 module _ (t : Table) (id k : ℕ) where
-  pub chain-none : findOf t id ≡ t .count → chainOf t id k ≡ Refused 12
-  unfolding chainOf
+  pub chain-none : findOf t id ≡ t .count → missesIn t id k ≡ Refused 12
+  unfolding missesIn
   chain-none e = when-yes _ _ (eq-eqb _ _ e)
 
-  pub chain-found : (findOf t id ≡ t .count → ⊥) → chainOf t id k ≡ missesAt t (findOf t id) k
-  unfolding chainOf
+  pub chain-found : (findOf t id ≡ t .count → ⊥) → missesIn t id k ≡ missesAt t (findOf t id) k
+  unfolding missesIn
   chain-found h = when-no _ _ (ne-eqb _ _ h)
 
 module _ (s : List ℕ) (id k : ℕ) where
   pub misses-refused : (n : ℕ) → readTable s .verdict ≡ Faulty n → missesOf s id k ≡ Refused n
   unfolding missesOf
-  misses-refused n e = ap (λ v. byVerdict Refused v (chainOf (readTable s .table) id k)) e
+  misses-refused n e = ap (λ v. byVerdict Refused v (missesIn (readTable s .table) id k)) e
 
-  pub misses-accepted : readTable s .verdict ≡ Accepted → missesOf s id k ≡ chainOf (readTable s .table) id k
+  pub misses-accepted : readTable s .verdict ≡ Accepted → missesOf s id k ≡ missesIn (readTable s .table) id k
   unfolding missesOf
-  misses-accepted e = ap (λ v. byVerdict Refused v (chainOf (readTable s .table) id k)) e
+  misses-accepted e = ap (λ v. byVerdict Refused v (missesIn (readTable s .table) id k)) e

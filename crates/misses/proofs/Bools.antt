@@ -8,7 +8,7 @@ use native.Mathlib.Numerals.{add-one}
 use lib.ListN.{length, getD, drop}
 use lib.Seq.{drop-cons}
 use Rattle.table.proofs.Firsts.{none-or}
-use Rattle.misses.specs.Tests.{some, every}
+use Rattle.search.specs.Lists.{some, every}
 
 module _ {A : Type 0} (p : A → Bool) where
   pub every-yes : (a : A) (l : List A) → p a ≡ true → every p (a ∷ l) ≡ every p l

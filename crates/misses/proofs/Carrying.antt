@@ -22,7 +22,7 @@ use Rattle.packing.specs.Most.{mostUses}
 use Rattle.packing.proofs.Linear.{usable-some}
 use Rattle.packing.proofs.Laws.{usable-bad, bad-usable, Renumbered, Renumbers, renumbered-same}
 use Rattle.misses.specs.Overloads.{Overload, Piece, piecesOf, capacitiesOf}
-use Rattle.misses.specs.Sets.{members, together, allowed, costOf}
+use Rattle.misses.specs.Sets.{members, together, allowed, setCost}
 use Rattle.misses.specs.Bad.{bad}
 use Rattle.misses.proofs.Bools.{and-left, and-right}
 use Rattle.misses.proofs.Turning.{picked, picked-map, Turned, turned}
@@ -96,7 +96,7 @@ module _ {os ps : List Overload} (r : Paired Same os ps) (t : ℕ) where
   carried : (m : ℕ) → List·Permᴰ (map names (members (piecesOf os) m)) (members (piecesOf ps) (carries .turn m))
   carried m = rw (← renamed-members m, held ps (carries .turn m)) (Permᴰ·map (λ p. p .piece) (carries .order m))
 
-  carried-cost : (m : ℕ) → costOf (members (piecesOf ps) (carries .turn m)) ≡ costOf (members (piecesOf os) m)
+  carried-cost : (m : ℕ) → setCost (members (piecesOf ps) (carries .turn m)) ≡ setCost (members (piecesOf os) m)
   carried-cost m = sym (perm-sum (λ p. p .cost) (carried m)) ∙ sum-map names (λ p. p .cost) (members (piecesOf os) m)
 
   carried-below : (m : ℕ) → allowed (piecesOf os) m ≡ true → carries .turn m < 2 ^ length (piecesOf ps)

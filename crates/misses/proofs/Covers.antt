@@ -12,12 +12,12 @@ use lib.ListN.{length}
 use lib.Pow.{shr-shr}
 use borrow.Author.Tests.{eq-eqb, ne-eqb, eqb-true}
 use Rattle.search.specs.Choice.{_when_else_}
-use Rattle.search.specs.Lists.{sumOf, mostOf, All}
+use Rattle.search.specs.Lists.{sumOf, mostOf, All, every}
 use Rattle.search.proofs.Choice.{when-yes, when-no, when-cases}
 use Rattle.search.proofs.Lists.{sum-append, perm-sum}
-use Rattle.table.specs.Good.{GoodRow}
+use Rattle.table.specs.code.Good.{GoodRow}
 use Rattle.table.specs.declared.Row.{Row}
-use Rattle.arrivals.specs.Arrivals.{GoodDistances}
+use Rattle.arrivals.specs.code.Bounds.{GoodDistances}
 use Rattle.arrivals.proofs.Counts.{η-some}
 use Rattle.arrivals.proofs.Rows.{good-distances}
 use Rattle.segments.specs.Items.{Item, item, itemsOf}
@@ -27,9 +27,8 @@ use Rattle.segments.proofs.Order.{items}
 use Rattle.segments.proofs.Renaming.{rename, to-view}
 use Rattle.segments.proofs.Views.{view-list, view-overload}
 use Rattle.windows.specs.Demand.{asynchronous, termOf, typical}
-use Rattle.misses.specs.Tests.{every}
 use Rattle.misses.specs.Overloads.{Overload, overload, overloads, Piece, piece, piecesFrom}
-use Rattle.misses.specs.Sets.{members, agree, together, costOf}
+use Rattle.misses.specs.Sets.{members, agree, together, setCost}
 use Rattle.misses.proofs.Bools.{and-left, and-right}
 
 -- those of a mask are some of all
@@ -89,14 +88,14 @@ item-in j i = in-segment j (i .segment) (i .cost)
 
 -- those of one chain that may stand together are all of one segment
 module _ (n : ℕ) where
-  one-segment : (p : Piece) (ps : List Piece) → p .chain ≡ n → All (λ r. r .chain ≡ n) ps → every (agree p) ps ≡ true → costOf ps ≡ sumOf (piece-in (p .segment)) ps
+  one-segment : (p : Piece) (ps : List Piece) → p .chain ≡ n → All (λ r. r .chain ≡ n) ps → every (agree p) ps ≡ true → setCost ps ≡ sumOf (piece-in (p .segment)) ps
   unfolding every sumOf
   one-segment p [] e h f = refl
   one-segment p (r ∷ ps) e h f =
       let same : r .segment ≡ p .segment = sym (eqb-true _ _ (sym (when-yes _ _ (eq-eqb (p .chain) (r .chain) (e ∙ sym (h .0)))) ∙ and-left (agree p r) (every (agree p) ps) f)) in
       ap₂ _+_ (sym (when-yes (r .cost) 0 (eq-eqb _ _ same))) (one-segment p ps e (h .1) (and-right (agree p r) (every (agree p) ps) f))
 
-  chain-segment : (ps : List Piece) → All (λ r. r .chain ≡ n) ps → together ps ≡ true → (j : ℕ) × (costOf ps ≡ sumOf (piece-in j) ps)
+  chain-segment : (ps : List Piece) → All (λ r. r .chain ≡ n) ps → together ps ≡ true → (j : ℕ) × (setCost ps ≡ sumOf (piece-in j) ps)
   unfolding together sumOf
   chain-segment [] h e = (0, refl)
   chain-segment (p ∷ ps) h e =
@@ -147,7 +146,7 @@ module _ (a b : Row) where
       let r = to-view a b in
       le-trans (renamed-sum (r .name) j (itemsOf a b)) (le-trans (le-of-eq (perm-sum (item-in (r .name j)) (r .order))) (in-most (r .name j) 0 (viewOf a b .segments)))
 
-  chain-dearest : (n m : ℕ) → together (members (map (piece n) (itemsOf a b)) m) ≡ true → costOf (members (map (piece n) (itemsOf a b)) m) ≤ dearestOf (viewOf a b)
+  chain-dearest : (n m : ℕ) → together (members (map (piece n) (itemsOf a b)) m) ≡ true → setCost (members (map (piece n) (itemsOf a b)) m) ≤ dearestOf (viewOf a b)
   chain-dearest n m e =
       let ps = map (piece n) (itemsOf a b) in
       let s = chain-segment n (members ps m) (members-all (λ r. r .chain ≡ n) ps m (all-pieces (itemsOf a b))) e in
@@ -182,23 +181,23 @@ module _ (b : Row) (t : ℕ) (some : 1 ≤ t) where
   unfolding piecesFrom
   set-parts n a os m = members-append (map (piece n) (itemsOf a b)) (piecesFrom (n + 1) os) m
 
-  set-none : (n m : ℕ) → costOf (set n [] m) ≡ 0
+  set-none : (n m : ℕ) → setCost (set n [] m) ≡ 0
   unfolding piecesFrom members sumOf
   set-none n m = refl
 
   pub covered : (l : List Row) → All GoodRow l → (n m : ℕ) → together (set n (overloads b l) m) ≡ true
-      → terms (typical (views l)) + costOf (set n (overloads b l) m) ≤ terms (views l)
+      → terms (typical (views l)) + setCost (set n (overloads b l) m) ≤ terms (views l)
   unfolding overloads typical sumOf
   covered [] good n m e = omega (arith, set-none n m)
   covered (a ∷ l) good n m e = go (eqb (a .overload) 0) refl (covered l (good .1))
     where
       go : (x : Bool) → eqb (a .overload) 0 ≡ x
-          → ((k j : ℕ) → together (set k (overloads b l) j) ≡ true → terms (typical (views l)) + costOf (set k (overloads b l) j) ≤ terms (views l))
-          → terms (typical (views (a ∷ l))) + costOf (set n (overloads b (a ∷ l)) m) ≤ terms (views (a ∷ l))
+          → ((k j : ℕ) → together (set k (overloads b l) j) ≡ true → terms (typical (views l)) + setCost (set k (overloads b l) j) ≤ terms (views l))
+          → terms (typical (views (a ∷ l))) + setCost (set n (overloads b (a ∷ l)) m) ≤ terms (views (a ∷ l))
       go true f r =
           let o : overloads b (a ∷ l) ≡ overloads b l = when-yes _ _ f in
           let y : typical (views (a ∷ l)) ≡ viewOf a b ∷ typical (views l) = when-yes _ _ (ap (λ k. eqb k 0) (view-overload a b) ∙ f) in
-          omega (arith, r n m (sym (ap (λ os. together (set n os m)) o) ∙ e), ap terms y, ap (λ os. costOf (set n os m)) o)
+          omega (arith, r n m (sym (ap (λ os. together (set n os m)) o) ∙ e), ap terms y, ap (λ os. setCost (set n os m)) o)
       go false f r =
           let o : overloads b (a ∷ l) ≡ overload a b ∷ overloads b l = when-no _ _ f in
           let y : typical (views (a ∷ l)) ≡ typical (views l) = when-no _ _ (ap (λ k. eqb k 0) (view-overload a b) ∙ f) in
@@ -211,7 +210,7 @@ module _ (b : Row) (t : ℕ) (some : 1 ≤ t) where
             arith,
             r (n + 1) k (together-right own rest w),
             ap terms y,
-            ap costOf p,
+            ap setCost p,
             sum-append (λ q. q .cost) own rest,
             chain-dearest a b n m (together-left own rest w),
             dearest-term (viewOf a b) (subst GoodDistances (sym (view-list a b)) (good-distances (good .0))) t some,

@@ -13,7 +13,7 @@ use Rattle.search.specs.Lists.{sumOf, mostOf, All}
 use Rattle.search.proofs.Choice.{when-cases, true-not-false}
 use Rattle.search.proofs.Find.{first-ge, first-miss}
 use Rattle.table.specs.Limits.{horizon, maxActivations}
-use Rattle.table.specs.Good.{GoodRow}
+use Rattle.table.specs.code.Good.{GoodRow}
 use Rattle.table.specs.declared.Row.{Row}
 use Rattle.arrivals.specs.Arrivals.{δ}
 use Rattle.segments.specs.View.{View, viewOf}
@@ -27,7 +27,7 @@ use Rattle.windows.specs.declared.Answer.the-variants.{Figures, Refused}
 use Rattle.windows.proofs.Least.{window-at, window-fits}
 use Rattle.windows.proofs.Growth.{Paced, demand-growing}
 use Rattle.misses.specs.Overloads.{overloads, piecesOf}
-use Rattle.misses.specs.Sets.{members, allowed, costOf}
+use Rattle.misses.specs.Sets.{members, allowed, setCost}
 use Rattle.misses.specs.Bad.{withCost}
 use Rattle.misses.proofs.Sweeps.{cost-growing}
 use Rattle.misses.proofs.Prices.{allowed-together}
@@ -118,7 +118,7 @@ module _ (b : Row) (l : List Row) (good : GoodRow b) (rows : All GoodRow l) (pac
   views = map (λ a. viewOf a b) l
 
   abbrev set : ℕ → ℕ
-  set m = costOf (members (piecesOf (overloads b l)) m)
+  set m = setCost (members (piecesOf (overloads b l)) m)
 
   set-fits : (q m t : ℕ) → 1 ≤ t → allowed (piecesOf (overloads b l)) m ≡ true → withCost (demandOf b (typical views)) (set m) q t ≤ demandOf b views q t
   unfolding demandOf

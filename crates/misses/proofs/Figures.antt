@@ -8,7 +8,7 @@ use lib.IntN.{ℤ}
 use Rattle.table.specs.Limits.{maxRun}
 use Rattle.table.specs.declared.Row.{Row}
 use Rattle.table.proofs.Firsts.{none-or, when-zero}
-use Rattle.arrivals.specs.Arrivals.{distances}
+use Rattle.table.specs.Record.{distances}
 use Rattle.segments.specs.View.{View}
 use Rattle.windows.specs.Demand.{demandOf}
 use Rattle.windows.specs.Latency.{boundOf}
@@ -16,7 +16,7 @@ use Rattle.windows.specs.declared.Windows.{Windows}
 use Rattle.windows.specs.declared.Answer.the-variants.{Figures}
 use Rattle.windows.proofs.Least.{window-at}
 use Rattle.misses.specs.Misses.{earlyOf}
-use Rattle.misses.specs.Held.{Asked}
+use Rattle.misses.specs.code.Held.{Asked}
 use Rattle.misses.proofs.Existence.{latency-near, late-few, Closed, closed}
 
 module _ (b : Row) (views : List View) where

@@ -13,19 +13,20 @@ use Rattle.search.specs.Choice.{_when_else_}
 use Rattle.search.proofs.Choice.{when-yes, when-no}
 use Rattle.table.specs.Limits.{maxTasks, maxOverloads, maxCapacity}
 use Rattle.table.specs.Find.{none, rowOf, rows}
-use Rattle.table.specs.Good.{GoodTable}
+use Rattle.table.specs.code.Good.{GoodTable}
 use Rattle.table.specs.declared.Row.{Row}
 use Rattle.table.specs.declared.Table.{Table}
-use Rattle.arrivals.specs.Arrivals.{distances, η}
+use Rattle.arrivals.specs.Arrivals.{η}
+use Rattle.table.specs.Record.{distances}
 use Rattle.segments.specs.Actives.{Active, nothing, activesOf}
-use Rattle.segments.specs.Held.{arraysOf}
+use Rattle.segments.specs.code.Held.{arraysOf}
 use Rattle.segments.specs.Items.{itemOf, itemsOf}
 use Rattle.segments.specs.Tasks.{floorOf, tailOf}
 use Rattle.segments.specs.declared.Actives.{Actives}
 use Rattle.segments.proofs.Standing.{array-at}
 use Rattle.segments.proofs.Bounds.{actives-few}
 use Rattle.misses.specs.Overloads.{Overload, overload, overloads, Piece, piece, piecesFrom, piecesOf, capacitiesOf}
-use Rattle.misses.specs.Held.{six, heldAs, gathered}
+use Rattle.misses.specs.code.Held.{six, heldAs, gathered}
 use Rattle.misses.specs.declared.Pieces.{Pieces}
 use Rattle.misses.proofs.Sixes.{six-length, six-put}
 

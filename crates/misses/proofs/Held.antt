@@ -10,22 +10,22 @@ use lib.Dec.{eqb, ltb}
 use lib.ListN.{length, getD, take, drop, replicate, length-map, List·getD-eq-default}
 use lib.Seq.{take-all, split-at, length-take-le, getD-take}
 use borrow.Author.Tests.{lt-ltb, le-ltb, ltb-false, eq-eqb}
-use Rattle.search.specs.Lists.{All}
+use Rattle.search.specs.Lists.{All, some}
 use Rattle.search.proofs.Choice.{when-yes, when-cases, lt-or-le}
 use Rattle.search.proofs.Lists.{all-map, all-append}
 use Rattle.table.specs.Limits.{maxOverloads, maxCapacity}
 use Rattle.table.specs.Record.{pad}
 use Rattle.table.specs.Find.{none, rowOf, rows}
-use Rattle.table.specs.Good.{GoodRow, GoodTable}
+use Rattle.table.specs.code.Good.{GoodRow, GoodTable}
 use Rattle.table.specs.declared.Row.{Row}
 use Rattle.table.specs.declared.Table.{Table}
 use Rattle.segments.specs.Actives.{Active, activesOf}
 use Rattle.segments.specs.Items.{itemOf, itemsOf}
 use Rattle.segments.proofs.Bounds.{actives-each, all-max}
 use Rattle.windows.specs.Demand.{others}
-use Rattle.misses.specs.Tests.{some}
 use Rattle.misses.specs.Overloads.{Overload, overloads, Piece, piece, piecesFrom, piecesOf, capacitiesOf}
-use Rattle.misses.specs.Held.{six, gathered, pieceAt, piecesAt, piecesIn, dearest, Few}
+use Rattle.misses.specs.code.Held.{six, gathered, pieceAt, piecesAt, piecesIn, Few}
+use Rattle.segments.specs.code.Held.{dearest}
 use Rattle.misses.specs.declared.Pieces.{Pieces}
 use Rattle.misses.proofs.Bools.{some-append, some-at}
 use Rattle.misses.proofs.Sixes.{six-length, six-at}

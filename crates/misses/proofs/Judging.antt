@@ -10,22 +10,23 @@ use lib.Dec.{ltb}
 use lib.ListN.{length, getD}
 use Rattle.table.specs.Limits.{maxActivations, maxOverloads, maxCapacity}
 use Rattle.table.specs.Find.{rowOf, rows}
-use Rattle.table.specs.Good.{GoodTable}
+use Rattle.table.specs.code.Good.{GoodTable}
 use Rattle.table.specs.declared.Row.{Row}
 use Rattle.table.specs.declared.Table.{Table}
-use Rattle.arrivals.specs.Arrivals.{distances, largest}
+use Rattle.arrivals.specs.Arrivals.{largest}
+use Rattle.table.specs.Record.{distances}
 use Rattle.segments.specs.View.{View}
-use Rattle.windows.specs.Demand.{demandOf, typical, others, othersOf}
-use Rattle.windows.specs.Load.{Load, most, counted, Loads}
+use Rattle.windows.specs.Demand.{demandOf, typical, others, viewsOf}
+use Rattle.windows.specs.code.Load.{Load, most, counted, Loads}
 use Rattle.windows.proofs.Besides.{others-good}
 use Rattle.packing.specs.Most.{mostUses, capacity}
 use Rattle.packing.proofs.Laws.{most-same, most-bound}
-use Rattle.misses.specs.Tests.{some}
+use Rattle.search.specs.Lists.{some}
 use Rattle.misses.specs.Overloads.{Overload, overloads, piecesOf}
 use Rattle.misses.specs.Bad.{over, bad}
 use Rattle.misses.specs.Misses.{badOf, roomOf, byFigures}
-use Rattle.misses.specs.Held.{gathered, piecesIn, Few, Asked}
-use Rattle.misses.specs.Settling.{overIn, beyond}
+use Rattle.misses.specs.code.Held.{gathered, piecesIn, Few, Asked}
+use Rattle.misses.specs.code.Settling.{overIn, beyond}
 use Rattle.misses.specs.declared.Pieces.{Pieces}
 use Rattle.misses.specs.declared.Answer.{Answer}
 use Rattle.misses.specs.declared.Answer.the-variants.{Misses, Refused}
@@ -41,7 +42,7 @@ module _ {t : Table} (good : GoodTable t) (at : ℕ) (there : at < t .count) {k 
   b = rowOf t at
 
   abbrev views : List View
-  views = othersOf t at
+  views = viewsOf t at
 
   abbrev os : List Overload
   os = overloads b (others t at)

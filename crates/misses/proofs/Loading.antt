@@ -6,16 +6,16 @@ use mathlib.Core.List.{List}
 use native.Mathlib.Omega.{arith}
 use lib.ListN.{length, length-append}
 use Rattle.table.specs.Find.{rowOf}
-use Rattle.table.specs.Good.{GoodTable}
+use Rattle.table.specs.code.Good.{GoodTable}
 use Rattle.table.specs.declared.Row.{Row}
 use Rattle.table.specs.declared.Table.{Table}
-use Rattle.arrivals.specs.Arrivals.{distances}
+use Rattle.table.specs.Record.{distances}
 use Rattle.segments.specs.View.{View}
-use Rattle.windows.specs.Demand.{demandOf, othersOf}
-use Rattle.windows.specs.Load.{Load, most, counted, Loads}
+use Rattle.windows.specs.Demand.{demandOf, viewsOf}
+use Rattle.windows.specs.code.Load.{Load, most, counted, Loads}
 use Rattle.windows.proofs.Besides.{viewsFrom, views-length, views-others}
 use Rattle.misses.specs.Bad.{over}
-use Rattle.misses.specs.Settling.{overIn, beyond}
+use Rattle.misses.specs.code.Settling.{overIn, beyond}
 
 -- what is over, by the load, is over by the demand
 pub loads-over : {b : Row} {vs : List View} {l : Load} → Loads b vs l → (deadline k cost : ℕ)
@@ -23,7 +23,7 @@ pub loads-over : {b : Row} {vs : List View} {l : Load} → Loads b vs l → (dea
 loads-over a deadline k cost = ap₂ (λ d ds. over d ds deadline k cost) (fun-ext (λ q. fun-ext (λ t. a .demand q t))) (a .own)
 
 -- and it has room for any set's cost
-pub loads-room : (t : Table) → GoodTable t → (at : ℕ) → at < t .count → (l : Load) → Loads (rowOf t at) (counted false (othersOf t at)) l → l .once + beyond ≤ most
+pub loads-room : (t : Table) → GoodTable t → (at : ℕ) → at < t .count → (l : Load) → Loads (rowOf t at) (counted false (viewsOf t at)) l → l .once + beyond ≤ most
 loads-room t good at h l a =
     let b = rowOf t at in
     let before = viewsFrom false t b 0 at in

@@ -14,9 +14,9 @@ use Rattle.search.specs.Choice.{_when_else_}
 use Rattle.search.proofs.Choice.{when-yes, when-no, true-not-false, lt-or-le}
 use Rattle.packing.specs.Packing.{bit}
 use Rattle.misses.specs.Overloads.{Piece}
-use Rattle.misses.specs.Tests.{every}
+use Rattle.search.specs.Lists.{every}
 use Rattle.misses.specs.Sets.{members, agree}
-use Rattle.misses.specs.Held.{pieceAt, piecesAt, membersAt}
+use Rattle.misses.specs.code.Held.{pieceAt, piecesAt, membersAt}
 use Rattle.misses.proofs.Bools.{every-yes, every-no}
 
 module _ (p : Piece) (ps : List Piece) (m : ℕ) where

@@ -14,22 +14,23 @@ use Rattle.table.specs.Limits.{maxOverloads}
 use Rattle.packing.specs.Packing.{combinations}
 use Rattle.packing.specs.Most.{flagged}
 use Rattle.misses.specs.Overloads.{Piece}
-use Rattle.misses.specs.Sets.{members, together, allowed, costOf}
+use Rattle.misses.specs.Sets.{members, together, allowed, setCost}
 use Rattle.misses.specs.Bad.{bad}
-use Rattle.misses.specs.Held.{piecesAt, priceOf, dearest}
-use Rattle.misses.specs.Settling.{beyond, Tells}
+use Rattle.misses.specs.code.Held.{piecesAt, priceOf}
+use Rattle.segments.specs.code.Held.{dearest}
+use Rattle.misses.specs.code.Settling.{beyond, BadFrom}
 use Rattle.misses.proofs.Prices.{allowed-below, price-allowed, price-none}
 use Rattle.misses.proofs.Covers.{members-sum}
 
 -- no set costs more than six chains can
-at-near : (chains segments costs : List ℕ) → ((i : ℕ) → getD costs i 0 ≤ dearest) → (n i : ℕ) → costOf (piecesAt chains segments costs n i) ≤ n * dearest
+at-near : (chains segments costs : List ℕ) → ((i : ℕ) → getD costs i 0 ≤ dearest) → (n i : ℕ) → setCost (piecesAt chains segments costs n i) ≤ n * dearest
 unfolding piecesAt sumOf
 at-near chains segments costs cheap zero i = omega arith
 at-near chains segments costs cheap (suc n) i = omega (arith, cheap i, at-near chains segments costs cheap n (i + 1))
 
-price-near : (ps : List Piece) (m : ℕ) → priceOf ps m ≤ costOf ps
+price-near : (ps : List Piece) (m : ℕ) → priceOf ps m ≤ setCost ps
 unfolding priceOf
-price-near ps m = when-cases (λ n. n ≤ costOf ps) (allowed ps m) (λ e. members-sum (λ p. p .cost) ps m) (λ e. omega arith)
+price-near ps m = when-cases (λ n. n ≤ setCost ps) (allowed ps m) (λ e. members-sum (λ p. p .cost) ps m) (λ e. omega arith)
 
 pub price-within : (chains segments costs : List ℕ) (n m : ℕ) → ((i : ℕ) → getD costs i 0 ≤ dearest) → n ≤ maxOverloads → priceOf (piecesAt chains segments costs n 0) m < beyond
 price-within chains segments costs n m cheap few =
@@ -61,11 +62,11 @@ module _ (over : ℕ → Bool) (ps : List Piece) where
     unfolding bad
     bad-price m = go (allowed ps m) refl
       where
-        go : (b : Bool) → allowed ps m ≡ b → (allowed ps m && over (costOf (members ps m))) ≡ over (priceOf ps m)
+        go : (b : Bool) → allowed ps m ≡ b → (allowed ps m && over (setCost (members ps m))) ≡ over (priceOf ps m)
         go true e = rw e (ap over (sym (price-allowed ps m e)))
         go false e = rw e (sym fine ∙ ap over (sym (price-none ps m e)))
 
-    pub flags-bad : (costs flags : List ℕ) (lowest : ℕ) → ((m : ℕ) → m < combinations → getD costs m 0 ≡ priceOf ps m) → Tells over costs lowest
+    pub flags-bad : (costs flags : List ℕ) (lowest : ℕ) → ((m : ℕ) → m < combinations → getD costs m 0 ≡ priceOf ps m) → BadFrom over costs lowest
         → ((m : ℕ) → m < combinations → getD flags m 0 ≡ (1 when leb lowest (getD costs m 0) else 0)) → (m : ℕ) → m < combinations → flagged flags m ≡ bad over ps m
     flags-bad costs flags lowest prices tells given m h =
         ap (λ x. eqb x 1) (given m h) ∙ flag-tells (leb lowest (getD costs m 0)) ∙ tells m h ∙ ap over (prices m h) ∙ sym (bad-price m)

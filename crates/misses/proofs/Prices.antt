@@ -10,19 +10,19 @@ use lib.Dec.{ltb}
 use lib.ListN.{length, getD}
 use lib.Pow.{pow-pos}
 use borrow.Author.Tests.{lt-ltb, le-ltb}
-use Rattle.search.specs.Lists.{sumOf}
+use Rattle.search.specs.Lists.{sumOf, every}
 use Rattle.search.proofs.Choice.{when-yes, when-no, lt-or-le}
 use Rattle.packing.specs.Packing.{bit}
-use Rattle.misses.specs.Tests.{every}
 use Rattle.misses.specs.Overloads.{Piece}
-use Rattle.misses.specs.Sets.{members, agree, together, allowed, costOf}
-use Rattle.misses.specs.Held.{pieceAt, piecesAt, membersAt, priceOf, dearest}
+use Rattle.misses.specs.Sets.{members, agree, together, allowed, setCost}
+use Rattle.misses.specs.code.Held.{pieceAt, piecesAt, membersAt, priceOf}
+use Rattle.segments.specs.code.Held.{dearest}
 use Rattle.misses.proofs.Bools.{and-right}
 use Rattle.misses.proofs.Masks.{at-in, at-out, at-end, at-start, at-length}
 
 -- the definitions of a set, one more at the front
 module _ (p : Piece) (ps : List Piece) where
-  pub cost-cons : costOf (p ∷ ps) ≡ p .cost + costOf ps
+  pub cost-cons : setCost (p ∷ ps) ≡ p .cost + setCost ps
   unfolding sumOf
   cost-cons = refl
 
@@ -52,7 +52,7 @@ module _ (ps : List Piece) (m : ℕ) where
   unfolding allowed
   allowed-together e = and-right (ltb m (2 ^ length ps)) (together (members ps m)) e
 
-  pub price-allowed : allowed ps m ≡ true → priceOf ps m ≡ costOf (members ps m)
+  pub price-allowed : allowed ps m ≡ true → priceOf ps m ≡ setCost (members ps m)
   unfolding priceOf
   price-allowed e = when-yes _ _ e
 
@@ -75,7 +75,7 @@ module _ (chains segments costs : List ℕ) (n m : ℕ) where
   pub record Priced (sum i : ℕ) : Type 0 where
     pub inside : i ≤ n
     pub stand : together (from 0) ≡ together (from i)
-    pub cost : costOf (from 0) ≡ sum + costOf (from i)
+    pub cost : setCost (from 0) ≡ sum + setCost (from i)
     pub fits : sum ≤ i * dearest
 
   pub priced-none : Priced 0 0
@@ -85,7 +85,7 @@ module _ (chains segments costs : List ℕ) (n m : ℕ) where
     pub priced-out : (bit i m ≡ 1 → ⊥) → Priced sum (i + 1)
     priced-out b =
         let e = at-out chains segments costs n m i more b in
-        record { inside = omega arith; stand = at .stand ∙ ap together e; cost = omega (arith, at .cost, ap costOf e); fits = omega (arith, at .fits) }
+        record { inside = omega arith; stand = at .stand ∙ ap together e; cost = omega (arith, at .cost, ap setCost e); fits = omega (arith, at .fits) }
 
     pub priced-in : bit i m ≡ 1 → getD costs i 0 ≤ dearest → true ≡ every (agree (pieceAt chains segments costs i)) (from (i + 1)) → Priced (sum + getD costs i 0) (i + 1)
     priced-in b d f =
@@ -93,7 +93,7 @@ module _ (chains segments costs : List ℕ) (n m : ℕ) where
         record {
           inside = omega arith;
           stand = at .stand ∙ ap together e ∙ together-yes _ _ (sym f);
-          cost = omega (arith, at .cost, ap costOf e, cost-cons (pieceAt chains segments costs i) (from (i + 1)));
+          cost = omega (arith, at .cost, ap setCost e, cost-cons (pieceAt chains segments costs i) (from (i + 1)));
           fits = omega (arith, at .fits);
         }
 
@@ -110,4 +110,4 @@ module _ (chains segments costs : List ℕ) (n m : ℕ) where
       let s = sym (at-start chains segments costs n m) in
       let l : m < 2 ^ n = omega (arith, div-lt-iff-lt-mul (pow-pos n) .0 (let k : m / 2 ^ n < 1 = omega arith in k)) in
       let a : allowed all m ≡ true = allowed-below all m (rw (at-length chains segments costs n 0) l) ∙ ap together s ∙ at .stand ∙ ap together e in
-      omega (arith, price-allowed all m a, ap costOf s, at .cost, ap costOf e)
+      omega (arith, price-allowed all m a, ap setCost s, at .cost, ap setCost e)

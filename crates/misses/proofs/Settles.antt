@@ -10,7 +10,7 @@ use borrow.Author.Count.{below-more}
 use lib.ListN.{getD}
 use Rattle.search.proofs.Choice.{true-not-false, lt-or-le}
 use Rattle.packing.specs.Packing.{combinations}
-use Rattle.misses.specs.Settling.{beyond, Settles, Open, Inside, Picks, Tells}
+use Rattle.misses.specs.code.Settling.{beyond, Settles, Open, Inside, Picks, BadFrom}
 use Rattle.misses.specs.declared.Settled.{Settled}
 
 -- a test that never turns false again as its number grows
@@ -51,7 +51,7 @@ module _ (over : ℕ → Bool) (worsens : Worsens over) where
     }
 
 -- none is open: each cost is settled one way or the other
-pub settles-tell : (over : ℕ → Bool) (s : Settled) (costs : List ℕ) → Settles over s → Picks s costs 0 → ((m : ℕ) → m < combinations → getD costs m 0 < beyond) → Tells over costs (s .bad)
+pub settles-tell : (over : ℕ → Bool) (s : Settled) (costs : List ℕ) → Settles over s → Picks s costs 0 → ((m : ℕ) → m < combinations → getD costs m 0 < beyond) → BadFrom over costs (s .bad)
 settles-tell over s costs is p few m h =
     ⊎-elim
     (λ l. lt-leb (s .bad) (getD costs m 0) l ∙ sym (is .below (getD costs m 0) (low l)))

@@ -10,7 +10,7 @@ use Rattle.search.proofs.Choice.{lt-or-le}
 use Rattle.table.specs.Limits.{maxOverloads}
 use Rattle.table.specs.Record.{pad}
 use Rattle.table.proofs.Goods.{pad-at}
-use Rattle.misses.specs.Held.{six}
+use Rattle.misses.specs.code.Held.{six}
 
 pub six-length : (l : List ℕ) → length (six l) ≡ maxOverloads
 six-length l =

@@ -12,23 +12,24 @@ use lib.IntN.{negsuc}
 use lib.ListN.{getD}
 use Rattle.search.specs.Choice.{_when_else_}
 use Rattle.search.specs.Find.{first}
-use Rattle.search.specs.Lists.{sumOf, mostOf}
+use Rattle.search.specs.Lists.{sumOf, mostOf, some as someTask, some}
 use Rattle.search.proofs.Choice.{lt-or-le}
 use Rattle.table.specs.Limits.{horizon}
 use Rattle.table.specs.Bytes.{word}
-use Rattle.table.specs.Record.{every, rowAt}
+use Rattle.table.specs.Record.{spaced, rowAt, distances}
 use Rattle.table.specs.Find.{rowOf, findOf}
 use Rattle.table.specs.Fault.{_then_, markOf, headFault, falls, gapShort, listFault, taskFault, tasksFault, chainFault, endFault}
 use Rattle.table.specs.Read.{accepted, unless, start, records, readTable}
 use Rattle.table.specs.declared.Row.{Row}
 use Rattle.table.specs.declared.Reading.{Reading}
-use Rattle.arrivals.specs.Arrivals.{GoodDistances, distances, asListed, δ, η, largest}
+use Rattle.arrivals.specs.Arrivals.{asListed, δ, η, largest}
+use Rattle.arrivals.specs.code.Bounds.{GoodDistances}
 use Rattle.arrivals.proofs.Counts.{η-some, η-counts, η-stops}
-use Rattle.segments.specs.Tasks.{tasksFrom, lowest, some as someTask, before}
-use Rattle.segments.specs.Segments.{stretches, onward, around, full, cuts, parts, cutSegments}
+use Rattle.segments.specs.Tasks.{tasksFrom, lowest, before}
+use Rattle.segments.specs.Segments.{stretches, onward, around, nonempty, cuts, parts, cutSegments}
 use Rattle.segments.specs.Actives.{startOf, numbered, inOrder, actives}
 use Rattle.segments.specs.View.{View, viewOf}
-use Rattle.windows.specs.Demand.{termOf, partOf, demandOf, typical, others, othersOf}
+use Rattle.windows.specs.Demand.{termOf, countedPart, demandOf, typical, others, viewsOf}
 use Rattle.windows.specs.Window.{windowOf}
 use Rattle.windows.specs.Latency.{long, ends, latencyAt, upTo, latencyTo, lateTo, marginOf, endsWith, boundOf}
 use Rattle.windows.specs.declared.Window.{Window}
@@ -41,11 +42,11 @@ use Rattle.windows.proofs.Starred.{sample, sampled, recorded, ended, bytes, sta
 use Rattle.packing.specs.Most.{mostUses}
 use Rattle.packing.proofs.Laws.{most-same}
 use Rattle.packing.proofs.Sample.{bad as anyTwo, each, capacity-2, capacity-3}
-use Rattle.misses.specs.Tests.{some, every as everyOf}
+use Rattle.search.specs.Lists.{every as everyOf}
 use Rattle.misses.specs.Overloads.{Overload, overloads, Piece, piecesFrom, piecesOf, capacitiesOf}
-use Rattle.misses.specs.Sets.{members, together, allowed, costOf}
+use Rattle.misses.specs.Sets.{members, together, allowed, setCost}
 use Rattle.misses.specs.Bad.{withCost, longer, over, bad}
-use Rattle.misses.specs.Misses.{earlyOf, badOf, roomOf, byBound, missesOf, missesAt, chainOf}
+use Rattle.misses.specs.Misses.{earlyOf, badOf, roomOf, byBound, missesOf, missesAt, missesIn}
 use Rattle.misses.specs.declared.Answer.the-variants.{Misses}
 use Rattle.misses.proofs.Prices.{allowed-past}
 use Rattle.misses.proofs.Starts.{starts}
@@ -56,13 +57,13 @@ abbrev b : Row
 b = rowOf sampled 0
 
 abbrev views : List View
-views = othersOf sampled 0
+views = viewsOf sampled 0
 
 abbrev os : List Overload
 os = overloads b (others sampled 0)
 
 reads : readTable sample ≡ accepted sampled
-unfolding sample sampled recorded ended bytes flatten readTable records start unless chainFault headFault listFault falls gapShort tasksFault taskFault endFault _then_ markOf word every rowAt findOf first _when_else_
+unfolding sample sampled recorded ended bytes flatten readTable records start unless chainFault headFault listFault falls gapShort tasksFault taskFault endFault _then_ markOf word spaced rowAt findOf first _when_else_
 reads = refl
 
 finds : findOf sampled 1 ≡ 0
@@ -106,7 +107,7 @@ abbrev demand : ℕ → ℕ → ℕ
 demand = demandOf b (typical views)
 
 demand-is : (t : ℕ) → demand 1 t ≡ 20 + 5 * η (50 ∷ []) t
-unfolding sampled demandOf othersOf typical termOf partOf viewOf tasksFrom lowest someTask before stretches onward around full cuts parts cutSegments sumOf mostOf _when_else_
+unfolding sampled demandOf viewsOf typical termOf countedPart viewOf tasksFrom lowest someTask before stretches onward around nonempty cuts parts cutSegments sumOf mostOf _when_else_
 demand-is t = omega (arith, mul-zero (η (100 ∷ []) t - 1))
 
 -- a set is bad from a cost of 16 on: with 15 the window is 40, the deadline
@@ -135,12 +136,12 @@ over-is c = ⊎-elim
     solves h = omega (arith, demand-is (25 + c), η-some good-50 (25 + c) (omega arith), η-stops good-50 1 (25 + c) (omega arith))
 
 -- so each set is judged by its members and its cost
-bad-is : (m : ℕ) → badOf b views os 1 m ≡ (allowed (piecesOf os) m && leb 16 (costOf (members (piecesOf os) m)))
+bad-is : (m : ℕ) → badOf b views os 1 m ≡ (allowed (piecesOf os) m && leb 16 (setCost (members (piecesOf os) m)))
 unfolding badOf bad sampled
-bad-is m = ap (λ x. allowed (piecesOf os) m && x) (over-is (costOf (members (piecesOf os) m)))
+bad-is m = ap (λ x. allowed (piecesOf os) m && x) (over-is (setCost (members (piecesOf os) m)))
 
 judged : ℕ → Bool
-judged m = allowed (piecesOf os) m && leb 16 (costOf (members (piecesOf os) m))
+judged m = allowed (piecesOf os) m && leb 16 (setCost (members (piecesOf os) m))
 
 -- any two of them, and all three
 low-sets : (m : ℕ) → m < 8 → judged m ≡ anyTwo m
@@ -161,7 +162,7 @@ no-more m h = rw (ne-eqb m 3 (λ e. omega arith), ne-eqb m 5 (λ e. omega arith)
 bad-sets : (m : ℕ) → badOf b views os 1 m ≡ anyTwo m
 unfolding judged
 bad-sets m = bad-is m ∙ ⊎-elim (low-sets m)
-    (λ h. ap (λ x. x && leb 16 (costOf (members (piecesOf os) m))) (allowed-past (piecesOf os) m (rw pieces h)) ∙ sym (no-more m h)) (lt-or-le m 8)
+    (λ h. ap (λ x. x && leb 16 (setCost (members (piecesOf os) m))) (allowed-past (piecesOf os) m (rw pieces h)) ∙ sym (no-more m h)) (lt-or-le m 8)
 
 -- the full analysis: K is 1, and the only activation is late by 24
 bounds : boundOf b views ≡ record { answer = Figures 1 64 1 (negsuc 23); last = 64 }
@@ -202,7 +203,7 @@ unfolding sampled
 answers k n uses early e few most =
     let r = rooms k n e in
     misses-accepted sample 1 k (ap (λ (x : Reading). x .verdict) reads)
-    ∙ ap (λ (x : Reading). chainOf (x .table) 1 k) reads
+    ∙ ap (λ (x : Reading). missesIn (x .table) 1 k) reads
     ∙ chain-found sampled 1 k (λ x. omega (arith, x, finds))
     ∙ ap (λ j. missesAt sampled j k) finds
     ∙ at-bound sampled 0 k early

@@ -12,11 +12,12 @@ use lib.Seq.{drop-cons, getD-take, length-take-le}
 use borrow.Author.Tests.{lt-ltb, le-ltb, eq-eqb, ne-eqb}
 use Rattle.search.proofs.Choice.{when-yes, when-no, lt-or-le}
 use Rattle.table.specs.Find.{none, rowOf, rows}
-use Rattle.table.specs.Good.{GoodTable}
+use Rattle.table.specs.code.Good.{GoodTable}
 use Rattle.table.specs.declared.Row.{Row}
 use Rattle.table.specs.declared.Table.{Table}
-use Rattle.arrivals.specs.Arrivals.{distances, η}
-use Rattle.misses.specs.Tests.{some}
+use Rattle.arrivals.specs.Arrivals.{η}
+use Rattle.table.specs.Record.{distances}
+use Rattle.search.specs.Lists.{some}
 use Rattle.misses.specs.Overloads.{Overload, overload, overloads}
 use Rattle.misses.proofs.Bools.{drop-past, some-append, some-end, some-single}
 use Rattle.misses.proofs.Gathers.{overloads-append}

@@ -10,17 +10,17 @@ use native.Mathlib.Numerals.{add-one}
 use native.Mathlib.Nat.{eq-or-lt-of-le, le-of-suc-le-suc}
 use borrow.Author.Tests.{lt-ltb, le-ltb, ltb-true}
 use Rattle.arrivals.specs.Arrivals.{δ}
-use Rattle.windows.specs.Window.{windowOf, Under}
+use Rattle.windows.specs.Window.{windowOf}
 use Rattle.windows.specs.Latency.{upTo}
-use Rattle.windows.specs.Load.{Load, ownOf, demandIn, plus, Sound}
+use Rattle.windows.specs.code.Load.{Load, ownOf, demandIn, plus, Sound, Under}
 use Rattle.windows.specs.declared.Window.{Window}
 use Rattle.windows.specs.declared.Window.the-variants.{At, Nothing}
 use Rattle.windows.proofs.Least.{under-one, under-lift, window-under, window-less}
 use Rattle.windows.proofs.Growth.{Growing, load-growing}
 use Rattle.windows.proofs.Joining.{plus-demand}
-use Rattle.misses.specs.Tests.{some}
+use Rattle.search.specs.Lists.{some}
 use Rattle.misses.specs.Bad.{withCost, longer, over}
-use Rattle.misses.specs.Settling.{overIn}
+use Rattle.misses.specs.code.Settling.{overIn}
 
 -- the window for q activations is too long
 abbrev pub passes : (ℕ → ℕ → ℕ) → List ℕ → ℕ → ℕ → Bool

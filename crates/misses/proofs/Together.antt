@@ -7,7 +7,7 @@ use native.Mathlib.Decide.{ℕ-discrete}
 use lib.Dec.{eqb}
 use borrow.Author.Tests.{eq-eqb, ne-eqb, eqb-true}
 use Rattle.search.proofs.Choice.{when-yes, when-no}
-use Rattle.misses.specs.Tests.{some, every}
+use Rattle.search.specs.Lists.{some, every}
 use Rattle.misses.specs.Overloads.{Piece}
 use Rattle.misses.specs.Sets.{agree, together}
 use Rattle.misses.proofs.Bools.{and-left, and-right}

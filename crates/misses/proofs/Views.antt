@@ -8,13 +8,14 @@ use lib.Dec.{eqb, ltb}
 use lib.ListN.{length, getD}
 use borrow.Author.Tests.{ltb-false}
 use Rattle.search.specs.Choice.{_when_else_}
-use Rattle.search.specs.Lists.{Paired}
+use Rattle.search.specs.Lists.{Paired, some}
 use Rattle.search.proofs.Lists.{paired-perm}
 use Rattle.search.proofs.Keeping.{keep}
 use Rattle.search.proofs.Pairing.{paired-keep, paired-weaker, paired-turn, paired-map}
 use Rattle.table.specs.Limits.{maxOverloads, maxCapacity}
 use Rattle.table.specs.declared.Row.{Row}
-use Rattle.arrivals.specs.Arrivals.{distances, η, largest}
+use Rattle.arrivals.specs.Arrivals.{η, largest}
+use Rattle.table.specs.Record.{distances}
 use Rattle.segments.specs.View.{View, viewOf, Alike}
 use Rattle.segments.proofs.Renaming.{alike-renamed}
 use Rattle.segments.proofs.Views.{view-overload, view-list, alike-turn}
@@ -25,11 +26,11 @@ use Rattle.windows.specs.declared.Answer.the-variants.{Figures, Refused as Unbo
 use Rattle.windows.specs.declared.Windows.{Windows}
 use Rattle.windows.proofs.Views.{alike-demand, alike-bound, alike-typical}
 use Rattle.packing.specs.Most.{mostUses}
-use Rattle.misses.specs.Tests.{some}
 use Rattle.misses.specs.Overloads.{Overload, overload, overloads, piecesOf, capacitiesOf}
 use Rattle.misses.specs.Bad.{over, bad}
-use Rattle.misses.specs.Misses.{earlyOf, unless, badOf, roomOf, byFigures, byBound, missesIn}
-use Rattle.misses.specs.declared.Answer.the-variants.{Misses}
+use Rattle.misses.specs.Misses.{earlyOf, badOf, roomOf, byFigures, byBound, missesBeside}
+use Rattle.table.specs.Read.{unless}
+use Rattle.misses.specs.declared.Answer.the-variants.{Misses, Refused}
 use Rattle.misses.proofs.Packs.{bad-none}
 use Rattle.misses.proofs.Starts.{starts}
 use Rattle.misses.proofs.Together.{perm-some}
@@ -110,8 +111,8 @@ module _ (b : Row) {vs ws : List View} (views : Paired Alike vs ws) {os ps : Lis
 
 -- other chains that pair off alike, in any order: the same answer for every k
 pub alike-misses : (b : Row) {l r : List Row} → Paired (λ a c. Alike (viewOf a b) (viewOf c b)) l r → (k : ℕ)
-    → missesIn b (map (λ a. viewOf a b) l) (overloads b l) k ≡ missesIn b (map (λ a. viewOf a b) r) (overloads b r) k
-unfolding missesIn
+    → missesBeside b (map (λ a. viewOf a b) l) (overloads b l) k ≡ missesBeside b (map (λ a. viewOf a b) r) (overloads b r) k
+unfolding missesBeside
 alike-misses b {l} {r} p k =
     let vs = map (λ a. viewOf a b) l in
     let ws = map (λ a. viewOf a b) r in
@@ -119,6 +120,6 @@ alike-misses b {l} {r} p k =
     let one = alike-overloads b p in
     let two = alike-overloads b (paired-turn (λ a c h. alike-turn h) p) in
     let same = alike-bound views b in
-    ap (unless (earlyOf b k))
+    ap (unless Refused (earlyOf b k))
     (same-byBound b views one two k (boundOf b vs .answer) (boundOf b vs .last)
     ∙ ap (λ (w : Windows). byBound b ws (overloads b r) k (w .answer) (w .last)) same)

@@ -8,9 +8,9 @@ use Rattle.windows.specs.Latency.{upTo}
 use Rattle.windows.specs.Window.{windowOf}
 use Rattle.windows.specs.declared.Window.{Window}
 use Rattle.windows.specs.declared.Window.the-variants.{At, Nothing}
-use Rattle.misses.specs.Tests.{some}
+use Rattle.search.specs.Lists.{some}
 use Rattle.misses.specs.Overloads.{Piece}
-use Rattle.misses.specs.Sets.{members, allowed, costOf}
+use Rattle.misses.specs.Sets.{members, allowed, setCost}
 
 -- a combination's window drops all overload chains' terms and adds the set's costs once
 abbrev pub withCost : (ℕ → ℕ → ℕ) → ℕ → ℕ → ℕ → ℕ
@@ -27,4 +27,4 @@ over demand ds deadline k cost = some (λ q. longer (windowOf (withCost demand c
 
 -- a bad combination
 unfoldable pub bad : (ℕ → Bool) → List Piece → ℕ → Bool
-bad over ps m = allowed ps m && over (costOf (members ps m))
+bad over ps m = allowed ps m && over (setCost (members ps m))

@@ -1,7 +1,5 @@
-pub mod Tests
 pub mod Overloads
 pub mod Sets
 pub mod Bad
 pub mod Misses
-pub mod Held
-pub mod Settling
+pub mod code

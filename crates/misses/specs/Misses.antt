@@ -8,18 +8,18 @@ use Rattle.search.specs.Choice.{_when_else_}
 use Rattle.table.specs.Limits.{maxRun, maxOverloads, maxCapacity}
 use Rattle.table.specs.Fault.{outside}
 use Rattle.table.specs.Find.{rowOf, findOf}
-use Rattle.table.specs.Read.{byVerdict, readTable}
-use Rattle.table.specs.Taken.{tableOf}
+use Rattle.table.specs.Read.{byVerdict, unless, readTable, tableOf}
 use Rattle.table.specs.declared.Row.{Row}
 use Rattle.table.specs.declared.Table.{Table}
-use Rattle.arrivals.specs.Arrivals.{distances, η, largest}
+use Rattle.arrivals.specs.Arrivals.{η, largest}
+use Rattle.table.specs.Record.{distances}
 use Rattle.segments.specs.View.{View}
-use Rattle.windows.specs.Demand.{demandOf, typical, others, othersOf}
+use Rattle.windows.specs.Demand.{demandOf, typical, others, viewsOf}
 use Rattle.windows.specs.Latency.{boundOf}
 use Rattle.windows.specs.declared.Answer.{Answer as Bound}
 use Rattle.windows.specs.declared.Answer.the-variants.{Figures, Refused as Unbounded}
 use Rattle.packing.specs.Most.{mostUses}
-use Rattle.misses.specs.Tests.{some}
+use Rattle.search.specs.Lists.{some}
 use Rattle.misses.specs.Overloads.{Overload, overloads, piecesOf, capacitiesOf}
 use Rattle.misses.specs.Bad.{over, bad}
 use Rattle.misses.specs.declared.Answer.{Answer}
@@ -41,11 +41,6 @@ earlyOf b k =
     14 when not (eqb (b .overload) 0) else
     15 when eqb (b .gap) 0 else
     0
-
--- refused with a number; where that is 0, what follows
-abbrev pub unless : ℕ → Answer → Answer
-unless zero rest = rest
-unless (suc n) rest = Refused (suc n)
 
 -- the bad combinations of a chain b beside the chains of these views, whose overload chains are `os`, for q up to `close`, which is
 -- the K of the full analysis
@@ -75,17 +70,17 @@ module _ (b : Row) (views : List View) (os : List Overload) (k : ℕ) where
   byBound (Unbounded n) last = Refused n
 
   -- what is refused before any window, or the windows decide
-  unfoldable pub missesIn : Answer
-  missesIn = unless (earlyOf b k) (byBound (boundOf b views .answer) (boundOf b views .last))
+  unfoldable pub missesBeside : Answer
+  missesBeside = unless Refused (earlyOf b k) (byBound (boundOf b views .answer) (boundOf b views .last))
 
 -- of the chain `at` of a table
 unfoldable pub missesAt : Table → ℕ → ℕ → Answer
-missesAt t at k = missesIn (rowOf t at) (othersOf t at) (overloads (rowOf t at) (others t at)) k
+missesAt t at k = missesBeside (rowOf t at) (viewsOf t at) (overloads (rowOf t at) (others t at)) k
 
 -- of the chain with the id, 12 if there is none
-unfoldable pub chainOf : Table → ℕ → ℕ → Answer
-chainOf t id k = Refused 12 when eqb (findOf t id) (t .count) else missesAt t (findOf t id) k
+unfoldable pub missesIn : Table → ℕ → ℕ → Answer
+missesIn t id k = Refused 12 when eqb (findOf t id) (t .count) else missesAt t (findOf t id) k
 
 -- what the miss query answers for a run of k activations of the chain with the id, of a stored table, whose own refusals come first
 unfoldable pub missesOf : List ℕ → ℕ → ℕ → Answer
-missesOf s id k = byVerdict Refused (readTable s .verdict) (chainOf (tableOf s) id k)
+missesOf s id k = byVerdict Refused (readTable s .verdict) (missesIn (tableOf s) id k)

@@ -4,7 +4,8 @@ use mathlib.Core.List.{List, [], _∷_, _++_, map}
 use lib.Dec.{eqb}
 use Rattle.search.specs.Choice.{_when_else_}
 use Rattle.table.specs.declared.Row.{Row}
-use Rattle.arrivals.specs.Arrivals.{distances, η}
+use Rattle.arrivals.specs.Arrivals.{η}
+use Rattle.table.specs.Record.{distances}
 use Rattle.segments.specs.Items.{Item, itemsOf}
 
 -- an overload chain as b sees it: its listed distances, and its active segments by number

@@ -5,8 +5,7 @@ use mathlib.Core.List.{List, [], _∷_}
 use lib.Dec.{eqb, ltb}
 use lib.ListN.{length}
 use Rattle.search.specs.Choice.{_when_else_}
-use Rattle.search.specs.Lists.{sumOf}
-use Rattle.misses.specs.Tests.{every}
+use Rattle.search.specs.Lists.{sumOf, every}
 use Rattle.misses.specs.Overloads.{Piece}
 
 -- the active segments that a mask holds, one bit for each: bit 0 is the first one's
@@ -28,5 +27,5 @@ unfoldable pub allowed : List Piece → ℕ → Bool
 allowed ps m = ltb m (2 ^ length ps) && together (members ps m)
 
 -- what some active segments cost together
-abbrev pub costOf : List Piece → ℕ
-costOf ps = sumOf (λ p. p .cost) ps
+abbrev pub setCost : List Piece → ℕ
+setCost ps = sumOf (λ p. p .cost) ps

@@ -33,20 +33,21 @@ ghost use Rattle.table.specs.Limits.{horizon, maxActivations, maxDeadline, maxO
 ghost use Rattle.table.specs.declared.Row.{Row};
 ghost use Rattle.table.specs.Record.{rowAt};
 ghost use Rattle.table.specs.Find.{rowOf, rows};
-ghost use Rattle.table.specs.Taken.{tableOf, Taken, Stands};
+ghost use Rattle.table.specs.code.Taken.{Taken, Stands};
+ghost use Rattle.table.specs.Read.{tableOf};
 ghost use Rattle.arrivals.specs.Arrivals.{η};
-ghost use Rattle.windows.specs.Demand.{others, othersOf};
+ghost use Rattle.windows.specs.Demand.{others, viewsOf};
 ghost use Rattle.windows.specs.Latency.{boundOf};
-ghost use Rattle.windows.specs.Load.{most, loadOf, Sound};
+ghost use Rattle.windows.specs.code.Load.{most, loadOf, Sound};
 ghost use Rattle.packing.specs.Packing.{combinations};
 ghost use Rattle.packing.specs.Most.{mostUses};
 ghost use Rattle.packing.specs.Most.{capacity as capacityIn};
-ghost use Rattle.misses.specs.Tests.{some};
+ghost use Rattle.search.specs.Lists.{some};
 ghost use Rattle.misses.specs.Overloads.{overloads};
 ghost use Rattle.misses.specs.Bad.{bad as badIn};
-ghost use Rattle.misses.specs.Misses.{earlyOf, byFigures, byBound, missesAt, chainOf, missesOf};
-ghost use Rattle.misses.specs.Held.{Few, piecesIn, Asked};
-ghost use Rattle.misses.specs.Settling.{overIn, beyond};
+ghost use Rattle.misses.specs.Misses.{earlyOf, byFigures, byBound, missesAt, missesIn, missesOf};
+ghost use Rattle.misses.specs.code.Held.{Few, piecesIn, Asked};
+ghost use Rattle.misses.specs.code.Settling.{overIn, beyond};
 
 // 13, 14 or 15, what is refused of the chain at `b` before any window; 0 for none of them.
 fn early(s: &[u8], b: usize, k: u32) -> u32
@@ -158,7 +159,7 @@ fn packed(
 // What the figures of the full analysis give: K is `close`, and `last` the last window.
 fn by_figures(s: &[u8], at: usize, k: u32, close: u32, latency: u32, late: u32, last: u64) -> Answer
     requires { ⌜ Taken (now s) × (at < tableOf (now s) .count) × Asked (rowOf (tableOf (now s)) at) k close latency late last ⌝ }
-    ensures { λ r. ⌜ r ≡ byFigures (rowOf (tableOf (now (s .entry))) at) (othersOf (tableOf (now (s .entry))) at) (overloads (rowOf (tableOf (now (s .entry))) at) (others (tableOf (now (s .entry))) at)) k close latency late last ⌝ }
+    ensures { λ r. ⌜ r ≡ byFigures (rowOf (tableOf (now (s .entry))) at) (viewsOf (tableOf (now (s .entry))) at) (overloads (rowOf (tableOf (now (s .entry))) at) (others (tableOf (now (s .entry))) at)) k close latency late last ⌝ }
 {
     if late == 0 {
         return Answer::Misses(0);
@@ -187,8 +188,8 @@ fn by_figures(s: &[u8], at: usize, k: u32, close: u32, latency: u32, late: u32, 
 
 // 16 or 17, or what the figures give.
 fn by_bound(s: &[u8], at: usize, k: u32, w: Windows) -> Answer
-    requires { ⌜ Taken (now s) × (at < tableOf (now s) .count) × (earlyOf (rowOf (tableOf (now s)) at) k ≡ 0) × (w ≡ boundOf (rowOf (tableOf (now s)) at) (othersOf (tableOf (now s)) at)) ⌝ }
-    ensures { λ r. ⌜ r ≡ byBound (rowOf (tableOf (now (s .entry))) at) (othersOf (tableOf (now (s .entry))) at) (overloads (rowOf (tableOf (now (s .entry))) at) (others (tableOf (now (s .entry))) at)) k (w .answer) (w .last) ⌝ }
+    requires { ⌜ Taken (now s) × (at < tableOf (now s) .count) × (earlyOf (rowOf (tableOf (now s)) at) k ≡ 0) × (w ≡ boundOf (rowOf (tableOf (now s)) at) (viewsOf (tableOf (now s)) at)) ⌝ }
+    ensures { λ r. ⌜ r ≡ byBound (rowOf (tableOf (now (s .entry))) at) (viewsOf (tableOf (now (s .entry))) at) (overloads (rowOf (tableOf (now (s .entry))) at) (others (tableOf (now (s .entry))) at)) k (w .answer) (w .last) ⌝ }
 {
     let answer = w.answer;
     match answer {
@@ -204,7 +205,7 @@ fn by_bound(s: &[u8], at: usize, k: u32, w: Windows) -> Answer
 
 // The misses of the chain `at` in a run of k activations, where its windows are worked out already.
 pub fn misses_with(s: &[u8], at: usize, k: u32, w: Windows) -> Answer
-    requires { ⌜ Taken (now s) × (at < tableOf (now s) .count) × (w ≡ boundOf (rowOf (tableOf (now s)) at) (othersOf (tableOf (now s)) at)) ⌝ }
+    requires { ⌜ Taken (now s) × (at < tableOf (now s) .count) × (w ≡ boundOf (rowOf (tableOf (now s)) at) (viewsOf (tableOf (now s)) at)) ⌝ }
     ensures { λ r. ⌜ r ≡ missesAt (tableOf (now (s .entry))) at k ⌝ }
 {
     let n = early(s, place(s, at), k);
@@ -217,7 +218,7 @@ pub fn misses_with(s: &[u8], at: usize, k: u32, w: Windows) -> Answer
 // The misses of the chain with the id, of an accepted table.
 pub fn misses_in(s: &[u8], id: u32, k: u32) -> Answer
     requires { ⌜ Taken (now s) ⌝ }
-    ensures { λ r. ⌜ r ≡ chainOf (tableOf (now (s .entry))) id k ⌝ }
+    ensures { λ r. ⌜ r ≡ missesIn (tableOf (now (s .entry))) id k ⌝ }
 {
     let at = find(s, id);
     if at == count(s) {

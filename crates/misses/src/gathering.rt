@@ -13,13 +13,15 @@ ghost use mathlib.Core.List.{List, [], _∷_, _++_};
 ghost use Prim.Native.Nat.{_+_, _*_, _≤_, _<_, min};
 ghost use Rattle.table.specs.Limits.{maxChains, maxTasks, maxCapacity};
 ghost use Rattle.table.specs.declared.Row.{Row};
-ghost use Rattle.table.specs.Record.{rowAt};
+ghost use Rattle.table.specs.Record.{rowAt, distances};
 ghost use Rattle.table.specs.Find.{rows};
-ghost use Rattle.table.specs.Taken.{tableOf, Taken, Stands};
-ghost use Rattle.arrivals.specs.Arrivals.{distances, η, longest};
+ghost use Rattle.table.specs.code.Taken.{Taken, Stands};
+ghost use Rattle.table.specs.Read.{tableOf};
+ghost use Rattle.arrivals.specs.Arrivals.{η};
+ghost use Rattle.arrivals.specs.code.Bounds.{longestSpan};
 ghost use Rattle.segments.specs.Tasks.{floorOf, tailOf};
 ghost use Rattle.misses.specs.Overloads.{Overload, overload, overloads};
-ghost use Rattle.misses.specs.Held.{heldAs, gathered};
+ghost use Rattle.misses.specs.code.Held.{heldAs, gathered};
 
 fn wide(x: u32) -> u64
     ensures { λ r. ⌜ r ≡ x ⌝ }
@@ -29,7 +31,7 @@ fn wide(x: u32) -> u64
 
 // The capacity in t of the active segments of the chain at `a`, counted no further than past its limit.
 fn capacity(s: &[u8], a: usize, t: u64) -> u8
-    requires { ⌜ Stands (now s) a × (t ≤ longest) ⌝ }
+    requires { ⌜ Stands (now s) a × (t ≤ longestSpan) ⌝ }
     ensures { λ r. ⌜ r ≡ min (maxCapacity + 1) (η (distances (rowAt (now (s .entry)) a)) t + 1) ⌝ }
 {
     (eta_up_to(s, a, t, Table::CAPACITY) + 1) as u8
@@ -53,7 +55,7 @@ impl Pieces {
     // The active segments of one overload chain more, that at `a`, against a chain with this floor and tail, and with their capacity
     // in t; past six only the count grows.
     fn beside(self, s: &[u8], a: usize, floor: u32, tail: u32, t: u64) -> Self
-        requires { ⌜ Stands (now s) a × (floor ≤ tail) × (t ≤ longest) × (self .chains < maxChains) × (self .count + maxTasks ≤ maxChains * maxTasks) ⌝ }
+        requires { ⌜ Stands (now s) a × (floor ≤ tail) × (t ≤ longestSpan) × (self .chains < maxChains) × (self .count + maxTasks ≤ maxChains * maxTasks) ⌝ }
         ensures { λ r. ⌜ ((b : Row) (os : List Overload) → floorOf b ≡ floor → tailOf b ≡ tail → self ≡ gathered t os → r ≡ gathered t (os ++ (overload (rowAt (now (s .entry)) a) b ∷ []))) ⌝ }
     {
         let found = active_segments(s, a, floor, tail);
@@ -78,7 +80,7 @@ impl Pieces {
 
     // The active segments of all overload chains of a table against the chain at `b`, with their capacities in t.
     pub fn of(s: &[u8], b: usize, t: u64) -> Self
-        requires { ⌜ Taken (now s) × Stands (now s) b × (t ≤ longest) ⌝ }
+        requires { ⌜ Taken (now s) × Stands (now s) b × (t ≤ longestSpan) ⌝ }
         ensures { λ r. ⌜ r ≡ gathered t (overloads (rowAt (now (s .entry)) b) (rows (tableOf (now (s .entry))))) ⌝ }
     {
         let floor = floor_of(s, b);

@@ -11,9 +11,10 @@ ghost use lib.ListN.{getD};
 ghost use Rattle.search.specs.Choice.{_when_else_};
 ghost use Rattle.table.specs.Limits.{maxOverloads};
 ghost use Rattle.packing.specs.Packing.{bit, combinations};
-ghost use Rattle.misses.specs.Tests.{every};
+ghost use Rattle.search.specs.Lists.{every};
 ghost use Rattle.misses.specs.Sets.{agree};
-ghost use Rattle.misses.specs.Held.{pieceAt, piecesAt, membersAt, priceOf, dearest, Few, piecesIn};
+ghost use Rattle.misses.specs.code.Held.{pieceAt, piecesAt, membersAt, priceOf, Few, piecesIn};
+ghost use Rattle.segments.specs.code.Held.{dearest};
 
 // 1 if the active segment i is in the set m, else 0.
 fn has(m: usize, i: usize) -> usize

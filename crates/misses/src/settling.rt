@@ -13,8 +13,8 @@ ghost use Prim.Native.Nat.{ℕ, _+_, _-_, _≤_, _<_, min};
 ghost use lib.ListN.{getD};
 ghost use Rattle.table.specs.Limits.{maxActivations, maxDeadline};
 ghost use Rattle.packing.specs.Packing.{combinations};
-ghost use Rattle.windows.specs.Load.{most, loadOf, Sound};
-ghost use Rattle.misses.specs.Settling.{overIn, beyond, Settles, Open, Inside, Picks, Tells};
+ghost use Rattle.windows.specs.code.Load.{most, loadOf, Sound};
+ghost use Rattle.misses.specs.code.Settling.{overIn, beyond, Settles, Open, Inside, Picks, BadFrom};
 
 // Whether a set that costs so much is bad. The climb to each window starts where the one before ended.
 pub fn over(
@@ -126,7 +126,7 @@ pub fn lowest_bad(
     costs: &[u64; COMBINATIONS],
 ) -> u64
     requires { ⌜ Sound (loadOf (now s) own (now rates) (now places)) × (deadline ≤ maxDeadline) × (k ≤ maxActivations) × (own .once + beyond ≤ most) × (overIn (loadOf (now s) own (now rates) (now places)) deadline k 0 ≡ false) × ((m : ℕ) → m < combinations → getD (now costs) m 0 < beyond) ⌝ }
-    ensures { λ r. ⌜ Tells (overIn (loadOf (now (s .entry)) own (now (rates .entry)) (now (places .entry))) deadline k) (now (costs .entry)) r ⌝ }
+    ensures { λ r. ⌜ BadFrom (overIn (loadOf (now (s .entry)) own (now (rates .entry)) (now (places .entry))) deadline k) (now (costs .entry)) r ⌝ }
 {
     let mut ends = Settled {
         good: 0,

@@ -8,13 +8,13 @@ use lib.ListN.{length, take, drop, length-append}
 use lib.Seq.{take-suc, take-at}
 use Rattle.table.specs.Bytes.{Bytes}
 use Rattle.table.specs.Find.{none, rowOf, rows, findOf}
-use Rattle.table.specs.Good.{GoodTable}
+use Rattle.table.specs.code.Good.{GoodTable}
 use Rattle.table.specs.Read.{byVerdict, readTable}
 use Rattle.table.specs.declared.Table.{Table}
 use Rattle.table.specs.declared.Verdict.the-variants.{Accepted, Refused as Faulty}
 use Rattle.table.proofs.Accepted.{taken}
 use Rattle.table.proofs.Finds.{find-is}
-use Rattle.windows.specs.Demand.{othersOf}
+use Rattle.windows.specs.Demand.{viewsOf}
 use Rattle.windows.specs.Latency.{boundOf, latencyOf}
 use Rattle.windows.proofs.Answers.{latency-accepted}
 use Rattle.windows.proofs.Answers.{chain-found as latency-found}
@@ -22,7 +22,7 @@ use Rattle.misses.specs.Misses.{missesAt, missesOf}
 use Rattle.misses.proofs.Answers.{misses-accepted}
 use Rattle.misses.proofs.Answers.{chain-found as misses-found}
 use Rattle.report_text.specs.Report.{header, missRun, lineText, lineOf, refusedText, reportOf, longest, Reported}
-use Rattle.report_text.specs.Writing.{Wrote, lineIn, linesIn}
+use Rattle.report_text.specs.code.Writing.{Wrote, lineIn, linesIn}
 use Rattle.report_text.proofs.Writes.{wrote-none}
 
 flatMap-more : {A : Type 0} (f : A → List ℕ) (l : List A) (a : A) → flatMap f (l ++ (a ∷ [])) ≡ flatMap f l ++ f a
@@ -49,10 +49,10 @@ module _ (s : List ℕ) (bytes : Bytes s) (yes : readTable s .verdict ≡ Accept
     found : findOf t (rowOf t k .id) ≡ k
     found = find-is t good k h
 
-    latency-is : latencyOf s (rowOf t k .id) ≡ boundOf (rowOf t k) (othersOf t k) .answer
+    latency-is : latencyOf s (rowOf t k .id) ≡ boundOf (rowOf t k) (viewsOf t k) .answer
     latency-is =
         latency-accepted s (rowOf t k .id) yes ∙ latency-found t (rowOf t k .id) (λ e. omega (arith, e, found, h))
-        ∙ ap (λ j. boundOf (rowOf t j) (othersOf t j) .answer) found
+        ∙ ap (λ j. boundOf (rowOf t j) (viewsOf t j) .answer) found
 
     misses-is : missesOf s (rowOf t k .id) missRun ≡ missesAt t k missRun
     misses-is =

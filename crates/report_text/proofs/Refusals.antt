@@ -17,7 +17,7 @@ use Rattle.table.specs.declared.Row.{Row}
 use Rattle.segments.specs.View.{View}
 use Rattle.report_text.specs.Numbers.{decimal, digits}
 use Rattle.report_text.specs.Report.{after, refusal}
-use Rattle.report_text.specs.Writing.{Bounded}
+use Rattle.report_text.specs.code.Writing.{Bounded}
 
 windows-bounded : (demand : ℕ → ℕ → ℕ) (ds : List ℕ) (deadline : ℕ) → Bounded (windowsOf demand ds deadline .answer)
 unfolding windowsOf

@@ -5,8 +5,7 @@ use mathlib.Core.List.{List, [], _∷_, _++_, flatMap}
 use lib.ListN.{length, drop}
 use Rattle.table.specs.Find.{rows}
 use Rattle.table.specs.Limits.{maxChains}
-use Rattle.table.specs.Read.{byVerdict, readTable}
-use Rattle.table.specs.Taken.{tableOf}
+use Rattle.table.specs.Read.{byVerdict, readTable, tableOf}
 use Rattle.table.specs.declared.Row.{Row}
 use Rattle.windows.specs.Latency.{latencyOf}
 use Rattle.windows.specs.declared.Answer.{Answer as Latency}

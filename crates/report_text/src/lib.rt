@@ -13,9 +13,10 @@ use text::put_text;
 ghost use mathlib.Core.List.{_++_};
 ghost use Prim.Native.Nat.{_≤_};
 ghost use lib.ListN.{length};
-ghost use Rattle.table.specs.Taken.{tableOf, Taken};
+ghost use Rattle.table.specs.code.Taken.{Taken};
+ghost use Rattle.table.specs.Read.{tableOf};
 ghost use Rattle.report_text.specs.Report.{header, refusedText, longest, Reported};
-ghost use Rattle.report_text.specs.Writing.{Wrote, linesIn};
+ghost use Rattle.report_text.specs.code.Writing.{Wrote, linesIn};
 
 // The longest line, and the longest report: the header and a line for each chain.
 const LINE: usize = 68;

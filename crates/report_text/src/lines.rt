@@ -15,9 +15,10 @@ ghost use mathlib.Core.Path.{_≡_};
 ghost use mathlib.Core.Logic.{_⊎_};
 ghost use Prim.Native.Nat.{_+_, _≤_, _<_};
 ghost use lib.ListN.{length};
-ghost use Rattle.table.specs.Taken.{tableOf, Taken};
+ghost use Rattle.table.specs.code.Taken.{Taken};
+ghost use Rattle.table.specs.Read.{tableOf};
 ghost use Rattle.report_text.specs.Report.{after, refusal, missedText, answersText};
-ghost use Rattle.report_text.specs.Writing.{Wrote, Bounded, lineIn};
+ghost use Rattle.report_text.specs.code.Writing.{Wrote, Bounded, lineIn};
 
 // The run of activations whose misses the report gives.
 const MISS_RUN: u32 = 10;

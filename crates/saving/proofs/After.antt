@@ -10,8 +10,8 @@ use borrow.Author.Tests.{ltb-false, ne-eqb}
 use Rattle.search.specs.Choice.{_when_else_}
 use Rattle.table.specs.Bytes.{Bytes}
 use Rattle.table.specs.Find.{rowOf}
-use Rattle.table.specs.Place.{size, placeOf}
-use Rattle.table.specs.Taken.{tableOf}
+use Rattle.table.specs.Place.{lengthOf, placeOf}
+use Rattle.table.specs.Read.{tableOf}
 use Rattle.search.proofs.Choice.{when-yes, when-no}
 use Rattle.table.proofs.Firsts.{when-zero}
 use Rattle.saving.specs.Save.{numberOf, figuresOf, seenOf, resultOf, saveFault, answerOf, written, savedOf}
@@ -61,7 +61,7 @@ pub bytes-result : (s old new : List ℕ) → Bytes s → Bytes new → Bytes (r
 unfolding resultOf
 bytes-result s old new h w =
     let at = placeOf (tableOf s) (seenOf s old) in
-    let n = size (rowOf (tableOf s) (seenOf s old)) in
+    let n = lengthOf (rowOf (tableOf s) (seenOf s old)) in
     bytes-append (take at s ++ new) (drop (at + n) s) (bytes-append (take at s) new (bytes-take at s h) w) (bytes-drop (at + n) s h)
 
 module _ (x : State) (e : Edit) where

@@ -6,14 +6,14 @@ use mathlib.Core.List.{List}
 use lib.ListN.{getD}
 use lib.Seq.{ext-getD}
 use Rattle.table.specs.Bytes.{word}
-use Rattle.table.specs.Record.{idAt, kindAt, overloadAt, deadlineAt, gapAt, listedAt, tasksAt, firstTask, lengthAt, priorityAt, costAt, distancesAt, prioritiesAt, costsAt, every, rowAt}
+use Rattle.table.specs.Record.{idAt, kindAt, overloadAt, deadlineAt, gapAt, listedAt, tasksAt, firstTask, lengthAt, priorityAt, costAt, distancesAt, prioritiesAt, costsAt, spaced, rowAt}
 use Rattle.table.proofs.Lists.{length-every, every-at}
 
 -- numbers read one every so many bytes, from two places that give the same ones
-pub every-alike : (f g : ℕ → ℕ) (step n at to : ℕ) → ((k : ℕ) → k < n → f (at + step * k) ≡ g (to + step * k)) → every f step n at ≡ every g step n to
+pub every-alike : (f g : ℕ → ℕ) (step n at to : ℕ) → ((k : ℕ) → k < n → f (at + step * k) ≡ g (to + step * k)) → spaced f step n at ≡ spaced g step n to
 every-alike f g step n at to e =
     let a = length-every f step n at in
-    ext-getD 0 (every f step n at) (every g step n to) (a ∙ sym (length-every g step n to))
+    ext-getD 0 (spaced f step n at) (spaced g step n to) (a ∙ sym (length-every g step n to))
     (λ k h. let l : k < n = omega (arith, h, a) in every-at f step n k at l ∙ e k l ∙ sym (every-at g step n k to l))
 
 module _ (s r : List ℕ) where
@@ -67,7 +67,7 @@ module _ (s r : List ℕ) where
 
     -- one number of each task
     of-tasks : (f g : ℕ → ℕ) → ((p q k : ℕ) → k < tasksAt r to → p ≡ at + (16 + 4 * listedAt r to + 8 * k) → q ≡ to + (16 + 4 * listedAt r to + 8 * k) → f p ≡ g q)
-        → every f 8 (tasksAt s at) (firstTask s at) ≡ every g 8 (tasksAt r to) (firstTask r to)
+        → spaced f 8 (tasksAt s at) (firstTask s at) ≡ spaced g 8 (tasksAt r to) (firstTask r to)
     of-tasks f g e = rw (listed-alike, tasks-alike) (every-alike f g 8 (tasksAt r to) (at + 16 + 4 * listedAt r to) (firstTask r to)
         (λ k l. e _ _ k l (omega arith) (omega arith)))
 

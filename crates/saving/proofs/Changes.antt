@@ -13,12 +13,11 @@ use Rattle.table.specs.Bytes.{word, Bytes}
 use Rattle.table.specs.Record.{idAt, lengthAt}
 use Rattle.table.specs.Find.{rowOf, rows}
 use Rattle.table.specs.Fault.{markOf}
-use Rattle.table.specs.Read.{accepted, readTable}
-use Rattle.table.specs.Place.{size, placeOf}
+use Rattle.table.specs.Read.{accepted, readTable, tableOf}
+use Rattle.table.specs.Place.{lengthOf, placeOf}
 use Rattle.table.specs.declared.Mark.{Mark}
 use Rattle.table.specs.declared.Mark.the-variants.{Chain, Task, End, Other}
 use Rattle.table.specs.declared.Table.{Table}
-use Rattle.table.specs.Taken.{tableOf}
 use Rattle.search.proofs.Choice.{true-not-false}
 use Rattle.table.proofs.Firsts.{none-or}
 use Rattle.saving.specs.Save.{readFault, recordOf, seenOf, isChain, unfit, splice, resultOf}
@@ -56,7 +55,7 @@ unfolding unfit
 whole-fit r id w e = rw (le-ltb (length r) 16 (omega (arith, w .long)), w .mark, eq-eqb _ _ (w .long), eq-eqb _ _ e)
 
 -- the result by its parts
-result-splice : (s old new : List ℕ) → resultOf s old new ≡ splice s (placeOf (tableOf s) (seenOf s old)) (size (rowOf (tableOf s) (seenOf s old))) new
+result-splice : (s old new : List ℕ) → resultOf s old new ≡ splice s (placeOf (tableOf s) (seenOf s old)) (lengthOf (rowOf (tableOf s) (seenOf s old))) new
 unfolding resultOf
 result-splice s old new = refl
 
@@ -73,8 +72,8 @@ module _ (s : List ℕ) (none : readFault s ≡ 0) where
     own-result =
         let j = seenOf s (recordOf s k) in
         result-splice s (recordOf s k) (recordOf s k)
-        ∙ ap (splice s (placeOf (tableOf s) j) (size (rowOf (tableOf s) j))) (sym own-there ∙ record-is s (tableOf s) (read-accepted s none) j)
-        ∙ splice-same s (placeOf (tableOf s) j) (size (rowOf (tableOf s) j))
+        ∙ ap (splice s (placeOf (tableOf s) j) (lengthOf (rowOf (tableOf s) j))) (sym own-there ∙ record-is s (tableOf s) (read-accepted s none) j)
+        ∙ splice-same s (placeOf (tableOf s) j) (lengthOf (rowOf (tableOf s) j))
 
   pub own-passes : Bytes s → (k : ℕ) (l : k < tableOf s .count) (room : ℕ) → length s ≤ room → Passed room s (recordOf s k) (recordOf s k)
   own-passes bytes k l room h =
@@ -177,7 +176,7 @@ module _ (room : ℕ) (s old new : List ℕ) (p : Passed room s old new) (bytes 
       let u = tableOf result in
       let same-again : set (set rs k new) k old ≡ rs = set-set rs k new old ∙ ap (set rs k) (sym (stored-record k is-seen ∙ seen-old)) ∙ set-getD rs k [] in
       result-splice result new old
-      ∙ ap (λ (j : ℕ). splice result (placeOf u j) (size (rowOf u j)) old) new-seen
+      ∙ ap (λ (j : ℕ). splice result (placeOf u j) (lengthOf (rowOf u j)) old) new-seen
       ∙ split-put result u is-read result-bytes (set rs k new) end split k (omega (arith, is-seen, count-kept)) old old-whole .bytes
       ∙ ap (λ (l : List (List ℕ)). flatten l ++ end) same-again
       ∙ sym (split-of s t was-read bytes .bytes)

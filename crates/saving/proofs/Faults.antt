@@ -7,7 +7,7 @@ use lib.ListN.{length, take}
 use borrow.Author.Tests.{lt-ltb, le-ltb, eq-eqb, ne-eqb, ltb-false, eqb-false}
 use Rattle.search.specs.Choice.{_when_else_}
 use Rattle.table.specs.Find.{rowOf}
-use Rattle.table.specs.Taken.{tableOf}
+use Rattle.table.specs.Read.{tableOf}
 use Rattle.search.proofs.Choice.{when-yes, when-no}
 use Rattle.table.proofs.Firsts.{then-stop, then-go, then-zero, when-zero}
 use Rattle.saving.specs.Save.{readFault, seenOf, unfit, resultOf, resultFault, changeFault, saveFault, answerOf, written, savedOf, bufferAfter, Saves}

@@ -39,7 +39,7 @@ stands s at r rest e w i h =
 not-refused : (n : ℕ) → refusal n .verdict ≡ Accepted → ⊥
 not-refused n e = let z : _≡_ {A = ℕ} 0 1 = cc in omega arith
 
-unless-passed : (n : ℕ) (r : Reading) → unless n r .verdict ≡ Accepted → (n ≡ 0) × (unless n r ≡ r)
+unless-passed : (n : ℕ) (r : Reading) → unless refusal n r .verdict ≡ Accepted → (n ≡ 0) × (unless refusal n r ≡ r)
 unfolding unless
 unless-passed zero r e = (refl, refl)
 unless-passed (suc n) r e = absurd (not-refused (suc n) e)
@@ -66,7 +66,7 @@ module _ (s : List ℕ) where
     end-read : (markOf (word 2 s at) ≡ Chain → ⊥) → go at t .table ≡ t
     end-read c = by (markOf (word 2 s at)) refl
       where
-        marked : (m : Mark) → markOf (word 2 s at) ≡ m → go at t ≡ byMark m (refusal 11) (unless (endFault s at t) (accepted t))
+        marked : (m : Mark) → markOf (word 2 s at) ≡ m → go at t ≡ byMark m (refusal 11) (unless refusal (endFault s at t) (accepted t))
         marked m e = records-mark s at t there (maxChains - t .count) m e (λ z. c (e ∙ z))
 
         by : (m : Mark) → markOf (word 2 s at) ≡ m → go at t .table ≡ t

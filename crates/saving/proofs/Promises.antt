@@ -14,8 +14,7 @@ use Rattle.table.specs.Limits.{maxBytes}
 use Rattle.table.specs.Bytes.{Bytes}
 use Rattle.table.specs.Record.{idAt}
 use Rattle.table.specs.Find.{rowOf, rows}
-use Rattle.table.specs.Read.{accepted, readTable}
-use Rattle.table.specs.Taken.{tableOf}
+use Rattle.table.specs.Read.{accepted, readTable, tableOf}
 use Rattle.saving.specs.Save.{numberOf, saveFault, recordOf, seenOf, resultOf, changeFault, answerOf, written, savedOf, Saves}
 use Rattle.saving.specs.Later.{State, stored, Holding, Edit, answer, after, afterAll, Never}
 use Rattle.saving.specs.declared.Saved.{Saved}

@@ -11,7 +11,7 @@ use Rattle.table.specs.Record.{idAt, lengthAt, rowAt}
 use Rattle.table.specs.Find.{none, rowOf}
 use Rattle.table.specs.Fault.{markOf}
 use Rattle.table.specs.Read.{accepted, readTable}
-use Rattle.table.specs.Place.{size, placeOf}
+use Rattle.table.specs.Place.{lengthOf, placeOf}
 use Rattle.table.specs.declared.Row.{Row}
 use Rattle.table.specs.declared.Table.{Table}
 use Rattle.table.proofs.Standing.{place-none, place-on}
@@ -39,16 +39,16 @@ records-at s (suc n) k (suc j) h = let e : k + suc j ≡ k + 1 + j = omega arith
 
 module _ (s : List ℕ) (t : Table) (read : readTable s ≡ accepted t) (bytes : Bytes s) where
   module _ (k : ℕ) (h : k < t .count) where
-    size-there : lengthAt s (placeOf t k) ≡ size (rowOf t k)
+    size-there : lengthAt s (placeOf t k) ≡ lengthOf (rowOf t k)
     unfolding rowAt
-    size-there = ap size (stored-holds s t read bytes .makes k h)
+    size-there = ap lengthOf (stored-holds s t read bytes .makes k h)
 
     alike : Alike (recordOf s k) s 0 (placeOf t k) (lengthAt s (placeOf t k))
     unfolding Alike
     alike i l =
         let e : 0 + i ≡ i = omega arith in
-        let m : i < size (rowOf t k) = omega (arith, size-there) in
-        rw (e, record-is s t read k, getD-take (size (rowOf t k)) (drop (placeOf t k) s) i 0 m) (getD-drop (placeOf t k) s i 0)
+        let m : i < lengthOf (rowOf t k) = omega (arith, size-there) in
+        rw (e, record-is s t read k, getD-take (lengthOf (rowOf t k)) (drop (placeOf t k) s) i 0 m) (getD-drop (placeOf t k) s i 0)
 
     pub record-whole : Whole (recordOf s k)
     record-whole = record {
@@ -76,7 +76,7 @@ module _ (s : List ℕ) (t : Table) (read : readTable s ≡ accepted t) (bytes :
   unfolding recordsFrom flatten
   one-after-the-other zero k h = let e : k + 0 ≡ k = omega arith in rw e
   one-after-the-other (suc n) k h =
-      let z = size (rowOf t k) in
+      let z = lengthOf (rowOf t k) in
       let good = stored-good s t read bytes in
       let next : placeOf t k + z ≡ placeOf t (k + 1) = sym (place-on t k (omega (arith, good .few, good .size))) in
       let e : k + 1 + n ≡ k + suc n = omega arith in
@@ -110,15 +110,15 @@ module _ (s : List ℕ) (t : Table) (read : readTable s ≡ accepted t) (bytes :
     place-there : placeOf t k ≡ length (flatten (take k rs))
     unfolding placeOf
     place-there =
-        ap (sumOf size) (sym (take-take k (t .count) (t .row) (omega arith)) ∙ ap (take k) (split-rows s t read rs e p))
+        ap (sumOf lengthOf) (sym (take-take k (t .count) (t .row) (omega arith)) ∙ ap (take k) (split-rows s t read rs e p))
         ∙ place-sum s rs e p k within
 
-    size-is : size (rowOf t k) ≡ length (getD rs k [])
-    size-is = ap size row-there ∙ row-size (getD rs k []) (all-at Whole rs k [] (p .whole) within)
+    size-is : lengthOf (rowOf t k) ≡ length (getD rs k [])
+    size-is = ap lengthOf row-there ∙ row-size (getD rs k []) (all-at Whole rs k [] (p .whole) within)
 
     pub split-record : recordOf s k ≡ getD rs k []
-    split-record = record-is s t read k ∙ stands-there s rs e p k within (placeOf t k) (size (rowOf t k)) place-there size-is
+    split-record = record-is s t read k ∙ stands-there s rs e p k within (placeOf t k) (lengthOf (rowOf t k)) place-there size-is
 
     -- another record in the place of one
-    pub split-put : (new : List ℕ) → Whole new → Split (splice s (placeOf t k) (size (rowOf t k)) new) (set rs k new) e
-    split-put new w = split-splice s rs e p k within (placeOf t k) (size (rowOf t k)) place-there size-is new w
+    pub split-put : (new : List ℕ) → Whole new → Split (splice s (placeOf t k) (lengthOf (rowOf t k)) new) (set rs k new) e
+    split-put new w = split-splice s rs e p k within (placeOf t k) (lengthOf (rowOf t k)) place-there size-is new w

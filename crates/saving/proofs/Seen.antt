@@ -9,9 +9,8 @@ use Rattle.search.proofs.Choice.{true-not-false}
 use Rattle.search.proofs.Find.{first-le, first-hit, first-miss, first-is, first-none}
 use Rattle.table.specs.Bytes.{Bytes}
 use Rattle.table.specs.Find.{rowOf}
-use Rattle.table.specs.Read.{accepted, readTable}
-use Rattle.table.specs.Place.{size, placeOf}
-use Rattle.table.specs.Taken.{tableOf}
+use Rattle.table.specs.Read.{accepted, readTable, tableOf}
+use Rattle.table.specs.Place.{lengthOf, placeOf}
 use Rattle.saving.specs.Save.{same, recordOf, seenOf, splice, resultOf}
 use Rattle.saving.proofs.Same.{same-true, same-yes}
 use Rattle.saving.proofs.Splices.{splice-length}
@@ -49,7 +48,7 @@ module _ (s old : List ℕ) where
 
   -- where one is, it takes as many bytes as the old one, and the result is the new one in their place
   module _ (read : readTable s ≡ accepted (tableOf s)) (bytes : Bytes s) (h : seenOf s old < tableOf s .count) where
-    seen-size : length old ≡ size (rowOf (tableOf s) (seenOf s old))
+    seen-size : length old ≡ lengthOf (rowOf (tableOf s) (seenOf s old))
     seen-size = ap length (sym (seen-record h)) ∙ record-size s (tableOf s) read bytes (seenOf s old) h
 
     pub seen-inside : placeOf (tableOf s) (seenOf s old) + length old ≤ length s

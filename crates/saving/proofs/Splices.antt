@@ -6,7 +6,7 @@ use mathlib.Core.List.{List, [], _++_, append-assoc, append-nil}
 use lib.ListN.{length, take, drop, replicate, length-append, length-take, length-drop, take-append-drop}
 use lib.Seq.{length-take-le, take-at, drop-at, take-add, drop-drop}
 use Rattle.saving.specs.Save.{splice, written}
-use Rattle.saving.specs.Begins.{Begins}
+use Rattle.saving.specs.code.Begins.{Begins}
 
 pub splice-length : (s : List ℕ) (at n : ℕ) (new : List ℕ) → at + n ≤ length s → length (splice s at n new) ≡ length s - n + length new
 splice-length s at n new h = simp (length-append, length-take, length-drop) (omega arith)

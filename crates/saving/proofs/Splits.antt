@@ -9,7 +9,7 @@ use Rattle.search.specs.Lists.{sumOf, All}
 use Rattle.table.specs.Bytes.{word}
 use Rattle.table.specs.Record.{lengthAt, rowAt}
 use Rattle.table.specs.Fault.{markOf}
-use Rattle.table.specs.Place.{size}
+use Rattle.table.specs.Place.{lengthOf}
 use Rattle.table.specs.declared.Row.{Row}
 use Rattle.table.specs.declared.Mark.the-variants.{Chain}
 use Rattle.saving.specs.Save.{splice}
@@ -65,11 +65,11 @@ map-set f (x ∷ l) zero a = refl
 map-set f (x ∷ l) (suc k) a = ap (λ (m : List _). f x ∷ m) (map-set f l k a)
 
 -- the records take as many bytes as their rows say
-pub row-size : (r : List ℕ) → Whole r → size (rowIn r) ≡ length r
+pub row-size : (r : List ℕ) → Whole r → lengthOf (rowIn r) ≡ length r
 unfolding rowAt
 row-size r w = sym (w .long)
 
-sizes : (rs : List (List ℕ)) → All Whole rs → sumOf size (map rowIn rs) ≡ length (flatten rs)
+sizes : (rs : List (List ℕ)) → All Whole rs → sumOf lengthOf (map rowIn rs) ≡ length (flatten rs)
 unfolding sumOf flatten
 sizes [] h = refl
 sizes (r ∷ rs) h = omega (arith, row-size r (h .0), sizes rs (h .1), length-append r (flatten rs))
@@ -89,7 +89,7 @@ module _ (s : List ℕ) (rs : List (List ℕ)) (e : List ℕ) (p : Split s rs e)
   parted = p .bytes ∙ ap (λ (l : List (List ℕ)). flatten l ++ e) (split-at rs k [] h) ∙ rw (flatten-append, append-assoc, append-assoc)
 
   -- the records before it take as many bytes as the sum of their rows' sizes
-  pub place-sum : sumOf size (take k (map rowIn rs)) ≡ length before
+  pub place-sum : sumOf lengthOf (take k (map rowIn rs)) ≡ length before
   place-sum = rw map-take (sizes (take k rs) (all-take Whole k rs (p .whole)))
 
   -- there it stands

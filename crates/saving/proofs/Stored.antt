@@ -6,11 +6,11 @@ use native.Mathlib.Omega.{arith}
 use lib.ListN.{length, take, drop, length-take, length-drop}
 use Rattle.table.specs.Bytes.{Bytes}
 use Rattle.table.specs.Find.{rowOf}
-use Rattle.table.specs.Read.{accepted, readTable}
+use Rattle.table.specs.Read.{accepted, readTable, tableOf}
 use Rattle.table.specs.declared.Reading.{Reading}
-use Rattle.table.specs.Place.{size, placeOf, Holds}
-use Rattle.table.specs.Good.{GoodTable}
-use Rattle.table.specs.Taken.{tableOf, Taken}
+use Rattle.table.specs.Place.{lengthOf, placeOf}
+use Rattle.table.specs.code.Good.{GoodTable}
+use Rattle.table.specs.code.Taken.{Taken, Holds}
 use Rattle.table.specs.declared.Table.{Table}
 use Rattle.table.proofs.Accepted.{taken}
 use Rattle.saving.specs.Save.{recordOf}
@@ -19,7 +19,7 @@ module _ (s : List ℕ) (t : Table) (read : readTable s ≡ accepted t) where
   pub table-is : tableOf s ≡ t
   table-is = ap (λ (r : Reading). r .table) read
 
-  pub record-is : (k : ℕ) → recordOf s k ≡ take (size (rowOf t k)) (drop (placeOf t k) s)
+  pub record-is : (k : ℕ) → recordOf s k ≡ take (lengthOf (rowOf t k)) (drop (placeOf t k) s)
   unfolding recordOf
   record-is k = rw table-is
 
@@ -33,5 +33,5 @@ module _ (s : List ℕ) (t : Table) (read : readTable s ≡ accepted t) where
   stored-holds bytes = subst (Holds s) table-is (stored-taken bytes .holds)
 
   -- a stored record is whole
-  pub record-size : Bytes s → (k : ℕ) → k < t .count → length (recordOf s k) ≡ size (rowOf t k)
+  pub record-size : Bytes s → (k : ℕ) → k < t .count → length (recordOf s k) ≡ lengthOf (rowOf t k)
   record-size bytes k h = rw (record-is k, length-take, length-drop) (omega (arith, stored-holds bytes .inside k h))

@@ -13,10 +13,9 @@ use Rattle.table.specs.Limits.{maxChains, maxBytes}
 use Rattle.table.specs.Bytes.{word}
 use Rattle.table.specs.Record.{rowAt, lengthAt}
 use Rattle.table.specs.Fault.{markOf, chainFault, endFault}
-use Rattle.table.specs.Read.{empty, plus, refusal, accepted, unless, byMark, start, records, readTable, numberOf}
+use Rattle.table.specs.Read.{empty, plus, refusal, accepted, unless, byMark, start, records, readTable, numberOf, tableOf}
 use Rattle.table.specs.declared.Reading.{Reading}
 use Rattle.table.specs.declared.Table.{Table}
-use Rattle.table.specs.Taken.{tableOf}
 use Rattle.table.specs.declared.Mark.{Mark}
 use Rattle.table.specs.declared.Mark.the-variants.{Chain, Task, End, Other}
 use Rattle.table.proofs.Firsts.{or-left, or-right}
@@ -30,7 +29,7 @@ refused : (n : ℕ) → Right (refusal (suc n))
 unfolding Right
 refused n e = absurd (omega (arith, e))
 
-unless-right : (n : ℕ) (r : Reading) → Right r → Right (unless n r)
+unless-right : (n : ℕ) (r : Reading) → Right r → Right (unless refusal n r)
 unfolding unless
 unless-right zero r h = h
 unless-right (suc n) r h = refused n
@@ -42,7 +41,7 @@ start-right s at t chain h = when-cases Right (ltb (length s) (at + 2)) (λ e. r
     end : Right (accepted t)
     end e = refl
 
-    by : (m : Mark) → Right (byMark m chain (unless (endFault s at t) (accepted t)))
+    by : (m : Mark) → Right (byMark m chain (unless refusal (endFault s at t) (accepted t)))
     by Chain = h
     by Task = refused 2
     by End = unless-right (endFault s at t) (accepted t) end

@@ -1,3 +1,3 @@
 pub mod Save
-pub mod Begins
 pub mod Later
+pub mod code

@@ -11,9 +11,8 @@ use Rattle.table.specs.Bytes.{word}
 use Rattle.table.specs.Record.{idAt, lengthAt}
 use Rattle.table.specs.Find.{rowOf}
 use Rattle.table.specs.Fault.{_then_, markOf}
-use Rattle.table.specs.Read.{numberOf as verdictNumber, readTable}
-use Rattle.table.specs.Place.{size, placeOf}
-use Rattle.table.specs.Taken.{tableOf}
+use Rattle.table.specs.Read.{numberOf as verdictNumber, readTable, tableOf}
+use Rattle.table.specs.Place.{lengthOf, placeOf}
 use Rattle.table.specs.declared.Mark.{Mark}
 use Rattle.table.specs.declared.Mark.the-variants.{Chain, Task, End, Other}
 use Rattle.saving.specs.declared.Saved.{Saved}
@@ -42,7 +41,7 @@ same (a ∷ s) (b ∷ t) = eqb a b && same s t
 
 -- the whole stored record of the chain k
 unfoldable pub recordOf : List ℕ → ℕ → List ℕ
-recordOf s k = take (size (rowOf (tableOf s) k)) (drop (placeOf (tableOf s) k) s)
+recordOf s k = take (lengthOf (rowOf (tableOf s) k)) (drop (placeOf (tableOf s) k) s)
 
 -- the number of the first chain whose stored record equals the old one, the count of chains if none does
 unfoldable pub seenOf : List ℕ → List ℕ → ℕ
@@ -66,7 +65,7 @@ splice s at n new = take at s ++ new ++ drop (at + n) s
 
 -- the result: the new record in the old one's place
 unfoldable pub resultOf : List ℕ → List ℕ → List ℕ → List ℕ
-resultOf s old new = splice s (placeOf (tableOf s) (seenOf s old)) (size (rowOf (tableOf s) (seenOf s old))) new
+resultOf s old new = splice s (placeOf (tableOf s) (seenOf s old)) (lengthOf (rowOf (tableOf s) (seenOf s old))) new
 
 -- the result is longer than the buffer, which has that much room; then 1 to 11 on the result
 unfoldable pub resultFault : ℕ → List ℕ → ℕ

@@ -9,9 +9,9 @@ ghost use Prim.Native.Nat.{_+_, _≤_};
 ghost use lib.ListN.{length};
 ghost use Rattle.table.specs.Limits.{maxBytes};
 ghost use Rattle.table.specs.Read.{numberOf};
-ghost use Rattle.table.specs.Taken.{Taken};
+ghost use Rattle.table.specs.code.Taken.{Taken};
 ghost use Rattle.saving.specs.Save.{seenOf, isChain, unfit as unfitOf, splice, resultOf, resultFault, changeFault};
-ghost use Rattle.saving.specs.Begins.{Begins};
+ghost use Rattle.saving.specs.code.Begins.{Begins};
 
 // A verdict as its number, 0 where the table is accepted.
 fn number_of(v: Verdict) -> u32

@@ -4,7 +4,7 @@ ghost use mathlib.Core.Path.{_≡_};
 ghost use Prim.Native.Nat.{ℕ, _+_, _≤_, _<_};
 ghost use lib.ListN.{length, getD, replicate};
 ghost use Rattle.saving.specs.Save.{same as sameOf, splice, written};
-ghost use Rattle.saving.specs.Begins.{Begins};
+ghost use Rattle.saving.specs.code.Begins.{Begins};
 
 // How far the two agree for certain, four bytes at a time.
 fn agree(a: &[u8], b: &[u8]) -> usize

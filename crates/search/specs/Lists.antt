@@ -1,5 +1,6 @@
 -- Sums, maxima and tests over a list, by what each element gives, and lists paired off one to one.
 use Prim.Native.Nat.{ℕ, max, _+_}
+use mathlib.Core.Bool.{Bool, true, false, _&&_, _||_}
 use mathlib.Core.List.{List, [], _∷_, map, List·Permᴰ}
 
 -- the sum of what the elements give
@@ -11,6 +12,15 @@ sumOf f (a ∷ l) = f a + sumOf f l
 unfoldable pub mostOf : {A : Type 0} → (A → ℕ) → List A → ℕ
 mostOf f [] = 0
 mostOf f (a ∷ l) = max (f a) (mostOf f l)
+
+-- some element passes the test, and every one does
+unfoldable pub some : {A : Type 0} → (A → Bool) → List A → Bool
+some p [] = false
+some p (a ∷ l) = p a || some p l
+
+unfoldable pub every : {A : Type 0} → (A → Bool) → List A → Bool
+every p [] = true
+every p (a ∷ l) = p a && every p l
 
 -- P holds of each element
 abbrev pub All : {A : Type 0} → (A → Type 0) → List A → Type 0

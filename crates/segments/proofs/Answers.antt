@@ -11,9 +11,10 @@ use lib.Seq.{getD-take, getD-drop}
 use Rattle.search.proofs.Choice.{when-cases}
 use Rattle.table.specs.Limits.{maxTasks}
 use Rattle.table.specs.Bytes.{word, Bytes}
-use Rattle.table.specs.Record.{priorityAt, costAt, firstTask, every, pad, rowAt}
+use Rattle.table.specs.Record.{priorityAt, costAt, afterList, firstTask, spaced, pad, rowAt}
 use Rattle.table.specs.Find.{rowOf, findOf, used}
-use Rattle.table.specs.Place.{placeOf, Holds}
+use Rattle.table.specs.Place.{placeOf}
+use Rattle.table.specs.code.Taken.{Holds}
 use Rattle.table.specs.Read.{byVerdict, readTable}
 use Rattle.table.specs.declared.Row.{Row}
 use Rattle.table.specs.declared.Table.{Table}
@@ -25,7 +26,7 @@ use Rattle.table.proofs.Firsts.{none-or}
 use Rattle.table.proofs.Faultless.{inside}
 use Rattle.table.proofs.Accepted.{taken}
 use Rattle.segments.specs.Actives.{Active, nothing, activesOf}
-use Rattle.segments.specs.Query.{firstTaskOf, nthOf, answerOf, segmentOf, partOf}
+use Rattle.segments.specs.Query.{nthOf, answerOf, segmentOf, partOf}
 use Rattle.segments.specs.declared.Answer.the-variants.{Records, Refused}
 use Rattle.segments.proofs.Standing.{Stands, actives-stand, all-at}
 
@@ -43,7 +44,7 @@ pub record Answered (t : Table) (chain against number offset len : ℕ) : Type 0
   pub apart : chain ≡ against → ⊥
   pub low : 1 ≤ number
   pub high : number ≤ length (activesIn t chain against)
-  pub offset-is : offset ≡ firstTaskOf t (findOf t chain) + 8 * activeIn t chain against number .start
+  pub offset-is : offset ≡ afterList (placeOf t (findOf t chain)) (rowOf t (findOf t chain) .listed) + 8 * activeIn t chain against number .start
   pub length-is : len ≡ 8 * activeIn t chain against number .len
 
 -- no refusal is a figure
@@ -83,8 +84,8 @@ word-part (suc n) s from len at h =
     (word-part n s from len (at + 1) (omega arith) ∙ ap (word n s) e)
 
 -- a number of each task, filled up to the limit: the j-th stands at the j-th task record
-task-at : (f : ℕ → ℕ) (n first j : ℕ) → j < n → getD (pad maxTasks (every f 8 n first)) j 0 ≡ f (first + 8 * j)
-task-at f n first j h = pad-at maxTasks (every f 8 n first) j ∙ every-at f 8 n j first h
+task-at : (f : ℕ → ℕ) (n first j : ℕ) → j < n → getD (pad maxTasks (spaced f 8 n first)) j 0 ≡ f (first + 8 * j)
+task-at f n first j h = pad-at maxTasks (spaced f 8 n first) j ∙ every-at f 8 n j first h
 
 -- the bytes are task records: those of the tasks of an active segment of the row a, one after the other
 pub record Recorded (part : List ℕ) (a : Row) (s : Active) : Type 0 where

@@ -12,19 +12,20 @@ use lib.ListN.{length, getD}
 use Rattle.search.proofs.Choice.{when-yes, when-no}
 use Rattle.table.specs.Find.{rowOf, findOf, used}
 use Rattle.table.specs.Place.{placeOf}
-use Rattle.table.specs.Good.{GoodTable}
+use Rattle.table.specs.code.Good.{GoodTable}
 use Rattle.table.specs.declared.Row.{Row}
 use Rattle.table.specs.declared.Table.{Table}
-use Rattle.table.specs.Record.{firstTask, rowAt}
-use Rattle.table.specs.Taken.{tableOf, Taken}
+use Rattle.table.specs.Record.{afterList, firstTask, rowAt}
+use Rattle.table.specs.code.Taken.{Taken}
+use Rattle.table.specs.Read.{tableOf}
 use Rattle.table.proofs.Standing.{place-none, place-on}
 use Rattle.table.proofs.Stands.{row-there}
 use Rattle.table.proofs.Firsts.{or-left, or-right, or-none}
 use Rattle.table.proofs.Finds.{find-le}
 use Rattle.segments.specs.Tasks.{tasksOf, floorOf, tailOf}
 use Rattle.segments.specs.Actives.{nothing, actives, activesOf}
-use Rattle.segments.specs.Held.{arraysOf}
-use Rattle.segments.specs.Query.{firstTaskOf, nthOf}
+use Rattle.segments.specs.code.Held.{arraysOf}
+use Rattle.segments.specs.Query.{nthOf}
 use Rattle.segments.specs.declared.Actives.{Actives}
 use Rattle.segments.specs.declared.Answer.the-variants.{Records, Refused}
 use Rattle.segments.proofs.Bounds.{actives-tasks}
@@ -47,7 +48,7 @@ pub found-is : (a b : Row) (floor tail : ℕ) (l : Actives) → floor ≡ floorO
 found-is a b floor tail l f t e = e ∙ ap₂ (λ x y. arraysOf (actives x y (tasksOf a))) f t
 
 -- where the task records of the chain k start, by its record
-pub first-there : {s : List ℕ} (t : Taken s) {k at : ℕ} → at ≡ placeOf (tableOf s) k → k < tableOf s .count → firstTask s at ≡ firstTaskOf (tableOf s) k
+pub first-there : {s : List ℕ} (t : Taken s) {k at : ℕ} → at ≡ placeOf (tableOf s) k → k < tableOf s .count → firstTask s at ≡ afterList (placeOf (tableOf s) k) (rowOf (tableOf s) k .listed)
 unfolding rowAt
 first-there t e h = omega (arith, e, ap (λ (r : Row). r .listed) (row-there t e h))
 
@@ -78,7 +79,7 @@ module _ (t : Table) (k j n : ℕ) (l : Actives) (e : l ≡ arraysOf (activesOf 
   nth-none h = sym (when-yes _ _ (⊎-elim (λ z. or-left _ _ (lt-ltb n 1 (omega arith))) (λ z. or-right (ltb n 1) _ (count-is true z)) h))
 
   -- the task records of the one that has it, where those of the chain k start at `first`
-  pub nth-records : (first : ℕ) → first ≡ firstTaskOf t k → (n ≡ 0 → ⊥) → ltb (l .count) n ≡ false
+  pub nth-records : (first : ℕ) → first ≡ afterList (placeOf t k) (rowOf t k .listed) → (n ≡ 0 → ⊥) → ltb (l .count) n ≡ false
       → Records (first + 8 * getD (l .start) (n - 1) 0) (8 * getD (l .len) (n - 1) 0) ≡ nthOf t k j n
   unfolding nthOf
   nth-records first p some few =

@@ -9,13 +9,13 @@ use mathlib.Core.Bool.{Bool, true, false, _||_}
 use borrow.Author.Tests.{eq-eqb}
 use lib.ListN.{length, length-append, length-map}
 use Rattle.search.specs.Choice.{_when_else_}
-use Rattle.search.specs.Lists.{sumOf, All}
+use Rattle.search.specs.Lists.{sumOf, All, some}
 use Rattle.search.proofs.Lists.{sum-append, sum-ext}
 use Rattle.table.specs.Limits.{maxTasks, maxCost}
-use Rattle.table.specs.Good.{GoodRow}
+use Rattle.table.specs.code.Good.{GoodRow}
 use Rattle.table.specs.declared.Row.{Row}
-use Rattle.segments.specs.Tasks.{Task, tasksFrom, tasksOf, costOf, chainCost, floorOf, tailOf, below, at, some, before, firstCost, ownPart}
-use Rattle.segments.specs.Segments.{_on_, stretches, around, full, cuts, parts, cutSegments, segmentsOf, allCost, dearestCost}
+use Rattle.segments.specs.Tasks.{Task, tasksFrom, tasksOf, costOf, chainCost, floorOf, tailOf, below, atLevel, before, firstCost, ownPart}
+use Rattle.segments.specs.Segments.{_on_, stretches, around, nonempty, cuts, parts, cutSegments, segmentsOf, allCost, dearestCost}
 use Rattle.segments.specs.Actives.{Active, active, numbered, inOrder, actives, activesOf}
 use Rattle.segments.specs.View.{viewOf, countOf}
 use Rattle.segments.proofs.Steps.{task, rest-each, rest-length, cheap}
@@ -89,8 +89,8 @@ module _ (a : Row) (good : GoodRow a) where
   pub own-less : ownPart a < chainCost a
   own-less =
       let hit = lowest-hit (a .priority) (a .tasks - 1) in
-      before-less (at (floorOf a)) (tasksOf a)
-      (some-at (at (floorOf a)) (a .priority) (a .cost) (a .tasks) 0 (hit .0) (omega arith) (omega (arith, hit .1, good .tasks .some)) (eq-eqb _ _ (hit .2)))
+      before-less (atLevel (floorOf a)) (tasksOf a)
+      (some-at (atLevel (floorOf a)) (a .priority) (a .cost) (a .tasks) 0 (hit .0) (omega arith) (omega (arith, hit .1, good .tasks .some)) (eq-eqb _ _ (hit .2)))
       (rest-each (λ t. 1 ≤ t .cost) (a .priority) (a .cost) (a .tasks) 0 (λ j l. good .tasks .costs j (omega arith)))
 
 -- no more active segments than tasks
@@ -172,5 +172,5 @@ module _ (a b : Row) where
   actives-view =
       let ps = parts (floorOf b) (tailOf b) (tasksOf a) in
       order-length ps ∙ sym (around-sum _++_ length length-append ps) ∙ sym (full-sum length refl (around _++_ ps))
-      ∙ sum-ext length (λ l. length (map costOf l)) (full (around _++_ ps)) (λ l. sym (length-map l costOf))
-      ∙ sym (sum-map (map costOf) length (full (around _++_ ps)))
+      ∙ sum-ext length (λ l. length (map costOf l)) (nonempty (around _++_ ps)) (λ l. sym (length-map l costOf))
+      ∙ sym (sum-map (map costOf) length (nonempty (around _++_ ps)))

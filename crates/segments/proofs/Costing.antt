@@ -12,7 +12,7 @@ use Rattle.search.proofs.Choice.{when-yes, when-no}
 use Rattle.search.proofs.Lists.{sum-append}
 use Rattle.segments.specs.Tasks.{Task, tasksFrom, costOf, below, before}
 use Rattle.segments.specs.Segments.{_on_, stretches, onward, around, segments}
-use Rattle.segments.specs.Held.{stretchOf}
+use Rattle.segments.specs.code.Held.{stretchOf}
 use Rattle.segments.specs.declared.tasks.Stretch.{Stretch}
 use Rattle.segments.proofs.Steps.{rest-on, rest-end, rest-all, rest-drop, rest-length, cost-nil}
 use Rattle.segments.proofs.Lists.{sum-on, full-sum, full-most, around-sum}

@@ -15,7 +15,7 @@ use Rattle.table.specs.Record.{pad}
 use Rattle.segments.specs.Tasks.{Task, tasksFrom, costOf, below, before}
 use Rattle.segments.specs.Segments.{_on_, stretches, cuts, parts}
 use Rattle.segments.specs.Actives.{Active, active, startOf, numbered, inOrder, actives}
-use Rattle.segments.specs.Held.{stretchOf, arraysOf}
+use Rattle.segments.specs.code.Held.{stretchOf, arraysOf}
 use Rattle.segments.specs.declared.tasks.Stretch.{Stretch}
 use Rattle.segments.specs.declared.Actives.{Actives}
 use Rattle.segments.proofs.Steps.{task, rest-on, rest-end, rest-all, rest-drop, cost-cons, aheadOf, ahead-inside}

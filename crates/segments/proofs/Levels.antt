@@ -10,11 +10,11 @@ use borrow.Author.Tests.{lt-ltb, le-ltb, eq-eqb, ne-eqb, not-true}
 use lib.Dec.{eqb, eqb·suc-suc}
 use lib.ListN.{length, getD}
 use Rattle.search.specs.Choice.{_when_else_}
-use Rattle.search.specs.Lists.{All}
+use Rattle.search.specs.Lists.{All, some}
 use Rattle.search.proofs.Choice.{lt-or-le}
 use Rattle.table.specs.declared.Row.{Row}
-use Rattle.segments.specs.Tasks.{Task, tasksFrom, tasksOf, costOf, chainCost, lowest, floorOf, tailOf, below, at, some, before, ownPart}
-use Rattle.segments.specs.Held.{stretchOf}
+use Rattle.segments.specs.Tasks.{Task, tasksFrom, tasksOf, costOf, chainCost, lowest, floorOf, tailOf, below, atLevel, before, ownPart}
+use Rattle.segments.specs.code.Held.{stretchOf}
 use Rattle.segments.specs.declared.tasks.Stretch.{Stretch}
 use Rattle.segments.proofs.Steps.{rest-each, aheadOf, ahead-first}
 
@@ -48,19 +48,19 @@ unfolding lowest
 lowest-one ps = refl
 
 -- where no task lies below a level, the first at it is the first below the next
-before-at : (f : ℕ) (ts : List Task) → All (λ t. f ≤ t .priority) ts → before (at f) ts ≡ before (below (f + 1)) ts
+before-at : (f : ℕ) (ts : List Task) → All (λ t. f ≤ t .priority) ts → before (atLevel f) ts ≡ before (below (f + 1)) ts
 unfolding before
 before-at f [] h = refl
 before-at f (t ∷ ts) h = ap₂ (λ b r. [] when b else t ∷ r) same (before-at f ts (h .1))
   where
-    same : at f t ≡ below (f + 1) t
+    same : atLevel f t ≡ below (f + 1) t
     same = ⊎-elim
         (λ l. ne-eqb (t .priority) f (λ e. omega arith) ∙ sym (le-ltb (t .priority) (f + 1) (omega arith)))
         (λ l. eq-eqb (t .priority) f (omega (arith, h .0)) ∙ sym (lt-ltb (t .priority) (f + 1) (omega arith)))
         (lt-or-le f (t .priority))
 
 own-before : (ps cs : List ℕ) (n : ℕ)
-    → before (at (lowest ps (n - 1))) (tasksFrom ps cs n 0) ≡ before (below (lowest ps (n - 1) + 1)) (tasksFrom ps cs n 0)
+    → before (atLevel (lowest ps (n - 1))) (tasksFrom ps cs n 0) ≡ before (below (lowest ps (n - 1) + 1)) (tasksFrom ps cs n 0)
 own-before ps cs n =
     before-at (lowest ps (n - 1)) (tasksFrom ps cs n 0) (rest-each _ ps cs n 0 (λ j l. lowest-le ps (n - 1) j (omega arith)))
 

@@ -6,7 +6,7 @@ use mathlib.Core.List.{List, [], _∷_, _++_, append-assoc, map, flatten}
 use lib.ListN.{length}
 use Rattle.search.specs.Lists.{sumOf, mostOf, All}
 use Rattle.search.proofs.Lists.{sum-append, all-map}
-use Rattle.segments.specs.Segments.{_on_, onward, around, full}
+use Rattle.segments.specs.Segments.{_on_, onward, around, nonempty}
 
 module _ {A B : Type 0} (f : A → B) (g : B → ℕ) where
   pub sum-map : (l : List A) → sumOf g (map f l) ≡ sumOf (λ a. g (f a)) l
@@ -59,14 +59,14 @@ module _ {A : Type 0} where
 
 -- the empty ones count nothing
 module _ {A : Type 0} (f : List A → ℕ) (none : f [] ≡ 0) where
-  pub full-sum : (ls : List (List A)) → sumOf f (full ls) ≡ sumOf f ls
-  unfolding full sumOf
+  pub full-sum : (ls : List (List A)) → sumOf f (nonempty ls) ≡ sumOf f ls
+  unfolding nonempty sumOf
   full-sum [] = refl
   full-sum ([] ∷ ls) = omega (arith, full-sum ls)
   full-sum ((a ∷ l) ∷ ls) = ap (λ n. f (a ∷ l) + n) (full-sum ls)
 
-  pub full-most : (ls : List (List A)) → mostOf f (full ls) ≡ mostOf f ls
-  unfolding full mostOf
+  pub full-most : (ls : List (List A)) → mostOf f (nonempty ls) ≡ mostOf f ls
+  unfolding nonempty mostOf
   full-most [] = refl
   full-most ([] ∷ ls) = omega (arith, full-most ls)
   full-most ((a ∷ l) ∷ ls) = ap (max (f (a ∷ l))) (full-most ls)
@@ -79,8 +79,8 @@ pub solid-on : {A : Type 0} (a : A) (ls : List (List A)) → Solid ls → Solid 
 solid-on a [] h = (omega arith, tt)
 solid-on a (l ∷ ls) h = (omega arith, h .1)
 
-pub full-flatten : {A : Type 0} (ls : List (List (List A))) → All Solid ls → map flatten (full ls) ≡ full (map flatten ls)
-unfolding full flatten
+pub full-flatten : {A : Type 0} (ls : List (List (List A))) → All Solid ls → map flatten (nonempty ls) ≡ nonempty (map flatten ls)
+unfolding nonempty flatten
 full-flatten [] h = refl
 full-flatten ([] ∷ ls) h = full-flatten ls (h .1)
 full-flatten (([] ∷ l) ∷ ls) h = absurd (omega (arith, h .0 .0))

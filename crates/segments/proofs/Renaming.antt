@@ -9,7 +9,7 @@ use Rattle.search.specs.Choice.{_when_else_}
 use Rattle.search.specs.Lists.{All, Paired}
 use Rattle.table.specs.declared.Row.{Row}
 use Rattle.segments.specs.Tasks.{Task, tasksOf, floorOf, tailOf, costOf}
-use Rattle.segments.specs.Segments.{around, full, parts, cutSegments}
+use Rattle.segments.specs.Segments.{around, nonempty, parts, cutSegments}
 use Rattle.segments.specs.Actives.{actives}
 use Rattle.segments.specs.View.{viewOf, Alike}
 use Rattle.segments.specs.Items.{Item, item, itemsOf}
@@ -135,27 +135,27 @@ paired-renamed j p =
     both (perm-renamed j (p .firsts)) (both (reordered j (inner-perm j (p .pairs) (p .related))) (perm-renamed j (p .seconds)))
 
 -- the empty ones may go, and come back
-full-to : (j : ℕ) (ls : List (List ℕ)) → Renamed j (items j ls) (items j (full ls))
-unfolding full items
+full-to : (j : ℕ) (ls : List (List ℕ)) → Renamed j (items j ls) (items j (nonempty ls))
+unfolding nonempty items
 full-to j [] = reordered j List·Permᴰ·nil
 full-to j ([] ∷ ls) = both (down j ls) (full-to j ls)
-full-to j ((c ∷ l) ∷ ls) = cons j (c ∷ l) ls (full ls) (full-to (j + 1) ls)
+full-to j ((c ∷ l) ∷ ls) = cons j (c ∷ l) ls (nonempty ls) (full-to (j + 1) ls)
 
-full-from : (j : ℕ) (ls : List (List ℕ)) → Renamed j (items j (full ls)) (items j ls)
-unfolding full items
+full-from : (j : ℕ) (ls : List (List ℕ)) → Renamed j (items j (nonempty ls)) (items j ls)
+unfolding nonempty items
 full-from j [] = reordered j List·Permᴰ·nil
 full-from j ([] ∷ ls) = both (full-from j ls) (up j ls)
-full-from j ((c ∷ l) ∷ ls) = cons j (c ∷ l) (full ls) ls (full-from (j + 1) ls)
+full-from j ((c ∷ l) ∷ ls) = cons j (c ∷ l) (nonempty ls) ls (full-from (j + 1) ls)
 
-pub full-costs : (ls : List (List (List Task))) → costs (full ls) ≡ full (costs ls)
-unfolding full
+pub full-costs : (ls : List (List (List Task))) → costs (nonempty ls) ≡ nonempty (costs ls)
+unfolding nonempty
 full-costs [] = refl
 full-costs ([] ∷ ls) = full-costs ls
 full-costs ((l ∷ k) ∷ ls) = ap (λ r. map costOf (l ∷ k) ∷ r) (full-costs ls)
 
 -- the active segments by number are those of the view's segments, and these are those
 module _ (a b : Row) where
-  view-segments : viewOf a b .segments ≡ full (costs (around _++_ (parts (floorOf b) (tailOf b) (tasksOf a))))
+  view-segments : viewOf a b .segments ≡ nonempty (costs (around _++_ (parts (floorOf b) (tailOf b) (tasksOf a))))
   unfolding viewOf cutSegments
   view-segments = full-costs (around _++_ (parts (floorOf b) (tailOf b) (tasksOf a)))
 

@@ -5,12 +5,12 @@ use mathlib.Core.List.{List, [], _∷_}
 use mathlib.Core.Bool.{Bool, true, false}
 use lib.ListN.{length}
 use Rattle.search.specs.Choice.{_when_else_}
-use Rattle.search.specs.Lists.{sumOf, mostOf}
+use Rattle.search.specs.Lists.{sumOf, mostOf, some}
 use Rattle.table.specs.Limits.{maxTasks}
 use Rattle.table.specs.Record.{pad}
 use Rattle.table.specs.declared.Row.{Row}
-use Rattle.segments.specs.Tasks.{tasksFrom, chainCost, lowest, some, deferred, before, firstCost, ownPart}
-use Rattle.segments.specs.Segments.{stretches, onward, around, full, segments, segmentsOf, allCost, dearestCost, cuts, parts, cutSegments}
+use Rattle.segments.specs.Tasks.{tasksFrom, chainCost, lowest, deferred, before, firstCost, ownPart}
+use Rattle.segments.specs.Segments.{stretches, onward, around, nonempty, segments, segmentsOf, allCost, dearestCost, cuts, parts, cutSegments}
 use Rattle.segments.specs.Actives.{Active, startOf, numbered, inOrder, actives, activesOf}
 use Rattle.segments.specs.View.{viewOf}
 
@@ -47,7 +47,7 @@ even = chain (3 ∷ 5 ∷ 3 ∷ []) (1 ∷ 2 ∷ 4 ∷ [])
 
 -- chain 3 shows one segment: task 3, then task 1
 pub sample-segment : segmentsOf sample3 sample1 ≡ (record { place = 2; priority = 7; cost = 10 } ∷ record { place = 0; priority = 8; cost = 6 } ∷ []) ∷ []
-unfolding tasksFrom lowest stretches onward around full segments _when_else_
+unfolding tasksFrom lowest stretches onward around nonempty segments _when_else_
 sample-segment = refl
 
 abbrev pub act : ℕ → ℕ → ℕ → ℕ → Active
@@ -73,7 +73,7 @@ pub record ViewSamples : Type 0 where
   pub low-view : viewOf low edge .segments ≡ []
 
 pub view-samples : ViewSamples
-unfolding tasksFrom lowest stretches onward around full cuts parts cutSegments sumOf viewOf _when_else_
+unfolding tasksFrom lowest stretches onward around nonempty cuts parts cutSegments sumOf viewOf _when_else_
 view-samples = record { sample-view = refl; figure-view = refl; free-view = refl; low-view = refl }
 
 -- whether a is deferred, its cost, first-segment cost, all segments, dearest segment
@@ -89,5 +89,5 @@ pub record CostSamples : Type 0 where
   pub even-costs : costs even edge ≡ (false, 7 ∷ 7 ∷ 7 ∷ 7 ∷ [])
 
 pub cost-samples : CostSamples
-unfolding tasksFrom lowest some before stretches onward around full segments sumOf mostOf _when_else_
+unfolding tasksFrom lowest some before stretches onward around nonempty segments sumOf mostOf _when_else_
 cost-samples = record { sample-costs = refl; sample-own = refl; figure-costs = refl; free-costs = refl; low-costs = refl; even-costs = refl }

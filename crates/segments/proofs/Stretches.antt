@@ -7,10 +7,10 @@ use mathlib.Core.Bool.{Bool, true, false, _||_}
 use borrow.Author.Tests.{lt-ltb, le-ltb}
 use lib.ListN.{length, getD, drop}
 use Rattle.search.specs.Choice.{_when_else_}
-use Rattle.search.specs.Lists.{All}
+use Rattle.search.specs.Lists.{All, some}
 use Rattle.search.proofs.Lists.{all-append}
-use Rattle.segments.specs.Tasks.{Task, tasksFrom, below, before, some}
-use Rattle.segments.specs.Segments.{_on_, stretches, around, full, segments, cuts, parts, cutSegments}
+use Rattle.segments.specs.Tasks.{Task, tasksFrom, below, before}
+use Rattle.segments.specs.Segments.{_on_, stretches, around, nonempty, segments, cuts, parts, cutSegments}
 use Rattle.segments.proofs.Steps.{task, rest-on, rest-end, rest-all}
 use Rattle.segments.proofs.Lists.{flatten-on, flatten-append, Solid, solid-on, full-flatten, around-all, around-map}
 
@@ -106,7 +106,7 @@ cut-flatten floor tail ts =
     let ss = stretches (below floor) ts in
     let ps = map (cuts (below tail)) ss in
     full-flatten (around _++_ ps) (around-all _++_ Solid (all-append _) ps (all-solid (below tail) ss))
-    ∙ ap full (around-map _++_ _++_ flatten flatten-append ps ∙ ap (around _++_) (all-flatten (below tail) ss))
+    ∙ ap nonempty (around-map _++_ _++_ flatten flatten-append ps ∙ ap (around _++_) (all-flatten (below tail) ss))
 
 -- how many stretches the tasks after k others have, step by step
 module _ (ps cs : List ℕ) (n floor : ℕ) where

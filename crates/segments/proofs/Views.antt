@@ -11,7 +11,7 @@ use Rattle.search.proofs.Lists.{perm-sum, perm-most, paired-perm}
 use Rattle.search.proofs.Pairing.{paired-weaker, paired-turn, paired-order}
 use Rattle.table.specs.declared.Row.{Row}
 use Rattle.segments.specs.Tasks.{Task, tasksOf, costOf, chainCost, floorOf, tailOf, below, deferred, before, firstCost}
-use Rattle.segments.specs.Segments.{onward, around, full, segments, segmentsOf, cutSegments, allCost, dearestCost}
+use Rattle.segments.specs.Segments.{onward, around, nonempty, segments, segmentsOf, cutSegments, allCost, dearestCost}
 use Rattle.segments.specs.View.{View, viewOf, sum, allOf, dearestOf, countOf, Alike}
 use Rattle.segments.proofs.Steps.{rest-length, cost-nil}
 use Rattle.segments.proofs.Levels.{some-before, all-before, none-before}
@@ -55,12 +55,12 @@ module _ (a b : Row) where
 
   -- a chain that interferes freely is one segment, from its first task to its last
   pub free-one : deferred a b ≡ false → 0 < a .tasks → segmentsOf a b ≡ tasksOf a ∷ []
-  unfolding segments around onward full
+  unfolding segments around onward nonempty
   free-one free some =
-      ap (λ ss. full (around _++_ ss)) (stretches-none (below (floorOf b)) (tasksOf a) free)
+      ap (λ ss. nonempty (around _++_ ss)) (stretches-none (below (floorOf b)) (tasksOf a) free)
       ∙ one (tasksOf a) (omega (arith, rest-length (a .priority) (a .cost) (a .tasks) 0))
     where
-      one : (ts : List Task) → 0 < length ts → full (ts ∷ []) ≡ ts ∷ []
+      one : (ts : List Task) → 0 < length ts → nonempty (ts ∷ []) ≡ ts ∷ []
       one [] h = absurd (omega arith)
       one (t ∷ ts) h = refl
 
@@ -68,7 +68,7 @@ module _ (a b : Row) where
   pub free-cost : deferred a b ≡ false → allCost a b ≡ chainCost a
   unfolding segments around onward sumOf
   free-cost free =
-      ap (λ ss. sumOf costOf (full (around _++_ ss))) (stretches-none (below (floorOf b)) (tasksOf a) free)
+      ap (λ ss. sumOf costOf (nonempty (around _++_ ss))) (stretches-none (below (floorOf b)) (tasksOf a) free)
       ∙ full-sum costOf cost-nil (tasksOf a ∷ []) ∙ omega arith
 
   -- the figures of 01 are figures of the view

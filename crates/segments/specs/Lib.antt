@@ -1,7 +1,7 @@
 pub mod Tasks
 pub mod Segments
 pub mod Actives
-pub mod Held
 pub mod View
 pub mod Items
 pub mod Query
+pub mod code

@@ -8,10 +8,10 @@ use lib.Dec.{eqb}
 use denote.Ref.{RefT, ptr, now}
 use Rattle.search.specs.Choice.{_when_else_}
 use Rattle.table.specs.Find.{rowOf, findOf, used}
+use Rattle.table.specs.Record.{afterList}
 use Rattle.table.specs.Fault.{outside}
 use Rattle.table.specs.Place.{placeOf}
-use Rattle.table.specs.Read.{byVerdict, readTable}
-use Rattle.table.specs.Taken.{tableOf}
+use Rattle.table.specs.Read.{byVerdict, readTable, tableOf}
 use Rattle.table.specs.declared.Table.{Table}
 use Rattle.segments.specs.Actives.{Active, nothing, activesOf}
 use Rattle.segments.specs.declared.Answer.{Answer}
@@ -26,10 +26,6 @@ abbrev pub valuesOf : Answer → List ℕ
 valuesOf (Records offset len) = offset ∷ len ∷ []
 valuesOf (Refused n) = []
 
--- where the task records of the chain k start: after the fixed part of its record and its distances
-abbrev pub firstTaskOf : Table → ℕ → ℕ
-firstTaskOf t k = placeOf t k + 16 + 4 * rowOf t k .listed
-
 -- the task records of an active segment, 8 bytes each: their offset from the table's first byte, and their length
 abbrev pub recordsOf : ℕ → Active → Answer
 recordsOf first s = Records (first + 8 * s .start) (8 * s .len)
@@ -38,7 +34,7 @@ recordsOf first s = Records (first + 8 * s .start) (8 * s .len)
 unfoldable pub nthOf : Table → ℕ → ℕ → ℕ → Answer
 nthOf t k j number =
     Refused 26 when outside 1 (length (activesOf (rowOf t k) (rowOf t j))) number else
-    recordsOf (firstTaskOf t k) (getD (activesOf (rowOf t k) (rowOf t j)) (number - 1) nothing)
+    recordsOf (afterList (placeOf t k) (rowOf t k .listed)) (getD (activesOf (rowOf t k) (rowOf t j)) (number - 1) nothing)
 
 -- 12 for either id, then 25, then 26
 unfoldable pub answerOf : Table → ℕ → ℕ → ℕ → Answer

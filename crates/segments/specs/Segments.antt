@@ -5,7 +5,7 @@ use mathlib.Core.Bool.{Bool}
 use Rattle.search.specs.Choice.{_when_else_}
 use Rattle.search.specs.Lists.{sumOf, mostOf}
 use Rattle.table.specs.declared.Row.{Row}
-use Rattle.segments.specs.Tasks.{Task, tasksOf, costOf, floorOf, below}
+use Rattle.segments.specs.Tasks.{Task, tasksOf, costOf, floorOf, tailOf, below}
 
 infixr 67 _on_
 -- one more in front of the first of some lists
@@ -31,14 +31,14 @@ around join [] = []
 around join (s ∷ rs) = onward join s rs
 
 -- without the empty ones
-unfoldable pub full : {A : Type 0} → List (List A) → List (List A)
-full [] = []
-full ([] ∷ ls) = full ls
-full ((a ∷ l) ∷ ls) = (a ∷ l) ∷ full ls
+unfoldable pub nonempty : {A : Type 0} → List (List A) → List (List A)
+nonempty [] = []
+nonempty ([] ∷ ls) = nonempty ls
+nonempty ((a ∷ l) ∷ ls) = (a ∷ l) ∷ nonempty ls
 
 -- segment: a longest stretch of tasks at or above the floor, the last task followed by the first
 unfoldable pub segments : ℕ → List Task → List (List Task)
-segments floor ts = full (around _++_ (stretches (below floor) ts))
+segments floor ts = nonempty (around _++_ (stretches (below floor) ts))
 
 abbrev pub segmentsOf : Row → Row → List (List Task)
 segmentsOf a b = segments (floorOf b) (tasksOf a)
@@ -62,4 +62,7 @@ parts floor tail ts = map (cuts (below tail)) (stretches (below floor) ts)
 
 -- the segments, each as its active segments
 unfoldable pub cutSegments : ℕ → ℕ → List Task → List (List (List Task))
-cutSegments floor tail ts = full (around _++_ (parts floor tail ts))
+cutSegments floor tail ts = nonempty (around _++_ (parts floor tail ts))
+
+abbrev pub cutSegmentsOf : Row → Row → List (List (List Task))
+cutSegmentsOf a b = cutSegments (floorOf b) (tailOf b) (tasksOf a)

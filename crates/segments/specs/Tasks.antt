@@ -1,11 +1,11 @@
 -- A chain's tasks, and how they stand to a chain b's priorities (01, 'Segments against chain b').
 use Prim.Native.Nat.{ℕ, zero, suc, _+_, _-_, min}
 use mathlib.Core.List.{List, [], _∷_}
-use mathlib.Core.Bool.{Bool, false, _||_}
+use mathlib.Core.Bool.{Bool}
 use lib.ListN.{getD}
 use lib.Dec.{ltb, eqb}
 use Rattle.search.specs.Choice.{_when_else_}
-use Rattle.search.specs.Lists.{sumOf}
+use Rattle.search.specs.Lists.{sumOf, some}
 use Rattle.table.specs.declared.Row.{Row}
 
 -- a task: how many come before it in its chain, its priority and its cost
@@ -46,13 +46,8 @@ tailOf b = getD (b .priority) (b .tasks - 1) 0
 abbrev pub below : ℕ → Task → Bool
 below level t = ltb (t .priority) level
 
-abbrev pub at : ℕ → Task → Bool
-at level t = eqb (t .priority) level
-
--- some task passes the test p
-unfoldable pub some : (Task → Bool) → List Task → Bool
-some p [] = false
-some p (t ∷ ts) = p t || some p ts
+abbrev pub atLevel : ℕ → Task → Bool
+atLevel level t = eqb (t .priority) level
 
 -- another chain a is deferred if some task lies below the floor; otherwise it interferes freely
 abbrev pub deferred : Row → Row → Bool
@@ -69,4 +64,4 @@ firstCost a b = costOf (before (below (floorOf b)) (tasksOf a))
 
 -- b's own first part: the tasks before the first one at the floor
 abbrev pub ownPart : Row → ℕ
-ownPart b = costOf (before (at (floorOf b)) (tasksOf b))
+ownPart b = costOf (before (atLevel (floorOf b)) (tasksOf b))

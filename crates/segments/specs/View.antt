@@ -3,11 +3,12 @@ use Prim.Native.Nat.{ℕ}
 use mathlib.Core.Path.{_≡_}
 use mathlib.Core.List.{List, map, List·Permᴰ}
 use mathlib.Core.Bool.{Bool, not}
-use lib.ListN.{length, take}
+use lib.ListN.{length}
 use Rattle.search.specs.Lists.{sumOf, mostOf, Paired}
+use Rattle.table.specs.Record.{distances}
 use Rattle.table.specs.declared.Row.{Row}
-use Rattle.segments.specs.Tasks.{tasksOf, costOf, floorOf, tailOf, deferred, firstCost}
-use Rattle.segments.specs.Segments.{cutSegments}
+use Rattle.segments.specs.Tasks.{costOf, deferred, firstCost}
+use Rattle.segments.specs.Segments.{cutSegmentsOf}
 
 -- kind, overload mark, listed distances, whether it interferes freely, first-segment cost, and its segments, each as the
 -- costs of its active segments
@@ -24,10 +25,10 @@ viewOf a b =
     record {
       kind = a .kind;
       overload = a .overload;
-      list = take (a .listed) (a .list);
+      list = distances a;
       free = not (deferred a b);
       first = firstCost a b;
-      segments = map (map costOf) (cutSegments (floorOf b) (tailOf b) (tasksOf a));
+      segments = map (map costOf) (cutSegmentsOf a b);
     }
 
 -- a segment costs what its active segments cost together

@@ -8,10 +8,10 @@ ghost use mathlib.Core.Path.{_≡_};
 ghost use Prim.Native.Nat.{_<_, max};
 ghost use Rattle.search.specs.Lists.{sumOf, mostOf};
 ghost use Rattle.table.specs.Record.{tasksAt, rowAt};
-ghost use Rattle.table.specs.Taken.{Stands};
+ghost use Rattle.table.specs.code.Taken.{Stands};
 ghost use Rattle.segments.specs.Tasks.{tasksOf, costOf, chainCost, floorOf, below, before, ownPart};
 ghost use Rattle.segments.specs.Segments.{segments};
-ghost use Rattle.segments.specs.Held.{stretchOf};
+ghost use Rattle.segments.specs.code.Held.{stretchOf};
 
 // What all tasks of a chain cost: none is below the level 0.
 pub fn chain_cost(s: &[u8], at: usize) -> u32

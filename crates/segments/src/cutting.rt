@@ -12,11 +12,11 @@ ghost use lib.ListN.{length};
 ghost use lib.Dec.{eqb};
 ghost use Rattle.search.specs.Choice.{_when_else_};
 ghost use Rattle.table.specs.Record.{rowAt};
-ghost use Rattle.table.specs.Taken.{Stands};
+ghost use Rattle.table.specs.code.Taken.{Stands};
 ghost use Rattle.segments.specs.Tasks.{tasksOf, below};
 ghost use Rattle.segments.specs.Segments.{stretches};
 ghost use Rattle.segments.specs.Actives.{actives as inNumber};
-ghost use Rattle.segments.specs.Held.{arraysOf};
+ghost use Rattle.segments.specs.code.Held.{arraysOf};
 
 impl Actives {
     // No active segment.

@@ -11,7 +11,8 @@ use table::judge;
 use table::place;
 ghost use mathlib.Core.Path.{_≡_};
 ghost use Prim.Native.Nat.{_<_};
-ghost use Rattle.table.specs.Taken.{tableOf, Taken};
+ghost use Rattle.table.specs.code.Taken.{Taken};
+ghost use Rattle.table.specs.Read.{tableOf};
 ghost use Rattle.segments.specs.Query.{nthOf, answerOf, segmentOf, HandedBack};
 
 // The active segment of that number, of the chain k of a table against the chain j.

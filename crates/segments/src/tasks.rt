@@ -5,9 +5,9 @@ use table::tasks_at;
 ghost use mathlib.Core.Path.{_≡_};
 ghost use Prim.Native.Nat.{_≤_, min};
 ghost use Rattle.table.specs.Record.{tasksAt, rowAt};
-ghost use Rattle.table.specs.Taken.{Stands};
+ghost use Rattle.table.specs.code.Taken.{Stands};
 ghost use Rattle.segments.specs.Tasks.{floorOf, tailOf, below, before};
-ghost use Rattle.segments.specs.Held.{tasksAfter, stretchOf};
+ghost use Rattle.segments.specs.code.Held.{tasksAfter, stretchOf};
 
 // Some tasks in a row: how many there are, and what they cost.
 pub struct Stretch {

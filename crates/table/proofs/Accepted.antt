@@ -20,9 +20,9 @@ use Rattle.table.specs.Record.{idAt, lengthAt, rowAt}
 use Rattle.table.specs.Find.{none, rowOf, rows, findOf, used}
 use Rattle.table.specs.Fault.{markOf, chainFault, endFault}
 use Rattle.table.specs.Read.{blank, empty, plus, refusal, accepted, unless, byMark, start, records, readTable}
-use Rattle.table.specs.Place.{size, placeOf, Holds}
-use Rattle.table.specs.Good.{GoodRow, GoodTable}
-use Rattle.table.specs.Taken.{Taken}
+use Rattle.table.specs.Place.{lengthOf, placeOf}
+use Rattle.table.specs.code.Good.{GoodRow, GoodTable}
+use Rattle.table.specs.code.Taken.{Taken, Holds}
 use Rattle.table.specs.declared.Row.{Row}
 use Rattle.table.specs.declared.Table.{Table}
 use Rattle.table.specs.declared.Reading.{Reading}
@@ -46,7 +46,7 @@ record Kept (s : List ℕ) (at : ℕ) (t : Table) : Type 0 where
   place : at ≡ placeOf t (t .count)
   marks : (k : ℕ) → k < t .count → markOf (word 2 s (placeOf t k)) ≡ Chain
   makes : (k : ℕ) → k < t .count → rowAt s (placeOf t k) ≡ rowOf t k
-  inside : (k : ℕ) → k < t .count → placeOf t k + size (rowOf t k) ≤ length s
+  inside : (k : ℕ) → k < t .count → placeOf t k + lengthOf (rowOf t k) ≤ length s
 
 kept-empty : (s : List ℕ) → Kept s 0 empty
 unfolding sumOf
@@ -85,7 +85,7 @@ module _ (s : List ℕ) (at : ℕ) (t : Table) (g : Kept s at t) (bytes : Bytes 
 
   before : (k : ℕ) → k ≤ t .count → placeOf (plus t r) k ≡ placeOf t k
   unfolding placeOf
-  before k h = ap (sumOf size) (take-set-le k (t .row) (t .count) r h)
+  before k h = ap (sumOf lengthOf) (take-set-le k (t .row) (t .count) r h)
 
   here : placeOf (plus t r) (t .count) ≡ at
   here = before (t .count) (omega arith) ∙ sym (g .place)
@@ -113,7 +113,7 @@ module _ (s : List ℕ) (at : ℕ) (t : Table) (g : Kept s at t) (bytes : Bytes 
         place = place;
         marks = more (λ k. markOf (word 2 s (placeOf (plus t r) k)) ≡ Chain) (λ k h. rw (before k (omega arith)) (g .marks k h)) (rw here mark);
         makes = more (λ k. rowAt s (placeOf (plus t r) k) ≡ rowOf (plus t r) k) (λ k h. rw (before k (omega arith), old k h) (g .makes k h)) (rw (here, new));
-        inside = more (λ k. placeOf (plus t r) k + size (rowOf (plus t r) k) ≤ length s) (λ k h. rw (before k (omega arith), old k h) (g .inside k h)) (rw (here, new) (c .there));
+        inside = more (λ k. placeOf (plus t r) k + lengthOf (rowOf (plus t r) k) ≤ length s) (λ k h. rw (before k (omega arith), old k h) (g .inside k h)) (rw (here, new) (c .there));
       }
     where
       id-new : (k : ℕ) → k < t .count → rowOf (plus t r) k .id ≡ rowOf (plus t r) (t .count) .id → ⊥
@@ -130,11 +130,11 @@ module _ (s : List ℕ) (at : ℕ) (t : Table) (g : Kept s at t) (bytes : Bytes 
       tasks : t .tasks + r .tasks ≡ sumOf (λ r. r .tasks) (rows (plus t r))
       tasks = omega (arith, g .tasks, sums (λ r. r .tasks))
 
-      stands : placeOf t (t .count) ≡ sumOf size (rows t)
+      stands : placeOf t (t .count) ≡ sumOf lengthOf (rows t)
       stands = refl
 
       place : at + lengthAt s at ≡ placeOf (plus t r) (t .count + 1)
-      place = omega (arith, g .place, sums size, stands)
+      place = omega (arith, g .place, sums lengthOf, stands)
 
 -- what is to be shown of a reading
 Sound : List ℕ → Reading → Type 0
@@ -144,7 +144,7 @@ refused : (s : List ℕ) (n : ℕ) → Sound s (refusal n)
 unfolding Sound
 refused s n e = absurd (let z : _≡_ {A = ℕ} 0 1 = cc in omega arith)
 
-unless-sound : (s : List ℕ) (n : ℕ) (r : Reading) → (n ≡ 0 → Sound s r) → Sound s (unless n r)
+unless-sound : (s : List ℕ) (n : ℕ) (r : Reading) → (n ≡ 0 → Sound s r) → Sound s (unless refusal n r)
 unfolding unless
 unless-sound s zero r f = f refl
 unless-sound s (suc n) r f = refused s (suc n)
@@ -174,7 +174,7 @@ unfolding start
 start-sound s at t chain g f =
     when-cases (Sound s) (ltb (length s) (at + 2)) (λ e. refused s 2) (λ e. by (markOf (word 2 s at)) refl)
   where
-    by : (m : Mark) → markOf (word 2 s at) ≡ m → Sound s (byMark m chain (unless (endFault s at t) (accepted t)))
+    by : (m : Mark) → markOf (word 2 s at) ≡ m → Sound s (byMark m chain (unless refusal (endFault s at t) (accepted t)))
     by Chain e = f e
     by Task e = refused s 3
     by End e = unless-sound s (endFault s at t) (accepted t) (end-sound s at t g)

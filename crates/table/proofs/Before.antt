@@ -11,7 +11,7 @@ use lib.Dec.{eqb, ltb}
 use Rattle.search.specs.Find.{first}
 use Rattle.search.proofs.Find.{first-same}
 use Rattle.table.specs.Find.{none, rowOf, findOf, used}
-use Rattle.table.specs.Before.{Before}
+use Rattle.table.specs.code.Before.{Before}
 use Rattle.table.specs.Read.{plus}
 use Rattle.table.specs.declared.Row.{Row}
 use Rattle.table.specs.declared.Table.{Table}

@@ -6,7 +6,7 @@ use borrow.Author.Tests.{eq-eqb, eqb-true, eqb-false}
 use lib.Dec.{eqb}
 use Rattle.search.proofs.Find.{first-le, first-hit, first-miss, first-is}
 use Rattle.table.specs.Find.{rowOf, findOf}
-use Rattle.table.specs.Good.{GoodTable}
+use Rattle.table.specs.code.Good.{GoodTable}
 use Rattle.table.specs.declared.Table.{Table}
 
 module _ (t : Table) (id : ℕ) where

@@ -44,11 +44,11 @@ then-zero zero b e = (refl, e)
 then-zero (suc a) b e = absurd (omega (arith, e))
 
 -- a fault number and the reading
-pub unless-fault : (n : ℕ) (r : Reading) → (n ≡ 0 → ⊥) → unless n r ≡ refusal n
+pub unless-fault : (n : ℕ) (r : Reading) → (n ≡ 0 → ⊥) → unless refusal n r ≡ refusal n
 unfolding unless
 unless-fault zero r h = absurd (h refl)
 unless-fault (suc n) r h = refl
 
-pub unless-none : (n : ℕ) (r : Reading) → n ≡ 0 → unless n r ≡ r
+pub unless-none : (n : ℕ) (r : Reading) → n ≡ 0 → unless refusal n r ≡ r
 unfolding unless
 unless-none n r e = rw e

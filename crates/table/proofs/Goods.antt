@@ -13,7 +13,7 @@ use Rattle.table.specs.Limits.{maxDistances, maxTasks, maxDistance, maxC
 use Rattle.table.specs.Bytes.{word, Bytes}
 use Rattle.table.specs.Record.{gapAt, listedAt, tasksAt, firstTask, priorityAt, costAt, distancesAt, prioritiesAt, costsAt, pad, rowAt}
 use Rattle.table.specs.Fault.{outside, falls, gapShort, listFault, chainFault}
-use Rattle.table.specs.Good.{GoodList, GoodTasks, GoodRow}
+use Rattle.table.specs.code.Good.{GoodList, GoodTasks, GoodRow}
 use Rattle.table.specs.declared.Table.{Table}
 use Rattle.table.proofs.Words.{word-below}
 use Rattle.table.proofs.Lists.{length-every, every-at}

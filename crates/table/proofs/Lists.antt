@@ -11,7 +11,7 @@ use mathlib.Core.Bool.{true, false}
 use borrow.Author.Tests.{lt-ltb, le-ltb}
 use Rattle.table.specs.Limits.{maxDistance}
 use Rattle.table.specs.Fault.{_then_, outside, falls, gapShort, taskFault, tasksFault}
-use Rattle.table.specs.Record.{every, pad}
+use Rattle.table.specs.Record.{spaced, pad}
 
 module _ (f : ℕ → ℕ) (step : ℕ) where
   next : (at k : ℕ) → at + step * k + step ≡ at + step * (k + 1)
@@ -19,23 +19,23 @@ module _ (f : ℕ → ℕ) (step : ℕ) where
 
   -- what is left after k, of n
   pub every-on : (n k at : ℕ) → k < n
-      → every f step (n - k) (at + step * k) ≡ f (at + step * k) ∷ every f step (n - (k + 1)) (at + step * (k + 1))
-  unfolding every
+      → spaced f step (n - k) (at + step * k) ≡ f (at + step * k) ∷ spaced f step (n - (k + 1)) (at + step * (k + 1))
+  unfolding spaced
   every-on n k at h =
       let e : n - k ≡ suc (n - (k + 1)) = omega arith in
       rw (e, ← next at k)
 
-  pub every-end : (n k at : ℕ) → n ≤ k → every f step (n - k) at ≡ []
-  unfolding every
+  pub every-end : (n k at : ℕ) → n ≤ k → spaced f step (n - k) at ≡ []
+  unfolding spaced
   every-end n k at h = let e : n - k ≡ 0 = omega arith in rw e
 
-  pub length-every : (n at : ℕ) → length (every f step n at) ≡ n
-  unfolding every
+  pub length-every : (n at : ℕ) → length (spaced f step n at) ≡ n
+  unfolding spaced
   length-every zero at = refl
   length-every (suc n) at = ap suc (length-every n (at + step))
 
-  pub every-at : (n k at : ℕ) → k < n → getD (every f step n at) k 0 ≡ f (at + step * k)
-  unfolding every
+  pub every-at : (n k at : ℕ) → k < n → getD (spaced f step n at) k 0 ≡ f (at + step * k)
+  unfolding spaced
   every-at zero k at h = absurd (omega arith)
   every-at (suc n) zero at h = simp (mul-zero, add-zero)
   every-at (suc n) (suc k) at h =
@@ -43,8 +43,8 @@ module _ (f : ℕ → ℕ) (step : ℕ) where
       rw (← e) (every-at n k (at + step) (omega arith))
 
   -- one more at the end
-  every-more : (n at : ℕ) → every f step (suc n) at ≡ every f step n at ++ (f (at + step * n) ∷ [])
-  unfolding every
+  every-more : (n at : ℕ) → spaced f step (suc n) at ≡ spaced f step n at ++ (f (at + step * n) ∷ [])
+  unfolding spaced
   every-more zero at = simp (mul-zero, add-zero)
   every-more (suc n) at =
       let e : at + step + step * n ≡ at + step * suc n = omega (arith, mul-suc step n) in
@@ -52,25 +52,25 @@ module _ (f : ℕ → ℕ) (step : ℕ) where
 
   -- a store of the next number into what is filled up with 0
   pub pad-on : (m k at : ℕ) → k < m
-      → set (pad m (every f step k at)) k (f (at + step * k)) ≡ pad m (every f step (k + 1) at)
+      → set (pad m (spaced f step k at)) k (f (at + step * k)) ≡ pad m (spaced f step (k + 1) at)
   pad-on m k at h =
       let e : m - k ≡ suc (m - (k + 1)) = omega arith in
-      rw (add-one, every-more, length-append, length-every, e, set-at (every f step k at) 0 (replicate (m - (k + 1)) 0) (f (at + step * k)) k (length-every k at), append-assoc)
+      rw (add-one, every-more, length-append, length-every, e, set-at (spaced f step k at) 0 (replicate (m - (k + 1)) 0) (f (at + step * k)) k (length-every k at), append-assoc)
       refl
 
   -- from nothing
-  pub pad-none : (m at : ℕ) → replicate m 0 ≡ pad m (every f step 0 at)
-  unfolding every
+  pub pad-none : (m at : ℕ) → replicate m 0 ≡ pad m (spaced f step 0 at)
+  unfolding spaced
   pad-none m at = let e : m - 0 ≡ m = omega arith in rw e
 
   -- from the first on
-  pub every-start : (n at : ℕ) → every f step (n - 0) (at + step * 0) ≡ every f step n at
+  pub every-start : (n at : ℕ) → spaced f step (n - 0) (at + step * 0) ≡ spaced f step n at
   every-start n at =
       let e : n - 0 ≡ n = omega arith in
       let g : at + step * 0 ≡ at = omega arith in
       rw (e, g)
 
-  pub every-last : (n at : ℕ) → 0 < n → getD (every f step n at) (length (every f step n at) - 1) 0 ≡ f (at + step * (n - 1))
+  pub every-last : (n at : ℕ) → 0 < n → getD (spaced f step n at) (length (spaced f step n at) - 1) 0 ≡ f (at + step * (n - 1))
   every-last n at h = rw (length-every n at) (every-at n (n - 1) at (omega arith))
 
 -- the list judged, one distance at a time

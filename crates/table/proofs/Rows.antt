@@ -19,7 +19,7 @@ use Rattle.table.specs.Record.{lengthAt, rowAt}
 use Rattle.table.specs.Find.{none, rowOf}
 use Rattle.table.specs.Fault.{markOf, chainFault, endFault}
 use Rattle.table.specs.Read.{blank, empty, plus, refusal, accepted, unless, byMark, start, records, readTable}
-use Rattle.table.specs.Good.{GoodTable}
+use Rattle.table.specs.code.Good.{GoodTable}
 use Rattle.table.specs.declared.Row.{Row}
 use Rattle.table.specs.declared.Table.{Table}
 use Rattle.table.specs.declared.Mark.{Mark}
@@ -77,7 +77,7 @@ module _ {all : Table} (good : GoodTable all) where
 
 -- what a reading can be: the empty table with a refusal, or a table that is accepted
 module _ (P : Reading → Type 0) (faulty : (n : ℕ) → P (refusal n)) (right : (t : Table) → P (accepted t)) where
-  unless-is : (n : ℕ) (r : Reading) → P r → P (unless n r)
+  unless-is : (n : ℕ) (r : Reading) → P r → P (unless refusal n r)
   unfolding unless
   unless-is zero r p = p
   unless-is (suc n) r p = faulty (suc n)
@@ -92,7 +92,7 @@ module _ (P : Reading → Type 0) (faulty : (n : ℕ) → P (refusal n)) (right 
   unfolding start
   start-is s at t chain p =
       when-cases P (ltb (length s) (at + 2)) (λ e. faulty 2)
-      (λ e. mark-is (markOf (word 2 s at)) chain (unless (endFault s at t) (accepted t)) p (unless-is (endFault s at t) (accepted t) (right t)))
+      (λ e. mark-is (markOf (word 2 s at)) chain (unless refusal (endFault s at t) (accepted t)) p (unless-is (endFault s at t) (accepted t) (right t)))
 
   records-is : (left : ℕ) (s : List ℕ) (at : ℕ) (t : Table) → P (records left s at t)
   unfolding records

@@ -8,13 +8,13 @@ use lib.Seq.{take-suc}
 use Rattle.search.specs.Lists.{sumOf}
 use Rattle.search.proofs.Lists.{sum-append}
 use Rattle.table.specs.Find.{none, rowOf}
-use Rattle.table.specs.Place.{size, placeOf}
+use Rattle.table.specs.Place.{lengthOf, placeOf}
 use Rattle.table.specs.declared.Table.{Table}
 
 pub place-none : (t : Table) → 0 ≡ placeOf t 0
 unfolding placeOf sumOf
 place-none t = refl
 
-pub place-on : (t : Table) (k : ℕ) → k < length (t .row) → placeOf t (k + 1) ≡ placeOf t k + size (rowOf t k)
+pub place-on : (t : Table) (k : ℕ) → k < length (t .row) → placeOf t (k + 1) ≡ placeOf t k + lengthOf (rowOf t k)
 unfolding placeOf sumOf
-place-on t k h = rw (add-one, take-suc (t .row) k none h, sum-append size) (omega arith)
+place-on t k h = rw (add-one, take-suc (t .row) k none h, sum-append lengthOf) (omega arith)

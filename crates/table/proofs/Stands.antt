@@ -8,9 +8,10 @@ use Rattle.table.specs.Limits.{maxDistances, maxTasks}
 use Rattle.table.specs.Bytes.{word}
 use Rattle.table.specs.Record.{listedAt, tasksAt, firstTask, lengthAt, priorityAt, costAt, distancesAt, prioritiesAt, costsAt, rowAt}
 use Rattle.table.specs.Find.{rowOf}
-use Rattle.table.specs.Place.{size, placeOf}
-use Rattle.table.specs.Good.{GoodRow}
-use Rattle.table.specs.Taken.{tableOf, Taken, Stands}
+use Rattle.table.specs.Place.{lengthOf, placeOf}
+use Rattle.table.specs.code.Good.{GoodRow}
+use Rattle.table.specs.code.Taken.{Taken, Stands}
+use Rattle.table.specs.Read.{tableOf}
 use Rattle.table.proofs.Lists.{every-at}
 use Rattle.table.proofs.Goods.{pad-at}
 use Rattle.table.proofs.Standing.{place-on}
@@ -30,7 +31,7 @@ module _ (s : List ℕ) (at : ℕ) where
   cost-at k h = pad-at maxTasks (costsAt s at) k ∙ every-at (costAt s) 8 (tasksAt s at) k (firstTask s at) h
 
   -- a record is as long as its row's counts say
-  pub length-at : lengthAt s at ≡ size (rowAt s at)
+  pub length-at : lengthAt s at ≡ lengthOf (rowAt s at)
   unfolding rowAt
   length-at = refl
 
@@ -42,10 +43,10 @@ module _ {s : List ℕ} (t : Taken s) {k at : ℕ} (e : at ≡ placeOf (tableOf 
   pub stands : Stands s at
   stands =
       record {
-        there = omega (arith, t .holds .inside k h, length-at s at, ap size row-there);
+        there = omega (arith, t .holds .inside k h, length-at s at, ap lengthOf row-there);
         good = subst GoodRow (sym row-there) (t .good .row k h);
       }
 
   -- the next one starts where its record ends
   pub place-next : at + lengthAt s at ≡ placeOf (tableOf s) (k + 1)
-  place-next = omega (arith, place-on (tableOf s) k (omega (arith, t .good .few, t .good .size)), length-at s at, ap size row-there)
+  place-next = omega (arith, place-on (tableOf s) k (omega (arith, t .good .few, t .good .size)), length-at s at, ap lengthOf row-there)

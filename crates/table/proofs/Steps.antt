@@ -35,7 +35,7 @@ module _ (s : List ℕ) (at : ℕ) (t : Table) where
   module _ (there : at + 2 ≤ length s) where
     -- where the mark leads does not depend on the room, but for a chain
     pub records-mark : (left : ℕ) (m : Mark) → markOf (word 2 s at) ≡ m → (m ≡ Chain → ⊥)
-        → records left s at t ≡ byMark m (refusal 11) (unless (endFault s at t) (accepted t))
+        → records left s at t ≡ byMark m (refusal 11) (unless refusal (endFault s at t) (accepted t))
     unfolding records start _when_else_
     records-mark left Chain e h = absurd (h refl)
     records-mark zero Task e h = rw (le-ltb _ _ there, e)
@@ -52,7 +52,7 @@ module _ (s : List ℕ) (at : ℕ) (t : Table) where
 
       pub records-chain : t .count < maxChains
           → records (maxChains - t .count) s at t
-          ≡ unless (chainFault s at t) (records (maxChains - (t .count + 1)) s (at + lengthAt s at) (plus t (rowAt s at)))
+          ≡ unless refusal (chainFault s at t) (records (maxChains - (t .count + 1)) s (at + lengthAt s at) (plus t (rowAt s at)))
       unfolding records start _when_else_
       records-chain h =
           let e : maxChains - t .count ≡ suc (maxChains - (t .count + 1)) = omega arith in

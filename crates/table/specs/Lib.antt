@@ -2,9 +2,7 @@ pub mod Limits
 pub mod Bytes
 pub mod Record
 pub mod Find
-pub mod Before
 pub mod Fault
 pub mod Read
 pub mod Place
-pub mod Good
-pub mod Taken
+pub mod code

@@ -45,10 +45,10 @@ refusal n = record { verdict = Refused n; table = empty }
 abbrev pub accepted : Table → Reading
 accepted t = record { verdict = Accepted; table = t }
 
--- refused by a fault; where there is none, what follows
-unfoldable pub unless : ℕ → Reading → Reading
-unless zero rest = rest
-unless (suc n) rest = refusal (suc n)
+-- a fault refuses, each answer in its own way; where there is none, what follows
+unfoldable pub unless : {A : Type 0} → (ℕ → A) → ℕ → A → A
+unless refuse zero rest = rest
+unless refuse (suc n) rest = refuse (suc n)
 
 -- what a mark at a record's start leads to; a task is not known there
 abbrev pub byMark : Mark → Reading → Reading → Reading
@@ -61,13 +61,17 @@ byMark Other chain end = refusal 3
 unfoldable pub start : List ℕ → ℕ → Table → Reading → Reading
 start s at t chain =
     refusal 2 when ltb (length s) (at + 2) else
-    byMark (markOf (word 2 s at)) chain (unless (endFault s at t) (accepted t))
+    byMark (markOf (word 2 s at)) chain (unless refusal (endFault s at t) (accepted t))
 
 -- the records from `at` on, after the rows of t, with room for `left` chains more
 unfoldable pub records : ℕ → List ℕ → ℕ → Table → Reading
 records zero s at t = start s at t (refusal 11)
 records (suc left) s at t =
-    start s at t (unless (chainFault s at t) (records left s (at + lengthAt s at) (plus t (rowAt s at))))
+    start s at t (unless refusal (chainFault s at t) (records left s (at + lengthAt s at) (plus t (rowAt s at))))
 
 unfoldable pub readTable : List ℕ → Reading
 readTable s = refusal 1 when eqb (length s) 0 || ltb maxBytes (length s) else records maxChains s 0 empty
+
+-- the table that the bytes hold
+abbrev pub tableOf : List ℕ → Table
+tableOf s = readTable s .table

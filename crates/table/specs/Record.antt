@@ -1,7 +1,7 @@
 -- A chain record and its tasks (01, 'Stored table'): the fields by their offsets, and the row that they make.
 use Prim.Native.Nat.{ℕ, zero, suc, _+_, _*_, _-_}
 use mathlib.Core.List.{List, [], _∷_, _++_}
-use lib.ListN.{length, getD, replicate}
+use lib.ListN.{length, getD, take, replicate}
 use Rattle.table.specs.Limits.{maxDistances, maxTasks}
 use Rattle.table.specs.Bytes.{word}
 use Rattle.table.specs.declared.Row.{Row}
@@ -31,12 +31,19 @@ tasksAt s at = getD s (at + 15) 0
 
 -- After it the distances, 4 bytes each, then the tasks, 8 bytes each
 
-abbrev pub firstTask : List ℕ → ℕ → ℕ
-firstTask s at = at + 16 + 4 * listedAt s at
+-- where the tasks of a record at `at` start, after so many distances, and how long a record is
+abbrev pub afterList : ℕ → ℕ → ℕ
+afterList at listed = at + 16 + 4 * listed
 
--- how long its count bytes say it is
+abbrev pub recordLength : ℕ → ℕ → ℕ
+recordLength listed tasks = 16 + 4 * listed + 8 * tasks
+
+-- both by the record's own count bytes
+abbrev pub firstTask : List ℕ → ℕ → ℕ
+firstTask s at = afterList at (listedAt s at)
+
 abbrev pub lengthAt : List ℕ → ℕ → ℕ
-lengthAt s at = 16 + 4 * listedAt s at + 8 * tasksAt s at
+lengthAt s at = recordLength (listedAt s at) (tasksAt s at)
 
 -- A task record at `at`, the mark first
 
@@ -47,18 +54,18 @@ abbrev pub costAt : List ℕ → ℕ → ℕ
 costAt s at = word 4 s (at + 4)
 
 -- n numbers from `at` on, one every `step` bytes
-unfoldable pub every : (ℕ → ℕ) → ℕ → ℕ → ℕ → List ℕ
-every f step zero at = []
-every f step (suc n) at = f at ∷ every f step n (at + step)
+unfoldable pub spaced : (ℕ → ℕ) → ℕ → ℕ → ℕ → List ℕ
+spaced f step zero at = []
+spaced f step (suc n) at = f at ∷ spaced f step n (at + step)
 
 abbrev pub distancesAt : List ℕ → ℕ → List ℕ
-distancesAt s at = every (word 4 s) 4 (listedAt s at) (at + 16)
+distancesAt s at = spaced (word 4 s) 4 (listedAt s at) (at + 16)
 
 abbrev pub prioritiesAt : List ℕ → ℕ → List ℕ
-prioritiesAt s at = every (priorityAt s) 8 (tasksAt s at) (firstTask s at)
+prioritiesAt s at = spaced (priorityAt s) 8 (tasksAt s at) (firstTask s at)
 
 abbrev pub costsAt : List ℕ → ℕ → List ℕ
-costsAt s at = every (costAt s) 8 (tasksAt s at) (firstTask s at)
+costsAt s at = spaced (costAt s) 8 (tasksAt s at) (firstTask s at)
 
 -- places past a count are 0: filled up to m places
 abbrev pub pad : ℕ → List ℕ → List ℕ
@@ -78,3 +85,7 @@ rowAt s at =
       priority = pad maxTasks (prioritiesAt s at);
       cost = pad maxTasks (costsAt s at);
     }
+
+-- a chain's listed distances: δ(2), δ(3), ..
+abbrev pub distances : Row → List ℕ
+distances r = take (r .listed) (r .list)

@@ -21,14 +21,14 @@ ghost use Prim.Native.Nat.{_+_, _*_, _≤_};
 ghost use lib.ListN.{length};
 ghost use Rattle.table.specs.Limits.{maxDistances, maxTasks};
 ghost use Rattle.table.specs.Bytes.{word};
-ghost use Rattle.table.specs.Record.{every, pad, priorityAt, costAt, rowAt};
-ghost use Rattle.table.specs.Read.{readTable};
-ghost use Rattle.table.specs.Taken.{tableOf, Taken, Stands};
+ghost use Rattle.table.specs.Record.{spaced, pad, priorityAt, costAt, rowAt};
+ghost use Rattle.table.specs.Read.{readTable, tableOf};
+ghost use Rattle.table.specs.code.Taken.{Taken, Stands};
 
 // The n distances from `from` on, and 0 past them.
 fn list_of(s: &[u8], from: usize, n: usize) -> [u32; Table::DISTANCES]
     requires { ⌜ (n ≤ maxDistances) × (from + 4 * n ≤ length (now s)) ⌝ }
-    ensures { λ r. ⌜ r ≡ pad maxDistances (every (word 4 (now (s .entry))) 4 n from) ⌝ }
+    ensures { λ r. ⌜ r ≡ pad maxDistances (spaced (word 4 (now (s .entry))) 4 n from) ⌝ }
 {
     let mut list = [0u32; Table::DISTANCES];
     let mut k: usize = 0;
@@ -48,7 +48,7 @@ struct Tasks {
 // The n tasks from `from` on.
 fn tasks_of(s: &[u8], from: usize, n: usize) -> Tasks
     requires { ⌜ (n ≤ maxTasks) × (from + 8 * n ≤ length (now s)) ⌝ }
-    ensures { λ r. ⌜ (r .priority ≡ pad maxTasks (every (priorityAt (now (s .entry))) 8 n from)) × (r .cost ≡ pad maxTasks (every (costAt (now (s .entry))) 8 n from)) ⌝ }
+    ensures { λ r. ⌜ (r .priority ≡ pad maxTasks (spaced (priorityAt (now (s .entry))) 8 n from)) × (r .cost ≡ pad maxTasks (spaced (costAt (now (s .entry))) 8 n from)) ⌝ }
 {
     let mut priority = [0u16; Table::TASKS];
     let mut cost = [0u32; Table::TASKS];

@@ -11,11 +11,11 @@ ghost use lib.ListN.{length, getD};
 ghost use lib.Dec.{eqb, ltb};
 ghost use Rattle.table.specs.Limits.{maxChains, maxTasks, maxAllTasks, maxCost};
 ghost use Rattle.table.specs.Bytes.{word};
-ghost use Rattle.table.specs.Record.{every};
+ghost use Rattle.table.specs.Record.{spaced};
 ghost use Rattle.search.specs.Find.{first};
 ghost use Rattle.table.specs.Find.{used};
 ghost use Rattle.table.specs.declared.Table.{Table};
-ghost use Rattle.table.specs.Before.{Before};
+ghost use Rattle.table.specs.code.Before.{Before};
 ghost use Rattle.table.specs.Fault.{outside as outsideOf, markOf, isTask, headFault, falls as fallsOf, gapShort, listFault, taskFault, tasksFault, chainFault, endFault};
 
 // The mark as a number: `CH`, `TK`, `EN`.
@@ -115,7 +115,7 @@ fn head_fault(s: &[u8], at: usize, ids: &[u16; Table::CHAINS], count: usize, tas
 // Whether one of the n distances from `at` on falls, or exceeds the limit.
 fn falls(s: &[u8], at: usize, n: usize) -> bool
     requires { ⌜ (n < 256) × (at + 4 * n ≤ length (now s)) ⌝ }
-    ensures { λ r. ⌜ r ≡ fallsOf 0 (every (word 4 (now (s .entry))) 4 n at) ⌝ }
+    ensures { λ r. ⌜ r ≡ fallsOf 0 (spaced (word 4 (now (s .entry))) 4 n at) ⌝ }
 {
     let mut before: u32 = 0;
     let mut k: usize = 0;
@@ -133,7 +133,7 @@ fn falls(s: &[u8], at: usize, n: usize) -> bool
 // Whether the gap is too small for one of the n distances from `at` on.
 fn gap_short(s: &[u8], at: usize, n: usize, gap: u32) -> bool
     requires { ⌜ (n < 256) × (at + 4 * n ≤ length (now s)) ⌝ }
-    ensures { λ r. ⌜ r ≡ gapShort gap 1 (every (word 4 (now (s .entry))) 4 n at) ⌝ }
+    ensures { λ r. ⌜ r ≡ gapShort gap 1 (spaced (word 4 (now (s .entry))) 4 n at) ⌝ }
 {
     let mut k: usize = 0;
     while k < n {
@@ -149,7 +149,7 @@ fn gap_short(s: &[u8], at: usize, n: usize, gap: u32) -> bool
 // 8: the n distances from `at` on.
 fn list_fault(s: &[u8], at: usize, n: usize, gap: u32) -> u32
     requires { ⌜ (0 < n) × (n < 256) × (at + 4 * n ≤ length (now s)) ⌝ }
-    ensures { λ r. ⌜ r ≡ listFault gap (every (word 4 (now (s .entry))) 4 n at) ⌝ }
+    ensures { λ r. ⌜ r ≡ listFault gap (spaced (word 4 (now (s .entry))) 4 n at) ⌝ }
 {
     if falls(s, at, n) {
         return 8;

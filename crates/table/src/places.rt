@@ -6,7 +6,8 @@ ghost use mathlib.Core.Path.{_≡_};
 ghost use Prim.Native.Nat.{_≤_, _<_};
 ghost use Rattle.table.specs.Find.{findOf};
 ghost use Rattle.table.specs.Place.{placeOf};
-ghost use Rattle.table.specs.Taken.{tableOf, Taken};
+ghost use Rattle.table.specs.code.Taken.{Taken};
+ghost use Rattle.table.specs.Read.{tableOf};
 
 fn wide(x: u16) -> u32
     ensures { λ r. ⌜ (r ≡ x) × (r < 65536) ⌝ }

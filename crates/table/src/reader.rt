@@ -11,11 +11,11 @@ use crate::record::record_length;
 use crate::record::tasks_at;
 ghost use mathlib.Core.Path.{_≡_};
 ghost use Rattle.table.specs.declared.Table.{Table};
-ghost use Rattle.table.specs.Read.{accepted, unless, readTable};
+ghost use Rattle.table.specs.Read.{accepted, refusal, unless, readTable};
 
 // What a fault number gives: 0 that the table is accepted, any other that refusal.
 fn concluded(fault: u32) -> Verdict
-    ensures { λ r. ⌜ ((t : Table) → r ≡ unless fault (accepted t) .verdict) ⌝ }
+    ensures { λ r. ⌜ ((t : Table) → r ≡ unless refusal fault (accepted t) .verdict) ⌝ }
 {
     match fault {
         0 => Verdict::Accepted,

@@ -6,7 +6,7 @@ ghost use mathlib.Core.Path.{_≡_};
 ghost use Prim.Native.Nat.{_+_, _≤_, _<_};
 ghost use lib.ListN.{length, getD};
 ghost use Rattle.table.specs.Record.{idAt, kindAt, overloadAt, deadlineAt, gapAt, listedAt, tasksAt, firstTask, lengthAt, rowAt};
-ghost use Rattle.table.specs.Taken.{Stands};
+ghost use Rattle.table.specs.code.Taken.{Stands};
 
 // How long the chain record at `at` is, by its count bytes as they stand.
 pub fn record_length(s: &[u8], at: usize) -> usize

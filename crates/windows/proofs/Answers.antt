@@ -10,9 +10,9 @@ use Rattle.table.specs.declared.Row.{Row}
 use Rattle.table.specs.declared.Table.{Table}
 use Rattle.table.specs.declared.Verdict.the-variants.{Accepted, Refused as Faulty}
 use Rattle.segments.specs.View.{View}
-use Rattle.windows.specs.Demand.{othersOf}
-use Rattle.windows.specs.Latency.{windowsOf, boundOf, chainOf, latencyOf}
-use Rattle.windows.specs.Load.{Load, ownOf, demandIn, Loads}
+use Rattle.windows.specs.Demand.{viewsOf}
+use Rattle.windows.specs.Latency.{windowsOf, boundOf, latencyIn, latencyOf}
+use Rattle.windows.specs.code.Load.{Load, ownOf, demandIn, Loads}
 use Rattle.windows.specs.declared.Answer.the-variants.{Refused}
 
 -- a load of b gives b's figures
@@ -22,19 +22,19 @@ loads-bound {b} {l = l} a e =
     ap (windowsOf (demandIn l) (ownOf l)) e ∙ ap₂ (λ d ds. windowsOf d ds (b .deadline)) (fun-ext (λ q. fun-ext (λ t. a .demand q t))) (a .own)
 
 module _ (t : Table) (id : ℕ) where
-  pub chain-none : findOf t id ≡ t .count → chainOf t id ≡ Refused 12
-  unfolding chainOf
+  pub chain-none : findOf t id ≡ t .count → latencyIn t id ≡ Refused 12
+  unfolding latencyIn
   chain-none e = when-yes _ _ (eq-eqb _ _ e)
 
-  pub chain-found : (findOf t id ≡ t .count → ⊥) → chainOf t id ≡ boundOf (rowOf t (findOf t id)) (othersOf t (findOf t id)) .answer
-  unfolding chainOf
+  pub chain-found : (findOf t id ≡ t .count → ⊥) → latencyIn t id ≡ boundOf (rowOf t (findOf t id)) (viewsOf t (findOf t id)) .answer
+  unfolding latencyIn
   chain-found h = when-no _ _ (ne-eqb _ _ h)
 
 module _ (s : List ℕ) (id : ℕ) where
   pub latency-refused : (n : ℕ) → readTable s .verdict ≡ Faulty n → latencyOf s id ≡ Refused n
   unfolding latencyOf
-  latency-refused n e = ap (λ v. byVerdict Refused v (chainOf (readTable s .table) id)) e
+  latency-refused n e = ap (λ v. byVerdict Refused v (latencyIn (readTable s .table) id)) e
 
-  pub latency-accepted : readTable s .verdict ≡ Accepted → latencyOf s id ≡ chainOf (readTable s .table) id
+  pub latency-accepted : readTable s .verdict ≡ Accepted → latencyOf s id ≡ latencyIn (readTable s .table) id
   unfolding latencyOf
-  latency-accepted e = ap (λ v. byVerdict Refused v (chainOf (readTable s .table) id)) e
+  latency-accepted e = ap (λ v. byVerdict Refused v (latencyIn (readTable s .table) id)) e

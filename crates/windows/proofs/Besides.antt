@@ -15,15 +15,15 @@ use Rattle.search.specs.Lists.{All}
 use Rattle.search.proofs.Choice.{when-yes, when-no, when-cases}
 use Rattle.search.proofs.Lists.{all-append}
 use Rattle.table.specs.Find.{none, rowOf, rows}
-use Rattle.table.specs.Good.{GoodRow, GoodTable}
+use Rattle.table.specs.code.Good.{GoodRow, GoodTable}
 use Rattle.table.specs.declared.Row.{Row}
 use Rattle.table.specs.declared.Table.{Table}
-use Rattle.arrivals.specs.Arrivals.{GoodDistances}
+use Rattle.arrivals.specs.code.Bounds.{GoodDistances}
 use Rattle.arrivals.proofs.Rows.{good-distances}
 use Rattle.segments.specs.View.{View, viewOf}
 use Rattle.segments.proofs.Views.{view-overload, view-list}
-use Rattle.windows.specs.Demand.{others, othersOf, typical}
-use Rattle.windows.specs.Load.{counted}
+use Rattle.windows.specs.Demand.{others, viewsOf, typical}
+use Rattle.windows.specs.code.Load.{counted}
 use Rattle.windows.proofs.Growth.{Paced}
 
 pub typical-append : (vs ws : List View) → typical (vs ++ ws) ≡ typical vs ++ typical ws
@@ -112,8 +112,8 @@ module _ (all : Bool) (t : Table) (b : Row) (good : GoodTable t) where
         ∙ append-nil (viewsFrom all t b from j)
 
 -- those before the chain k and those after it are all others
-pub views-others : (all : Bool) (t : Table) (k : ℕ) → viewsFrom all t (rowOf t k) 0 k ++ viewsFrom all t (rowOf t k) (k + 1) (t .count) ≡ counted all (othersOf t k)
-unfolding othersOf
+pub views-others : (all : Bool) (t : Table) (k : ℕ) → viewsFrom all t (rowOf t k) 0 k ++ viewsFrom all t (rowOf t k) (k + 1) (t .count) ≡ counted all (viewsOf t k)
+unfolding viewsOf
 views-others all t k =
     let b = rowOf t k in
     sym (counted-append all (map (λ a. viewOf a b) (slice 0 k (rows t))) (map (λ a. viewOf a b) (slice (k + 1) (t .count) (rows t))))
@@ -142,8 +142,8 @@ module _ (t : Table) (good : GoodTable t) where
       (λ j h. let l : j < t .count = omega (arith, rows-length t good) in rw (getD-take (t .count) (t .row) j none l) (good .row j l)) in
       all-append GoodRow (take k (rows t)) (drop (k + 1) (rows t)) (all-take GoodRow k (rows t) rows-good) (all-drop GoodRow (k + 1) (rows t) rows-good)
 
-  pub others-paced : (k : ℕ) → Paced (othersOf t k)
-  unfolding othersOf
+  pub others-paced : (k : ℕ) → Paced (viewsOf t k)
+  unfolding viewsOf
   others-paced k = go (others t k) (others-good k)
     where
       go : (l : List Row) → All GoodRow l → Paced (map (λ a. viewOf a (rowOf t k)) l)

@@ -7,10 +7,12 @@ use native.Mathlib.Numerals.{add-one}
 use native.Mathlib.Nat.{le-trans, le-refl, mul-le-mul, mul-le-mul-left}
 use lib.ListN.{getD}
 use Rattle.table.specs.Limits.{horizon, maxActivations, maxDistances}
-use Rattle.arrivals.specs.Arrivals.{GoodDistances, η}
+use Rattle.arrivals.specs.Arrivals.{η}
+use Rattle.arrivals.specs.code.Bounds.{GoodDistances}
 use Rattle.arrivals.proofs.Counts.{η-near}
 use Rattle.arrivals.proofs.Rows.{good-distances}
-use Rattle.windows.specs.Load.{dearest, heldAt, heldOf, Held}
+use Rattle.windows.specs.code.Load.{heldAt, heldOf, Held}
+use Rattle.segments.specs.code.Held.{dearest}
 use Rattle.windows.proofs.Growth.{held-fewer}
 
 -- activations in t, each at a chain's cost

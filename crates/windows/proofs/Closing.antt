@@ -11,7 +11,8 @@ use native.Mathlib.Nat.{le-trans, le-of-eq, eq-or-lt-of-le}
 use Rattle.search.proofs.Choice.{when-yes, when-no, true-not-false, lt-or-le}
 use Rattle.search.proofs.Find.{first-ge, first-hit, first-miss}
 use Rattle.table.specs.Limits.{maxActivations}
-use Rattle.arrivals.specs.Arrivals.{GoodDistances, δ}
+use Rattle.arrivals.specs.Arrivals.{δ}
+use Rattle.arrivals.specs.code.Bounds.{GoodDistances}
 use Rattle.arrivals.proofs.Distances.{δ-one}
 use Rattle.windows.specs.Window.{windowOf}
 use Rattle.windows.specs.Latency.{ends, closeOf, latencyTo, lateTo, marginOf, refusal, endsWith, windowsOf}

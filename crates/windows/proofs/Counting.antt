@@ -9,9 +9,10 @@ use lib.ListN.{length, getD, set, replicate, length-set, getD-replicate}
 use lib.Seq.{getD-set-same, getD-set-other}
 use Rattle.search.proofs.Choice.{lt-or-le}
 use Rattle.table.specs.Limits.{maxChains}
-use Rattle.arrivals.specs.Arrivals.{GoodDistances, η}
+use Rattle.arrivals.specs.Arrivals.{η}
+use Rattle.arrivals.specs.code.Bounds.{GoodDistances}
 use Rattle.arrivals.proofs.Counts.{η-mono}
-use Rattle.windows.specs.Load.{Load, heldAt, Behind, Counted, Sound}
+use Rattle.windows.specs.code.Load.{Load, heldAt, Behind, Counted, Sound}
 
 module _ {s places : List ℕ} where
   -- the chain i is counted too

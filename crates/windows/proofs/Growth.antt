@@ -9,16 +9,18 @@ use Rattle.search.specs.Choice.{_when_else_}
 use Rattle.search.specs.Lists.{All}
 use Rattle.search.proofs.Choice.{when-cases}
 use Rattle.search.proofs.Lists.{sum-mono, all-map}
-use Rattle.table.specs.Good.{GoodRow}
+use Rattle.table.specs.code.Good.{GoodRow}
 use Rattle.table.specs.declared.Row.{Row}
-use Rattle.arrivals.specs.Arrivals.{distances, GoodDistances, η}
+use Rattle.arrivals.specs.Arrivals.{η}
+use Rattle.arrivals.specs.code.Bounds.{GoodDistances}
+use Rattle.table.specs.Record.{distances}
 use Rattle.arrivals.proofs.Counts.{η-mono}
 use Rattle.arrivals.proofs.Rows.{good-distances}
 use Rattle.segments.specs.Tasks.{chainCost}
 use Rattle.segments.specs.View.{View, allOf, dearestOf}
 use Rattle.segments.proofs.Bounds.{own-less}
-use Rattle.windows.specs.Demand.{asynchronous, termOf, partOf, demandOf}
-use Rattle.windows.specs.Load.{Load, heldOf, Held, ownOf, demandIn, Sound}
+use Rattle.windows.specs.Demand.{asynchronous, termOf, countedPart, demandOf}
+use Rattle.windows.specs.code.Load.{Load, heldOf, Held, ownOf, demandIn, Sound}
 use Rattle.windows.proofs.Least.{Grows}
 
 -- a demand for q activations in t that never falls with t, and not with q
@@ -50,8 +52,8 @@ term-mono v good s t h = go (v .free) (asynchronous (v .kind))
     go false true = omega (arith, mul-le-mul-right (v .first) (η-mono good s t h))
     go false false = le-refl (dearestOf v)
 
-pub part-less : (b : Row) → GoodRow b → partOf b < chainCost b
-unfolding partOf
+pub part-less : (b : Row) → GoodRow b → countedPart b < chainCost b
+unfolding countedPart
 part-less b good =
     when-cases (λ p. p < chainCost b) (asynchronous (b .kind)) (λ e. own-less b good) (λ e. omega (arith, own-less b good))
 
@@ -61,13 +63,13 @@ module _ (b : Row) (vs : List View) (good : GoodRow b) (paced : Paced vs) where
   demand-mono q s t h =
       omega (
         arith,
-        again-mono q (partOf b) _ _ (η-mono (good-distances good) s t h),
+        again-mono q (countedPart b) _ _ (η-mono (good-distances good) s t h),
         sum-mono (λ v. termOf v s) (λ v. termOf v t) vs (all-map (λ v g. term-mono v g s t h) vs paced),
       )
 
   pub demand-more : (q t : ℕ) → demandOf b vs q t < demandOf b vs (q + 1) t
   unfolding demandOf
-  demand-more q t = omega (arith, again-more q (partOf b) (η (distances b) t), part-less b good)
+  demand-more q t = omega (arith, again-more q (countedPart b) (η (distances b) t), part-less b good)
 
   pub demand-some : (q t : ℕ) → 1 ≤ q → 1 ≤ demandOf b vs q t
   unfolding demandOf

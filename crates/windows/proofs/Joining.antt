@@ -10,15 +10,16 @@ use lib.Seq.{getD-set-same, getD-set-other}
 use Rattle.search.specs.Lists.{sumOf}
 use Rattle.search.proofs.Lists.{sum-append}
 use Rattle.table.specs.Limits.{maxChains}
-use Rattle.table.specs.Record.{rowAt}
+use Rattle.table.specs.Record.{rowAt, distances}
 use Rattle.table.specs.declared.Row.{Row}
-use Rattle.table.specs.Taken.{Stands}
-use Rattle.arrivals.specs.Arrivals.{distances, η}
+use Rattle.table.specs.code.Taken.{Stands}
+use Rattle.arrivals.specs.Arrivals.{η}
 use Rattle.segments.specs.Tasks.{chainCost}
 use Rattle.segments.specs.View.{View}
 use Rattle.segments.proofs.Bounds.{chain-max}
-use Rattle.windows.specs.Demand.{termOf, partOf, demandOf}
-use Rattle.windows.specs.Load.{dearest, most, Load, heldOf, Held, demandIn, Sound, plus, Joined, Loads, Adds}
+use Rattle.windows.specs.Demand.{termOf, countedPart, demandOf}
+use Rattle.windows.specs.code.Load.{most, Load, heldOf, Held, demandIn, Sound, plus, Joined, Loads, Adds}
+use Rattle.segments.specs.code.Held.{dearest}
 use Rattle.windows.specs.declared.Term.{Term}
 use Rattle.windows.proofs.Growth.{part-less}
 use Rattle.windows.proofs.Bounds.{held-on}
@@ -26,7 +27,7 @@ use Rattle.windows.proofs.Bounds.{held-on}
 -- the chain at `at` alone: nothing is held
 pub alone-loads : (s : List ℕ) (at : ℕ) → Stands s at → (rates places : List ℕ) → length rates ≡ maxChains → length places ≡ maxChains
     → Loads (rowAt s at) []
-    (record { bytes = s; at = at; cost = chainCost (rowAt s at); part = partOf (rowAt s at); once = 0; count = 0; rates = rates; places = places })
+    (record { bytes = s; at = at; cost = chainCost (rowAt s at); part = countedPart (rowAt s at); once = 0; count = 0; rates = rates; places = places })
 unfolding demandIn demandOf heldOf sumOf
 alone-loads s at here rates places r p = record {
   sound = record {

@@ -12,26 +12,27 @@ use lib.ListN.{length, replicate}
 use lib.IntN.{pos, negsuc}
 use Rattle.search.specs.Choice.{_when_else_}
 use Rattle.search.specs.Find.{first, last}
-use Rattle.search.specs.Lists.{sumOf, mostOf}
+use Rattle.search.specs.Lists.{sumOf, mostOf, some}
 use Rattle.table.specs.Limits.{maxTasks, maxDistances, horizon}
 use Rattle.table.specs.Bytes.{word, Bytes}
-use Rattle.table.specs.Record.{every, pad, rowAt}
+use Rattle.table.specs.Record.{spaced, pad, rowAt, distances}
 use Rattle.table.specs.Find.{rowOf, findOf}
 use Rattle.table.specs.Fault.{_then_, markOf, headFault, falls, gapShort, listFault, taskFault, tasksFault, chainFault, endFault}
-use Rattle.table.specs.Good.{GoodTable}
+use Rattle.table.specs.code.Good.{GoodTable}
 use Rattle.table.specs.Read.{blank, accepted, unless, start, records, readTable}
 use Rattle.table.specs.declared.Row.{Row}
 use Rattle.table.specs.declared.Table.{Table}
 use Rattle.table.specs.declared.Reading.{Reading}
 use Rattle.table.proofs.Accepted.{taken}
-use Rattle.arrivals.specs.Arrivals.{distances, asListed, δ, η}
+use Rattle.arrivals.specs.Arrivals.{asListed, δ, η}
 use Rattle.arrivals.proofs.Rows.{good-distances}
-use Rattle.segments.specs.Tasks.{tasksFrom, lowest, some, before}
-use Rattle.segments.specs.Segments.{stretches, onward, around, full, cuts, parts, cutSegments}
+use Rattle.segments.specs.Tasks.{tasksFrom, lowest, before}
+use Rattle.segments.specs.Segments.{stretches, onward, around, nonempty, cuts, parts, cutSegments}
 use Rattle.segments.specs.View.{viewOf}
-use Rattle.windows.specs.Demand.{termOf, partOf, demandOf, othersOf}
-use Rattle.windows.specs.Window.{windowOf, Under}
-use Rattle.windows.specs.Latency.{overOf, marginOf, boundOf, chainOf, latencyOf}
+use Rattle.windows.specs.Demand.{termOf, countedPart, demandOf, viewsOf}
+use Rattle.windows.specs.Window.{windowOf}
+use Rattle.windows.specs.code.Load.{Under}
+use Rattle.windows.specs.Latency.{overOf, marginOf, boundOf, latencyIn, latencyOf}
 use Rattle.windows.specs.declared.Windows.{Windows}
 use Rattle.windows.specs.declared.Window.the-variants.{At, Nothing}
 use Rattle.windows.specs.declared.Answer.the-variants.{Figures, Refused}
@@ -141,11 +142,11 @@ stored-good {s} a =
     (taken s (small-bytes s (a .are)) (ap (λ (r : Reading). r .verdict) (a .reads)) .good)
 
 abbrev demandAt : Table → ℕ → ℕ → ℕ → ℕ
-demandAt t k = demandOf (rowOf t k) (othersOf t k)
+demandAt t k = demandOf (rowOf t k) (viewsOf t k)
 
 module _ {s : List ℕ} {t : Table} (a : Stored s t) (id k : ℕ) (found : findOf t id ≡ k) (there : k < t .count) where
   growing : Growing (demandAt t k)
-  growing = demand-growing (rowOf t k) (othersOf t k) (stored-good a .row k there) (others-paced t (stored-good a) k)
+  growing = demand-growing (rowOf t k) (viewsOf t k) (stored-good a .row k there) (others-paced t (stored-good a) k)
 
   -- B(1), where a climb that starts at 1 comes to it
   stop : (x : ℕ) → Under (demandAt t k 1) x → x ≤ horizon → demandAt t k 1 x ≡ x → windowOf (demandAt t k 1) ≡ At x
@@ -154,12 +155,12 @@ module _ {s : List ℕ} {t : Table} (a : Stored s t) (id k : ℕ) (found : findO
   step : (x y : ℕ) → Under (demandAt t k 1) x → demandAt t k 1 x ≡ y → Under (demandAt t k 1) y
   step x y u e = subst (Under (demandAt t k 1)) e (under-next (demandAt t k 1) (growing .grows 1 (lit≤ tt)) x u)
 
-  answered : latencyOf s id ≡ boundOf (rowOf t k) (othersOf t k) .answer
+  answered : latencyOf s id ≡ boundOf (rowOf t k) (viewsOf t k) .answer
   answered =
       latency-accepted s id (ap (λ (r : Reading). r .verdict) (a .reads))
-      ∙ ap (λ (r : Reading). chainOf (r .table) id) (a .reads)
+      ∙ ap (λ (r : Reading). latencyIn (r .table) id) (a .reads)
       ∙ chain-found t id (λ e. omega (arith, e))
-      ∙ ap (λ j. boundOf (rowOf t j) (othersOf t j) .answer) found
+      ∙ ap (λ j. boundOf (rowOf t j) (viewsOf t j) .answer) found
 
   -- the figures where the first window closes, and the refusal where there is none
   closes : (x : ℕ) → windowOf (demandAt t k 1) ≡ At x → x ≤ δ (distances (rowOf t k)) 2
@@ -186,15 +187,15 @@ module _ {s : List ℕ} {t : Table} (a : Stored s t) (id k : ℕ) (found : findO
       (sym (walk-none (demandAt t k) ds dl growing (walk-start (demandAt t k) ds dl (good-distances (stored-good a .row k there))) (lit≤ tt) e))
 
 sample-stored : Stored sample sampled
-unfolding small sample sampled recorded ended bytes flatten readTable records start unless chainFault headFault listFault falls gapShort tasksFault taskFault endFault _then_ markOf word every rowAt findOf first _when_else_
+unfolding small sample sampled recorded ended bytes flatten readTable records start unless chainFault headFault listFault falls gapShort tasksFault taskFault endFault _then_ markOf word spaced rowAt findOf first _when_else_
 sample-stored = record { are = refl; reads = refl }
 
 edge-stored : Stored edge edged
-unfolding small edge edged recorded ended bytes flatten readTable records start unless chainFault headFault listFault falls gapShort tasksFault taskFault endFault _then_ markOf word every rowAt findOf first _when_else_
+unfolding small edge edged recorded ended bytes flatten readTable records start unless chainFault headFault listFault falls gapShort tasksFault taskFault endFault _then_ markOf word spaced rowAt findOf first _when_else_
 edge-stored = record { are = refl; reads = refl }
 
 past-stored : Stored past passed
-unfolding small past passed recorded ended bytes flatten readTable records start unless chainFault headFault listFault falls gapShort tasksFault taskFault endFault _then_ markOf word every rowAt findOf first _when_else_
+unfolding small past passed recorded ended bytes flatten readTable records start unless chainFault headFault listFault falls gapShort tasksFault taskFault endFault _then_ markOf word spaced rowAt findOf first _when_else_
 past-stored = record { are = refl; reads = refl }
 
 -- where the ids are found
@@ -208,33 +209,33 @@ edge-finds = (refl, refl)
 
 -- the demands for one activation at the points where the climb stops
 demand-1 : (demandAt sampled 0 1 1 ≡ 59) × (demandAt sampled 0 1 59 ≡ 64) × (demandAt sampled 0 1 64 ≡ 64)
-unfolding sampled demandOf othersOf termOf partOf viewOf tasksFrom lowest some before stretches onward around full cuts parts cutSegments sumOf mostOf η δ asListed last _when_else_
+unfolding sampled demandOf viewsOf termOf countedPart viewOf tasksFrom lowest some before stretches onward around nonempty cuts parts cutSegments sumOf mostOf η δ asListed last _when_else_
 demand-1 = (refl, refl, refl)
 
 demand-2 : (demandAt sampled 1 1 1 ≡ 5) × (demandAt sampled 1 1 5 ≡ 5)
-unfolding sampled demandOf othersOf termOf partOf viewOf tasksFrom lowest some before stretches onward around full cuts parts cutSegments sumOf mostOf η δ asListed last _when_else_
+unfolding sampled demandOf viewsOf termOf countedPart viewOf tasksFrom lowest some before stretches onward around nonempty cuts parts cutSegments sumOf mostOf η δ asListed last _when_else_
 demand-2 = (refl, refl)
 
 demand-3 : (demandAt sampled 2 1 1 ≡ 57) × (demandAt sampled 2 1 57 ≡ 62) × (demandAt sampled 2 1 62 ≡ 62)
-unfolding sampled demandOf othersOf termOf partOf viewOf tasksFrom lowest some before stretches onward around full cuts parts cutSegments sumOf mostOf η δ asListed last _when_else_
+unfolding sampled demandOf viewsOf termOf countedPart viewOf tasksFrom lowest some before stretches onward around nonempty cuts parts cutSegments sumOf mostOf η δ asListed last _when_else_
 demand-3 = (refl, refl, refl)
 
 demand-4 : (demandAt sampled 3 1 1 ≡ 39) × (demandAt sampled 3 1 39 ≡ 39)
-unfolding sampled demandOf othersOf termOf partOf viewOf tasksFrom lowest some before stretches onward around full cuts parts cutSegments sumOf mostOf η δ asListed last _when_else_
+unfolding sampled demandOf viewsOf termOf countedPart viewOf tasksFrom lowest some before stretches onward around nonempty cuts parts cutSegments sumOf mostOf η δ asListed last _when_else_
 demand-4 = (refl, refl)
 
 -- at the edge the demand is 10,000,000 in any t, and past it more than the horizon already in 1
 demand-edge : (t : ℕ) → demandAt edged 0 1 t ≡ 10000000
-unfolding edged demandOf othersOf termOf partOf viewOf tasksFrom lowest some before stretches onward around full cuts parts cutSegments sumOf mostOf _when_else_
+unfolding edged demandOf viewsOf termOf countedPart viewOf tasksFrom lowest some before stretches onward around nonempty cuts parts cutSegments sumOf mostOf _when_else_
 demand-edge t = omega (arith, mul-zero (η (distances (rowOf edged 0)) t - 1))
 
 demand-past : demandAt passed 0 1 1 ≡ 10000001
-unfolding passed demandOf othersOf termOf partOf viewOf tasksFrom lowest some before stretches onward around full cuts parts cutSegments sumOf mostOf η δ asListed last _when_else_
+unfolding passed demandOf viewsOf termOf countedPart viewOf tasksFrom lowest some before stretches onward around nonempty cuts parts cutSegments sumOf mostOf η δ asListed last _when_else_
 demand-past = refl
 
 -- what is starred
 pub record Starred : Type 0 where
-  pub sample-window : windowOf (demandOf (rowOf sampled 0) (othersOf sampled 0) 1) ≡ At 64
+  pub sample-window : windowOf (demandOf (rowOf sampled 0) (viewsOf sampled 0) 1) ≡ At 64
   pub sample-1 : latencyOf sample 1 ≡ Figures 1 64 1 (negsuc 23)
   pub sample-2 : latencyOf sample 2 ≡ Figures 1 5 0 (pos 95)
   pub sample-3 : latencyOf sample 3 ≡ Figures 1 62 0 (pos 438)

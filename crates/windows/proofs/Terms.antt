@@ -8,18 +8,18 @@ use borrow.Author.Tests.{eq-eqb, ne-eqb}
 use lib.ListN.{length}
 use Rattle.search.specs.Lists.{sumOf, mostOf}
 use Rattle.search.proofs.Choice.{when-yes, when-no}
-use Rattle.table.specs.Good.{GoodRow}
+use Rattle.table.specs.code.Good.{GoodRow}
 use Rattle.table.specs.declared.Row.{Row}
 use Rattle.arrivals.specs.Arrivals.{η}
 use Rattle.segments.specs.Tasks.{tasksOf, costOf, floorOf, below, before, firstCost}
 use Rattle.segments.specs.Segments.{segments, allCost, dearestCost}
-use Rattle.segments.specs.Held.{stretchOf}
+use Rattle.segments.specs.code.Held.{stretchOf, dearest}
 use Rattle.segments.specs.View.{viewOf}
 use Rattle.segments.specs.declared.tasks.Stretch.{Stretch}
 use Rattle.segments.proofs.Views.{view-kind, view-first, all-view, dearest-view, free-first, free-all}
 use Rattle.segments.proofs.Bounds.{all-max, first-all, dearest-all}
 use Rattle.windows.specs.Demand.{asynchronous, termOf}
-use Rattle.windows.specs.Load.{dearest, Adds}
+use Rattle.windows.specs.code.Load.{Adds}
 
 module _ (a b : Row) (good : GoodRow a) {floor : ℕ} (same : floorOf b ≡ floor) {first : Stretch}
     (ahead : first ≡ stretchOf (before (below floor) (tasksOf a))) where

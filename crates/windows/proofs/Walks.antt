@@ -11,9 +11,11 @@ use native.Mathlib.Nat.{eq-or-lt-of-le, le-of-eq}
 use Rattle.search.proofs.Choice.{when-yes, when-no}
 use Rattle.search.proofs.Find.{first-is, first-none}
 use Rattle.table.specs.Limits.{horizon, maxActivations}
-use Rattle.arrivals.specs.Arrivals.{GoodDistances, δ}
+use Rattle.arrivals.specs.Arrivals.{δ}
+use Rattle.arrivals.specs.code.Bounds.{GoodDistances}
 use Rattle.arrivals.proofs.Distances.{δ-one}
-use Rattle.windows.specs.Window.{Solution, windowOf, Under}
+use Rattle.windows.specs.Window.{Solution, windowOf}
+use Rattle.windows.specs.code.Load.{Under}
 use Rattle.windows.specs.Latency.{ends, closeOf, latencyAt, latencyTo, overOf, lateTo, marginOf, refusal, endsWith, windowsOf}
 use Rattle.windows.specs.declared.Window.the-variants.{At, Nothing}
 use Rattle.windows.specs.declared.Windows.{Windows}

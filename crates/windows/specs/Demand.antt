@@ -9,7 +9,8 @@ use Rattle.search.specs.Lists.{sumOf}
 use Rattle.table.specs.Find.{rowOf, rows}
 use Rattle.table.specs.declared.Row.{Row}
 use Rattle.table.specs.declared.Table.{Table}
-use Rattle.arrivals.specs.Arrivals.{distances, η}
+use Rattle.arrivals.specs.Arrivals.{η}
+use Rattle.table.specs.Record.{distances}
 use Rattle.segments.specs.Tasks.{chainCost, ownPart}
 use Rattle.segments.specs.View.{View, viewOf, allOf, dearestOf}
 
@@ -26,19 +27,19 @@ termOf v t =
     dearestOf v
 
 -- b's own first part, which counts if b is asynchronous
-unfoldable pub partOf : Row → ℕ
-partOf b = ownPart b when asynchronous (b .kind) else 0
+unfoldable pub countedPart : Row → ℕ
+countedPart b = ownPart b when asynchronous (b .kind) else 0
 
 -- q times b's cost; plus max(0, η_b(t) − q) times its own first part; plus what every other chain adds
 unfoldable pub demandOf : Row → List View → ℕ → ℕ → ℕ
-demandOf b others q t = q * chainCost b + (η (distances b) t - q) * partOf b + sumOf (λ v. termOf v t) others
+demandOf b others q t = q * chainCost b + (η (distances b) t - q) * countedPart b + sumOf (λ v. termOf v t) others
 
 -- every chain of a table but the chain k, in table order, and the views that k has of them
 abbrev pub others : Table → ℕ → List Row
 others t k = take k (rows t) ++ drop (k + 1) (rows t)
 
-unfoldable pub othersOf : Table → ℕ → List View
-othersOf t k = map (λ a. viewOf a (rowOf t k)) (others t k)
+unfoldable pub viewsOf : Table → ℕ → List View
+viewsOf t k = map (λ a. viewOf a (rowOf t k)) (others t k)
 
 -- the views of chains without overload mark
 unfoldable pub typical : List View → List View

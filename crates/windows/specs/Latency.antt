@@ -9,13 +9,13 @@ use Rattle.search.specs.Find.{first}
 use Rattle.search.specs.Lists.{sumOf, mostOf}
 use Rattle.table.specs.Limits.{maxActivations}
 use Rattle.table.specs.Find.{rowOf, findOf}
-use Rattle.table.specs.Read.{byVerdict, readTable}
-use Rattle.table.specs.Taken.{tableOf}
+use Rattle.table.specs.Read.{byVerdict, readTable, tableOf}
 use Rattle.table.specs.declared.Row.{Row}
 use Rattle.table.specs.declared.Table.{Table}
-use Rattle.arrivals.specs.Arrivals.{distances, δ}
+use Rattle.arrivals.specs.Arrivals.{δ}
+use Rattle.table.specs.Record.{distances}
 use Rattle.segments.specs.View.{View}
-use Rattle.windows.specs.Demand.{demandOf, othersOf}
+use Rattle.windows.specs.Demand.{demandOf, viewsOf}
 use Rattle.windows.specs.Window.{windowOf}
 use Rattle.windows.specs.declared.Window.{Window}
 use Rattle.windows.specs.declared.Window.the-variants.{At, Nothing}
@@ -85,14 +85,14 @@ unfoldable pub boundOf : Row → List View → Windows
 boundOf b others = windowsOf (demandOf b others) (distances b) (b .deadline)
 
 -- the chain with the id, 12 if there is none
-unfoldable pub chainOf : Table → ℕ → Answer
-chainOf t id =
+unfoldable pub latencyIn : Table → ℕ → Answer
+latencyIn t id =
     Refused 12 when eqb (findOf t id) (t .count) else
-    boundOf (rowOf t (findOf t id)) (othersOf t (findOf t id)) .answer
+    boundOf (rowOf t (findOf t id)) (viewsOf t (findOf t id)) .answer
 
 -- what the latency query answers for the chain with the id, of a stored table, whose own refusals come first
 unfoldable pub latencyOf : List ℕ → ℕ → Answer
-latencyOf s id = byVerdict Refused (readTable s .verdict) (chainOf (tableOf s) id)
+latencyOf s id = byVerdict Refused (readTable s .verdict) (latencyIn (tableOf s) id)
 
 -- document 01's number for each answer, 0 or the refusal, and its values: K, latency, late, margin, or none
 abbrev pub numberOf : Answer → ℕ

@@ -1,4 +1,4 @@
 pub mod Demand
 pub mod Window
 pub mod Latency
-pub mod Load
+pub mod code

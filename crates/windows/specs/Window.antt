@@ -26,8 +26,3 @@ within t = Nothing when ltb horizon t else At t
 
 unfoldable pub windowOf : (ℕ → ℕ) → Window
 windowOf d = within (first (λ t. eqb t (d t)) 1 horizon)
-
--- where a climb from below may start: under every s in which its demand fits
-pub record Under (d : ℕ → ℕ) (t : ℕ) : Type 0 where
-  pub low : 1 ≤ t
-  pub under : (s : ℕ) → 1 ≤ s → d s ≤ s → t ≤ s

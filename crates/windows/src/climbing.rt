@@ -9,11 +9,12 @@ ghost use lib.Dec.{eqb};
 ghost use lib.ListN.{getD};
 ghost use Rattle.search.specs.Choice.{_when_else_};
 ghost use Rattle.table.specs.Limits.{horizon, maxActivations, maxChains};
-ghost use Rattle.table.specs.Record.{rowAt};
-ghost use Rattle.table.specs.Taken.{Stands};
-ghost use Rattle.arrivals.specs.Arrivals.{distances, η};
-ghost use Rattle.windows.specs.Window.{windowOf, Under};
-ghost use Rattle.windows.specs.Load.{loadOf, heldOf, Held, Behind, Counted, demandIn, Sound};
+ghost use Rattle.table.specs.Record.{rowAt, distances};
+ghost use Rattle.table.specs.code.Taken.{Stands};
+ghost use Rattle.arrivals.specs.Arrivals.{η};
+ghost use Rattle.windows.specs.Window.{windowOf};
+ghost use Rattle.windows.specs.code.Load.{Under};
+ghost use Rattle.windows.specs.code.Load.{loadOf, heldOf, Held, Behind, Counted, demandIn, Sound};
 ghost use Rattle.windows.specs.declared.Window.the-variants.{At};
 
 // How far a is past b, 0 if it is not.

@@ -24,11 +24,13 @@ ghost use Rattle.table.specs.Record.{rowAt};
 ghost use Rattle.table.specs.declared.Row.{Row};
 ghost use Rattle.table.specs.Find.{rowOf, rows};
 ghost use Rattle.table.specs.Place.{placeOf};
-ghost use Rattle.table.specs.Taken.{tableOf, Taken, Stands};
+ghost use Rattle.table.specs.code.Taken.{Taken, Stands};
+ghost use Rattle.table.specs.Read.{tableOf};
 ghost use Rattle.segments.specs.Tasks.{floorOf};
 ghost use Rattle.segments.specs.View.{viewOf};
-ghost use Rattle.windows.specs.Demand.{partOf, othersOf};
-ghost use Rattle.windows.specs.Load.{dearest, most, loadOf, Sound, Joined, Loads, counted, Adds};
+ghost use Rattle.windows.specs.Demand.{countedPart, viewsOf};
+ghost use Rattle.windows.specs.code.Load.{most, loadOf, Sound, Joined, Loads, counted, Adds};
+ghost use Rattle.segments.specs.code.Held.{dearest};
 
 // What the chain at `a` adds to the demand of a chain with this floor.
 fn term(s: &[u8], a: usize, floor: u32) -> Term
@@ -57,7 +59,7 @@ fn term(s: &[u8], a: usize, floor: u32) -> Term
 // The own first part of the chain at `at`, 0 if it is synchronous.
 fn part(s: &[u8], at: usize, floor: u32) -> u64
     requires { ⌜ Stands (now s) at × (floor ≡ floorOf (rowAt (now s) at)) ⌝ }
-    ensures { λ r. ⌜ r ≡ partOf (rowAt (now (s .entry)) at) ⌝ }
+    ensures { λ r. ⌜ r ≡ countedPart (rowAt (now (s .entry)) at) ⌝ }
 {
     if kind_at(s, at) == 1 {
         own_part(s, at, floor) as u64
@@ -126,7 +128,7 @@ pub fn load(
     places: &mut [usize; Table::CHAINS],
 ) -> Own
     requires { ⌜ Taken (now s) × (k < tableOf (now s) .count) × (length (now rates) ≡ maxChains) × (length (now places) ≡ maxChains) ⌝ }
-    ensures { λ r. ⌜ Loads (rowOf (tableOf (now (s .entry))) k) (counted overload (othersOf (tableOf (now (s .entry))) k)) (loadOf (now (s .entry)) r (now (rates .exit)) (now (places .exit))) × (r .at ≡ placeOf (tableOf (now (s .entry))) k) ⌝ }
+    ensures { λ r. ⌜ Loads (rowOf (tableOf (now (s .entry))) k) (counted overload (viewsOf (tableOf (now (s .entry))) k)) (loadOf (now (s .entry)) r (now (rates .exit)) (now (places .exit))) × (r .at ≡ placeOf (tableOf (now (s .entry))) k) ⌝ }
 {
     let at = place(s, k);
     let chains = count(s);

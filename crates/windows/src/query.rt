@@ -11,14 +11,15 @@ use table::judge;
 ghost use mathlib.Core.Path.{_≡_};
 ghost use Prim.Native.Nat.{_<_};
 ghost use Rattle.table.specs.Find.{rowOf};
-ghost use Rattle.table.specs.Taken.{tableOf, Taken};
-ghost use Rattle.windows.specs.Demand.{othersOf};
-ghost use Rattle.windows.specs.Latency.{boundOf, chainOf, latencyOf};
+ghost use Rattle.table.specs.code.Taken.{Taken};
+ghost use Rattle.table.specs.Read.{tableOf};
+ghost use Rattle.windows.specs.Demand.{viewsOf};
+ghost use Rattle.windows.specs.Latency.{boundOf, latencyIn, latencyOf};
 
 // What the windows of the chain k give, worked out once for whoever needs it.
 pub fn bound(s: &[u8], k: usize) -> Windows
     requires { ⌜ Taken (now s) × (k < tableOf (now s) .count) ⌝ }
-    ensures { λ r. ⌜ r ≡ boundOf (rowOf (tableOf (now (s .entry))) k) (othersOf (tableOf (now (s .entry))) k) ⌝ }
+    ensures { λ r. ⌜ r ≡ boundOf (rowOf (tableOf (now (s .entry))) k) (viewsOf (tableOf (now (s .entry))) k) ⌝ }
 {
     let mut rates = [0u64; Table::CHAINS];
     let mut places = [0usize; Table::CHAINS];
@@ -29,7 +30,7 @@ pub fn bound(s: &[u8], k: usize) -> Windows
 // The answer for the chain with the id, of an accepted table.
 pub fn latency_in(s: &[u8], id: u32) -> Answer
     requires { ⌜ Taken (now s) ⌝ }
-    ensures { λ r. ⌜ r ≡ chainOf (tableOf (now (s .entry))) id ⌝ }
+    ensures { λ r. ⌜ r ≡ latencyIn (tableOf (now (s .entry))) id ⌝ }
 {
     let k = find(s, id);
     if k == count(s) {

@@ -12,7 +12,7 @@ ghost use Prim.Native.Nat.{max, _≤_};
 ghost use Rattle.table.specs.Limits.{horizon, maxDeadline};
 ghost use Rattle.table.specs.Record.{rowAt};
 ghost use Rattle.windows.specs.Latency.{overOf, marginOf, refusal, windowsOf};
-ghost use Rattle.windows.specs.Load.{loadOf, ownOf, demandIn, Sound};
+ghost use Rattle.windows.specs.code.Load.{loadOf, ownOf, demandIn, Sound};
 
 fn larger(a: u64, b: u64) -> u64
     ensures { λ r. ⌜ r ≡ max a b ⌝ }

@@ -7,8 +7,8 @@ use native.Mathlib.Nat.{mod-lt}
 use denote.Ref.{now}
 use lib.ListN.{length}
 use borrow.Author.Needs.{needs}
-use Rattle.table.specs.Record.{rowAt}
-use Rattle.arrivals.specs.Arrivals.{distances, asListed, δ}
+use Rattle.table.specs.Record.{rowAt, distances}
+use Rattle.arrivals.specs.Arrivals.{asListed, δ}
 use Rattle.arrivals.proofs.Turns.{δ-at, δ-single}
 use Rattle.arrivals.proofs.Distances.{δ-near}
 use Rattle.arrivals.proofs.Rows.{stands-distances, stands-length}

@@ -7,8 +7,9 @@ use native.Mathlib.Nat.{mul-le-mul}
 use denote.Ref.{now}
 use lib.ListN.{length}
 use Rattle.table.specs.Limits.{maxDistances}
-use Rattle.table.specs.Record.{rowAt}
-use Rattle.arrivals.specs.Arrivals.{GoodDistances, distances, η, longest}
+use Rattle.table.specs.Record.{rowAt, distances}
+use Rattle.arrivals.specs.Arrivals.{η}
+use Rattle.arrivals.specs.code.Bounds.{GoodDistances, longestSpan}
 use Rattle.arrivals.proofs.Counts.{η-reach, η-stops, η-counts}
 use Rattle.arrivals.proofs.Rows.{stands-distances, stands-length}
 use Rattle.arrivals.proofs.eta_from.Statement.{statement}
@@ -31,7 +32,7 @@ good s = stands-distances (s .pre .0)
 most : (c : tie.After-listed-at Inv-loop μ-loop) → c .listed-at .result * c .before .before .args .t ≡ length (ds (c .before .before)) * c .before .before .args .t
 most c = ap (λ l. l * c .before .before .args .t) (c .listed-at .ensures .0 ∙ sym (stands-length (c .before .before .pre .0)))
 
-near : (s : tie.Start Inv-loop μ-loop) → length (ds s) * s .args .t ≤ maxDistances * longest
+near : (s : tie.Start Inv-loop μ-loop) → length (ds s) * s .args .t ≤ maxDistances * longestSpan
 near s = mul-le-mul (good s .few) (s .pre .1)
 
 listed-at-requires : tie.Need-listed-at-requires Inv-loop μ-loop

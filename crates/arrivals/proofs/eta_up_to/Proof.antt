@@ -9,8 +9,8 @@ use lib.ListN.{getD}
 use borrow.Author.Needs.{needs}
 use borrow.Author.Tests.{ltb-true, ltb-false}
 use Rattle.table.specs.Limits.{maxDistance}
-use Rattle.table.specs.Record.{rowAt}
-use Rattle.arrivals.specs.Arrivals.{GoodDistances, distances}
+use Rattle.table.specs.Record.{rowAt, distances}
+use Rattle.arrivals.specs.code.Bounds.{GoodDistances}
 use Rattle.arrivals.proofs.Rows.{distances-at, stands-distances, stands-length}
 use Rattle.arrivals.proofs.Walk.{Counted, counted-none, turns-le, counted-most, counted-all, counted-on, counted-turn}
 use Rattle.arrivals.proofs.eta_up_to.Statement.{statement}

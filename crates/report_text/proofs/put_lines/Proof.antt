@@ -5,9 +5,9 @@ use mathlib.Core.Path.{_≡_, subst, _∙_}
 use mathlib.Core.List.{_++_}
 use denote.Ref.{now}
 use borrow.Author.Needs.{needs}
-use Rattle.table.specs.Taken.{tableOf}
+use Rattle.table.specs.Read.{tableOf}
 use Rattle.report_text.specs.Report.{header}
-use Rattle.report_text.specs.Writing.{Wrote, linesIn}
+use Rattle.report_text.specs.code.Writing.{Wrote, linesIn}
 use Rattle.report_text.proofs.Answers.{lines-none, lines-on}
 use Rattle.report_text.proofs.Writes.{wrote-on}
 use Rattle.report_text.proofs.put_lines.Statement.{statement}

@@ -8,9 +8,9 @@ use lib.Seq.{length-take-le}
 use borrow.Author.Needs.{needs}
 use native.Mathlib.Omega.{arith}
 use Rattle.table.specs.Bytes.{Bytes}
-use Rattle.table.specs.Taken.{tableOf}
+use Rattle.table.specs.Read.{tableOf}
 use Rattle.saving.specs.Save.{seenOf, resultOf, saveFault}
-use Rattle.saving.specs.Begins.{Begins}
+use Rattle.saving.specs.code.Begins.{Begins}
 use Rattle.saving.proofs.Splices.{begins-length}
 use Rattle.saving.proofs.Verdicts.{read-accepted, read-within}
 use Rattle.saving.proofs.Seen.{seen-le, seen-inside, result-length}

@@ -8,7 +8,7 @@ use Rattle.table.specs.Record.{rowAt}
 use Rattle.table.specs.declared.Row.{Row}
 use Rattle.segments.specs.Tasks.{tasksOf}
 use Rattle.segments.specs.Actives.{actives}
-use Rattle.segments.specs.Held.{arraysOf}
+use Rattle.segments.specs.code.Held.{arraysOf}
 use Rattle.segments.proofs.Bounds.{actives-few}
 use Rattle.misses.proofs.Gathers.{Adds, adds-none, adds-on, adds-past, adds-chain}
 use Rattle.misses.proofs.Pieces.beside.Statement.{statement}

@@ -9,12 +9,13 @@ use Rattle.table.specs.Place.{placeOf}
 use Rattle.table.specs.Record.{rowAt}
 use Rattle.table.specs.declared.Row.{Row}
 use Rattle.table.specs.declared.Table.{Table}
-use Rattle.table.specs.Taken.{tableOf, Stands}
+use Rattle.table.specs.code.Taken.{Stands}
+use Rattle.table.specs.Read.{tableOf}
 use Rattle.table.proofs.Standing.{place-none}
 use Rattle.table.proofs.Stands.{row-there, stands, place-next}
 use Rattle.segments.proofs.Levels.{floor-tail}
 use Rattle.misses.specs.Overloads.{overload}
-use Rattle.misses.specs.Held.{gathered}
+use Rattle.misses.specs.code.Held.{gathered}
 use Rattle.misses.proofs.Gathers.{Gone, gone-none, gone-typical, gone-overload, gone-all}
 use Rattle.misses.proofs.Pieces.of.Statement.{statement}
 use Rattle.misses.proofs.Pieces.of.Tie as tie

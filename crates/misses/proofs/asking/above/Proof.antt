@@ -6,7 +6,7 @@ use borrow.Author.Tests.{lt-ltb, le-ltb}
 use lib.Dec.{ltb}
 use lib.ListN.{getD, drop}
 use Rattle.table.specs.Limits.{maxCapacity}
-use Rattle.misses.specs.Tests.{some}
+use Rattle.search.specs.Lists.{some}
 use Rattle.misses.proofs.Bools.{some-here, some-later, some-past}
 use Rattle.misses.proofs.asking.above.Statement.{statement}
 use Rattle.misses.proofs.asking.above.Tie as tie

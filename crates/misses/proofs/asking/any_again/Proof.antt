@@ -8,10 +8,10 @@ use lib.ListN.{drop}
 use Rattle.table.specs.Find.{rowOf, rows}
 use Rattle.table.specs.Place.{placeOf}
 use Rattle.table.specs.declared.Row.{Row}
-use Rattle.table.specs.Taken.{tableOf}
+use Rattle.table.specs.Read.{tableOf}
 use Rattle.table.proofs.Standing.{place-none}
 use Rattle.table.proofs.Stands.{row-there, stands, place-next}
-use Rattle.misses.specs.Tests.{some}
+use Rattle.search.specs.Lists.{some}
 use Rattle.misses.specs.Overloads.{overloads}
 use Rattle.misses.proofs.Starts.{starts, again-here, again-later, again-past}
 use Rattle.misses.proofs.asking.any_again.Statement.{statement}

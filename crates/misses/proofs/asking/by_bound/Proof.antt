@@ -4,8 +4,8 @@ use borrow.Author.Needs.{needs}
 use denote.Ref.{now}
 use Rattle.table.specs.Find.{rowOf}
 use Rattle.table.specs.declared.Table.{Table}
-use Rattle.table.specs.Taken.{tableOf}
-use Rattle.windows.specs.Demand.{others, othersOf}
+use Rattle.table.specs.Read.{tableOf}
+use Rattle.windows.specs.Demand.{others, viewsOf}
 use Rattle.windows.specs.declared.Answer.{Answer as Bound}
 use Rattle.misses.specs.Overloads.{overloads}
 use Rattle.misses.specs.Misses.{byBound}
@@ -19,7 +19,7 @@ t s = tableOf (now (s .args .s))
 
 -- what an answer of the windows gives
 abbrev given : tie.Start → Bound → Answer
-given s x = let b = rowOf (t s) (s .args .at) in byBound b (othersOf (t s) (s .args .at)) (overloads b (others (t s) (s .args .at))) (s .args .k) x (s .args .w .last)
+given s x = let b = rowOf (t s) (s .args .at) in byBound b (viewsOf (t s) (s .args .at)) (overloads b (others (t s) (s .args .at))) (s .args .k) x (s .args .w .last)
 
 enum-known-answer : tie.Need-enum-known-answer
 enum-known-answer c = search needs
@@ -28,7 +28,7 @@ by-figures-requires : tie.Need-by-figures-requires
 by-figures-requires c κs =
     let s = c .before .before .before .before in
     let a = s .args in
-    (s .pre .0, s .pre .1, asked (rowOf (t s) (a .at)) (othersOf (t s) (a .at)) (a .k) (a .w) _ _ _ _ (s .pre .2) (s .pre .3) (c .before .answer .given .1))
+    (s .pre .0, s .pre .1, asked (rowOf (t s) (a .at)) (viewsOf (t s) (a .at)) (a .k) (a .w) _ _ _ _ (s .pre .2) (s .pre .3) (c .before .answer .given .1))
 
 enum-known-answer-2 : tie.Need-enum-known-answer-2
 enum-known-answer-2 c = search needs

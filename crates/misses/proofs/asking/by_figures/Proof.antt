@@ -8,17 +8,18 @@ use denote.Ref.{now}
 use Rattle.table.specs.Limits.{maxRun, maxGap}
 use Rattle.table.specs.Find.{rowOf, rows}
 use Rattle.table.specs.Record.{rowAt}
-use Rattle.table.specs.Good.{GoodRow}
+use Rattle.table.specs.code.Good.{GoodRow}
 use Rattle.table.specs.declared.Row.{Row}
 use Rattle.table.specs.declared.Table.{Table}
-use Rattle.table.specs.Taken.{tableOf, Stands}
+use Rattle.table.specs.code.Taken.{Stands}
+use Rattle.table.specs.Read.{tableOf}
 use Rattle.table.proofs.Stands.{row-there, stands}
-use Rattle.windows.specs.Load.{Load, most, loadOf}
+use Rattle.windows.specs.code.Load.{Load, most, loadOf}
 use Rattle.packing.specs.Most.{mostUses, capacity}
 use Rattle.misses.specs.Overloads.{overloads}
 use Rattle.misses.specs.Bad.{bad}
-use Rattle.misses.specs.Held.{gathered, piecesIn}
-use Rattle.misses.specs.Settling.{overIn, beyond}
+use Rattle.misses.specs.code.Held.{gathered, piecesIn}
+use Rattle.misses.specs.code.Settling.{overIn, beyond}
 use Rattle.misses.proofs.Judging.{judged-late, judged-size, judged-many, judged-few, judged-again, judged-room, judged-without, judged-roomy, judged-fits, judged-misses}
 use Rattle.misses.proofs.asking.by_figures.Statement.{statement}
 use Rattle.misses.proofs.asking.by_figures.Tie as tie

@@ -5,12 +5,12 @@ use Prim.Native.Nat.{_<_}
 use denote.Ref.{now}
 use Rattle.table.specs.Find.{rowOf}
 use Rattle.table.specs.declared.Table.{Table}
-use Rattle.table.specs.Taken.{tableOf}
+use Rattle.table.specs.Read.{tableOf}
 use Rattle.table.proofs.Finds.{find-le}
 use Rattle.table.proofs.Stands.{row-there, stands}
-use Rattle.windows.specs.Demand.{others, othersOf}
+use Rattle.windows.specs.Demand.{others, viewsOf}
 use Rattle.misses.specs.Overloads.{overloads}
-use Rattle.misses.specs.Misses.{earlyOf, byBound, missesAt, chainOf}
+use Rattle.misses.specs.Misses.{earlyOf, byBound, missesAt, missesIn}
 use Rattle.misses.specs.declared.Answer.the-variants.{Refused}
 use Rattle.misses.proofs.Answers.{at-early, at-bound, chain-none, chain-found}
 use Rattle.misses.proofs.asking.misses_in.Statement.{statement}
@@ -24,7 +24,7 @@ there : (c : tie.Else1) → c .before .before .find .result < t (c .before .befo
 there c = let s = c .before .before .before .before in omega (arith, find-le (t s) (s .args .id), c .before .before .find .ensures, c .before .count .ensures, c .if1 .left)
 
 -- and what is asked is asked of it
-found : (c : tie.Else1) → missesAt (t (c .before .before .before .before)) (c .before .before .find .result) (c .before .before .before .before .args .k) ≡ chainOf (t (c .before .before .before .before)) (c .before .before .before .before .args .id) (c .before .before .before .before .args .k)
+found : (c : tie.Else1) → missesAt (t (c .before .before .before .before)) (c .before .before .find .result) (c .before .before .before .before .args .k) ≡ missesIn (t (c .before .before .before .before)) (c .before .before .before .before .args .id) (c .before .before .before .before .args .k)
 found c =
     let s = c .before .before .before .before in
     let f = c .before .before .find .ensures in
@@ -70,7 +70,7 @@ returns-3 c =
     let at = c .before .before .before .before .before .before .before .find .result in
     let b = rowOf (t s) at in
     c .by-bound .ensures
-    ∙ ap (λ w. byBound b (othersOf (t s) at) (overloads b (others (t s) at)) (s .args .k) (w .answer) (w .last)) (c .before .bound .ensures)
+    ∙ ap (λ w. byBound b (viewsOf (t s) at) (overloads b (others (t s) at)) (s .args .k) (w .answer) (w .last)) (c .before .bound .ensures)
     ∙ sym (at-bound (t s) at (s .args .k) (sym (judged (c .before .before .before)) ∙ c .before .before .if2 .left)) ∙ found (c .before .before .before .before .before)
 
 pub misses-in-spec : {M : Type 1} → statement M

@@ -4,9 +4,9 @@ use native.Mathlib.Omega.{arith}
 use denote.Ref.{now}
 use Rattle.table.specs.Find.{rowOf}
 use Rattle.table.specs.declared.Table.{Table}
-use Rattle.table.specs.Taken.{tableOf}
+use Rattle.table.specs.Read.{tableOf}
 use Rattle.table.proofs.Stands.{row-there, stands}
-use Rattle.windows.specs.Demand.{others, othersOf}
+use Rattle.windows.specs.Demand.{others, viewsOf}
 use Rattle.misses.specs.Overloads.{overloads}
 use Rattle.misses.specs.Misses.{earlyOf, byBound}
 use Rattle.misses.specs.declared.Answer.the-variants.{Refused}
@@ -43,7 +43,7 @@ returns-2 c =
     let s = c .before .before .before .before .before in
     let b = rowOf (t s) (s .args .at) in
     c .by-bound .ensures
-    ∙ ap (λ w. byBound b (othersOf (t s) (s .args .at)) (overloads b (others (t s) (s .args .at))) (s .args .k) (w .answer) (w .last)) (s .pre .2)
+    ∙ ap (λ w. byBound b (viewsOf (t s) (s .args .at)) (overloads b (others (t s) (s .args .at))) (s .args .k) (w .answer) (w .last)) (s .pre .2)
     ∙ sym (at-bound (t s) (s .args .at) (s .args .k) (sym (judged (c .before .before)) ∙ c .before .if1 .left))
 
 pub misses-with-spec : {M : Type 1} → statement M

@@ -5,10 +5,10 @@ use borrow.Author.Needs.{needs}
 use denote.Ref.{now}
 use Rattle.packing.specs.Most.{flagged, capacity}
 use Rattle.packing.proofs.Laws.{most-same}
-use Rattle.windows.specs.Load.{loadOf}
+use Rattle.windows.specs.code.Load.{loadOf}
 use Rattle.misses.specs.Bad.{bad}
-use Rattle.misses.specs.Held.{piecesIn}
-use Rattle.misses.specs.Settling.{overIn}
+use Rattle.misses.specs.code.Held.{piecesIn}
+use Rattle.misses.specs.code.Settling.{overIn}
 use Rattle.misses.proofs.Packs.{price-within, flags-bad}
 use Rattle.misses.proofs.asking.packed.Statement.{statement}
 use Rattle.misses.proofs.asking.packed.Tie as tie

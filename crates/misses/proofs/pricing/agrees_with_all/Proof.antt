@@ -5,9 +5,9 @@ use mathlib.Core.List.{List}
 use native.Mathlib.Omega.{arith}
 use borrow.Author.Tests.{not-true, not-false}
 use Rattle.search.proofs.Choice.{when-yes, when-no}
-use Rattle.misses.specs.Tests.{every}
+use Rattle.search.specs.Lists.{every}
 use Rattle.misses.specs.Sets.{agree}
-use Rattle.misses.specs.Held.{pieceAt, membersAt}
+use Rattle.misses.specs.code.Held.{pieceAt, membersAt}
 use Rattle.misses.proofs.Bools.{every-end}
 use Rattle.misses.proofs.Masks.{at-end, agree-step}
 use Rattle.misses.proofs.pricing.agrees_with_all.Statement.{statement}

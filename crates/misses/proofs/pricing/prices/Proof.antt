@@ -3,7 +3,7 @@ use Prim.Native.Nat.{ℕ, _-_}
 use mathlib.Core.Path.{_≡_}
 use native.Mathlib.Omega.{arith}
 use lib.ListN.{length-replicate}
-use Rattle.misses.specs.Held.{piecesAt, priceOf}
+use Rattle.misses.specs.code.Held.{piecesAt, priceOf}
 use Rattle.misses.proofs.Fills.{Filled, filled-none, filled-on}
 use Rattle.misses.proofs.pricing.prices.Statement.{statement}
 use Rattle.misses.proofs.pricing.prices.Tie as tie

@@ -3,8 +3,8 @@ use Prim.Native.Nat.{_-_}
 use mathlib.Core.Path.{_≡_, subst}
 use native.Mathlib.Omega.{arith}
 use denote.Ref.{now}
-use Rattle.windows.specs.Load.{loadOf}
-use Rattle.misses.specs.Settling.{overIn, Settles, Picks}
+use Rattle.windows.specs.code.Load.{loadOf}
+use Rattle.misses.specs.code.Settling.{overIn, Settles, Picks}
 use Rattle.misses.proofs.Sweeps.{load-worsens}
 use Rattle.misses.proofs.Settles.{settles-none, settles-tell}
 use Rattle.misses.proofs.settling.lowest_bad.Statement.{statement}

@@ -5,18 +5,17 @@ use mathlib.Core.Bool.{false}
 use native.Mathlib.Omega.{arith}
 use borrow.Author.Needs.{needs}
 use denote.Ref.{now}
-use Rattle.table.specs.Record.{rowAt}
-use Rattle.arrivals.specs.Arrivals.{distances}
+use Rattle.table.specs.Record.{rowAt, distances}
 use Rattle.arrivals.proofs.Distances.{δ-near}
 use Rattle.arrivals.proofs.Rows.{good-distances}
 use Rattle.windows.specs.Window.{windowOf}
-use Rattle.windows.specs.Load.{Load, loadOf, ownOf, demandIn, plus, Counted, Sound}
+use Rattle.windows.specs.code.Load.{Load, loadOf, ownOf, demandIn, plus, Counted, Sound}
 use Rattle.windows.specs.Latency.{upTo}
 use Rattle.windows.specs.declared.Window.the-variants.{At}
 use Rattle.windows.proofs.Growth.{load-growing}
 use Rattle.windows.proofs.Joining.{plus-sound}
 use Rattle.windows.proofs.Counting.{counted-none}
-use Rattle.misses.specs.Tests.{some}
+use Rattle.search.specs.Lists.{some}
 use Rattle.misses.proofs.Sweeps.{passes, Swept, swept-start, swept-none, swept-past, swept-on, plus-over}
 use Rattle.misses.proofs.settling.over.Statement.{statement}
 use Rattle.misses.proofs.settling.over.Tie as tie

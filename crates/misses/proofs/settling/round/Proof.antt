@@ -4,8 +4,8 @@ use mathlib.Core.Path.{sym, _∙_}
 use mathlib.Core.Bool.{Bool}
 use native.Mathlib.Omega.{arith}
 use denote.Ref.{now}
-use Rattle.windows.specs.Load.{Load, loadOf}
-use Rattle.misses.specs.Settling.{overIn}
+use Rattle.windows.specs.code.Load.{Load, loadOf}
+use Rattle.misses.specs.code.Settling.{overIn}
 use Rattle.misses.proofs.Sweeps.{load-worsens}
 use Rattle.misses.proofs.Settles.{settles-bad, settles-good}
 use Rattle.misses.proofs.settling.round.Statement.{statement}

@@ -6,7 +6,7 @@ use mir.Syntax.{w32}
 use mir.Facts.{toZ-ofZ}
 use Rattle.report_text.specs.Numbers.{signed}
 use Rattle.report_text.specs.Report.{after, answersText}
-use Rattle.report_text.specs.Writing.{Wrote}
+use Rattle.report_text.specs.code.Writing.{Wrote}
 use Rattle.report_text.proofs.Writes.{wrote-on}
 use borrow.Author.Needs.{needs}
 use Rattle.report_text.proofs.lines.put_answers.Statement.{statement}

@@ -5,15 +5,15 @@ use mathlib.Core.Path.{_≡_, ap, ap₂, sym, subst, _∙_}
 use denote.Ref.{now}
 use Rattle.table.specs.Find.{rowOf}
 use Rattle.table.specs.Record.{rowAt}
-use Rattle.table.specs.Taken.{tableOf}
+use Rattle.table.specs.Read.{tableOf}
 use Rattle.table.specs.declared.Row.{Row}
 use Rattle.table.proofs.Stands.{row-there, stands}
-use Rattle.windows.specs.Demand.{othersOf}
+use Rattle.windows.specs.Demand.{viewsOf}
 use Rattle.windows.specs.Latency.{boundOf}
 use Rattle.misses.specs.Misses.{missesAt}
 use Rattle.windows.specs.declared.Windows.{Windows}
 use Rattle.report_text.specs.Report.{missRun, lineText}
-use Rattle.report_text.specs.Writing.{Wrote, Bounded}
+use Rattle.report_text.specs.code.Writing.{Wrote, Bounded}
 use Rattle.report_text.proofs.Decimals.{decimal-fits}
 use Rattle.report_text.proofs.Refusals.{bounded}
 use Rattle.report_text.proofs.Writes.{wrote-on}
@@ -77,8 +77,8 @@ returns c =
     let w = c .before .before .before .before .before .before .before .before .before .before .put-decimal .ensures in
     let a = c .before .before .before .before .before .before .put-answers .ensures in
     let n = c .before .before .put-byte in
-    let e : lineText (id .result) (x .result .answer) (m .result) ≡ lineText (rowOf t i .id) (boundOf (rowOf t i) (othersOf t i) .answer) (missesAt t i missRun) =
-    ap₂ (λ (k : ℕ) (q : Windows). lineText k (q .answer) (m .result)) (id-is (c .before .before .before .before .before .before .before .before .before .before .before)) (x .ensures) ∙ ap (lineText (rowOf t i .id) (boundOf (rowOf t i) (othersOf t i) .answer)) (m .ensures) in (
+    let e : lineText (id .result) (x .result .answer) (m .result) ≡ lineText (rowOf t i .id) (boundOf (rowOf t i) (viewsOf t i) .answer) (missesAt t i missRun) =
+    ap₂ (λ (k : ℕ) (q : Windows). lineText k (q .answer) (m .result)) (id-is (c .before .before .before .before .before .before .before .before .before .before .before)) (x .ensures) ∙ ap (lineText (rowOf t i .id) (boundOf (rowOf t i) (viewsOf t i) .answer)) (m .ensures) in (
       subst (λ l. Wrote (now (s .args .out)) (s .args .at) l (n .last .0) (n .result)) e (wrote-on (wrote-on w (a .0)) (n .ensures)),
       omega (arith, w .ends, a .1, n .ensures .ends, decimal-fits (id .result) (omega (arith, id .ensures .1))),
     )

@@ -6,7 +6,7 @@ use mathlib.Core.List.{[], _∷_, _++_}
 use denote.Ref.{now}
 use lib.ListN.{length, length-append}
 use Rattle.report_text.specs.Numbers.{decimal}
-use Rattle.report_text.specs.Writing.{Wrote}
+use Rattle.report_text.specs.code.Writing.{Wrote}
 use Rattle.report_text.proofs.Decimals.{decimal-one, decimal-more}
 use Rattle.report_text.proofs.Writes.{wrote-on}
 use borrow.Fn.Kinds.{In}

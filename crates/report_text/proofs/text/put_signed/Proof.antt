@@ -8,7 +8,7 @@ use native.Mathlib.Omega.{arith}
 use Rattle.windows.proofs.Signs.{Upper, upper, Lower, lower}
 use Rattle.report_text.specs.Numbers.{decimal, signed}
 use Rattle.report_text.specs.Report.{after}
-use Rattle.report_text.specs.Writing.{Wrote}
+use Rattle.report_text.specs.code.Writing.{Wrote}
 use Rattle.report_text.proofs.Decimals.{decimal-fits}
 use Rattle.report_text.proofs.Writes.{wrote-on}
 use borrow.Author.Needs.{needs}

@@ -3,7 +3,7 @@ use mathlib.Core.Path.{sym, subst}
 use lib.ListN.{length}
 use denote.Ref.{now}
 use borrow.Rule.Slice.PartMut.{putMid}
-use Rattle.report_text.specs.Writing.{Wrote}
+use Rattle.report_text.specs.code.Writing.{Wrote}
 use Rattle.report_text.proofs.Writes.{wrote-text}
 use borrow.Author.Needs.{needs}
 use Rattle.report_text.proofs.text.put_text.Statement.{statement}

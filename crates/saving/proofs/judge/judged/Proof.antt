@@ -10,12 +10,12 @@ use Rattle.table.specs.Bytes.{Bytes}
 use Rattle.table.specs.Record.{rowAt}
 use Rattle.table.specs.declared.Row.{Row}
 use Rattle.table.specs.Find.{rowOf}
-use Rattle.table.specs.Read.{numberOf, accepted, readTable}
+use Rattle.table.specs.Read.{numberOf, accepted, readTable, tableOf}
 use Rattle.table.specs.Place.{placeOf}
-use Rattle.table.specs.Taken.{tableOf, Taken}
+use Rattle.table.specs.code.Taken.{Taken}
 use Rattle.table.proofs.Stands.{row-there, stands}
 use Rattle.saving.specs.Save.{readFault, seenOf, unfit, splice, resultFault}
-use Rattle.saving.specs.Begins.{Begins}
+use Rattle.saving.specs.code.Begins.{Begins}
 use Rattle.saving.proofs.Verdicts.{read-accepted}
 use Rattle.saving.proofs.Stored.{stored-taken}
 use Rattle.saving.proofs.Seen.{seen-le, seen-inside, result-is}

@@ -8,8 +8,9 @@ use borrow.Author.Count.{below-more}
 use native.Mathlib.Omega.{arith}
 use Rattle.search.proofs.Choice.{true-not-false}
 use Rattle.table.specs.Find.{rowOf}
-use Rattle.table.specs.Place.{size, placeOf}
-use Rattle.table.specs.Taken.{tableOf, Stands}
+use Rattle.table.specs.Place.{lengthOf, placeOf}
+use Rattle.table.specs.code.Taken.{Stands}
+use Rattle.table.specs.Read.{tableOf}
 use Rattle.table.proofs.Standing.{place-none}
 use Rattle.table.proofs.Stands.{length-at, row-there, stands, place-next}
 use Rattle.saving.specs.Save.{same, recordOf}
@@ -37,7 +38,7 @@ taken : (c : tie.After-record-length Inv-loop μ-loop)
 unfolding recordOf
 taken c = let s = now (c .before .before .before .before .before .before .args .s) in
     let l = c .before .before .loop in
-    let e : l .at + c .record-length .result - l .at ≡ size (rowOf (tableOf s) (l .k)) = omega (arith, c .record-length .ensures, length-at s (l .at), ap size (row-there (c .before .before .before .before .before .before .pre) (l .inv .1) (within (c .before)))) in
+    let e : l .at + c .record-length .result - l .at ≡ lengthOf (rowOf (tableOf s) (l .k)) = omega (arith, c .record-length .ensures, length-at s (l .at), ap lengthOf (row-there (c .before .before .before .before .before .before .pre) (l .inv .1) (within (c .before)))) in
     rw (e, l .inv .1)
 
 count-requires : tie.Need-count-requires Inv-loop μ-loop

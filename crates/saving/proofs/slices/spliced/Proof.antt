@@ -7,7 +7,7 @@ use lib.ListN.{length, take, drop, length-append, length-take, length-drop}
 use lib.Seq.{length-take-le, take-all}
 use borrow.Author.Needs.{needs}
 use native.Mathlib.Omega.{arith}
-use Rattle.saving.specs.Begins.{Begins}
+use Rattle.saving.specs.code.Begins.{Begins}
 use Rattle.saving.proofs.Splices.{splice-length, put-length, begins-none, begins-put}
 use Rattle.saving.proofs.slices.spliced.Statement.{statement}
 use Rattle.saving.proofs.slices.spliced.Tie as tie

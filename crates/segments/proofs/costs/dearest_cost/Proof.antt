@@ -7,7 +7,7 @@ use denote.Ref.{now}
 use lib.ListN.{getD}
 use Rattle.table.specs.Limits.{maxCost}
 use Rattle.table.specs.Record.{tasksAt, rowAt}
-use Rattle.segments.specs.Held.{stretchOf}
+use Rattle.segments.specs.code.Held.{stretchOf}
 use Rattle.segments.proofs.Steps.{ahead-first, ahead-fits}
 use Rattle.segments.proofs.Costing.{dearFrom, dear-low, dear-high, dear-end, dearest-more}
 use Rattle.segments.proofs.costs.dearest_cost.Statement.{statement}

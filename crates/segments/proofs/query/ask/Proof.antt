@@ -9,7 +9,7 @@ use borrow.Author.Tests.{eq-eqb, ne-eqb, eqb-true, eqb-false}
 use Rattle.search.proofs.Choice.{when-yes, when-no}
 use Rattle.table.specs.declared.Table.{Table}
 use Rattle.table.specs.Find.{findOf, used}
-use Rattle.table.specs.Taken.{tableOf}
+use Rattle.table.specs.Read.{tableOf}
 use Rattle.table.proofs.Firsts.{or-left, or-right, or-none}
 use Rattle.segments.specs.Query.{nthOf, answerOf}
 use Rattle.segments.proofs.Asking.{unknown, known, known-below}

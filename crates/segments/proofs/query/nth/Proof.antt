@@ -9,10 +9,10 @@ use borrow.Author.Tests.{ltb-false}
 use Rattle.table.specs.declared.Row.{Row}
 use Rattle.table.specs.Record.{rowAt}
 use Rattle.table.specs.Find.{rowOf}
-use Rattle.table.specs.Taken.{tableOf}
+use Rattle.table.specs.Read.{tableOf}
 use Rattle.table.proofs.Stands.{row-there, stands}
 use Rattle.segments.specs.Actives.{activesOf}
-use Rattle.segments.specs.Held.{arraysOf}
+use Rattle.segments.specs.code.Held.{arraysOf}
 use Rattle.segments.proofs.Levels.{floor-tail}
 use Rattle.segments.proofs.Asking.{Fetched, found-is, first-there, fetched, nth-none, nth-records, place-max}
 use Rattle.segments.proofs.query.nth.Statement.{statement}

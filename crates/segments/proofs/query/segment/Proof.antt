@@ -2,9 +2,8 @@
 use native.Mathlib.Omega.{arith}
 use mathlib.Core.Path.{ap, sym, _∙_}
 use denote.Ref.{now}
-use Rattle.table.specs.Taken.{tableOf}
 use Rattle.table.proofs.Accepted.{taken}
-use Rattle.table.specs.Read.{byVerdict}
+use Rattle.table.specs.Read.{byVerdict, tableOf}
 use Rattle.segments.specs.Query.{segmentOf, answerOf}
 use Rattle.segments.specs.declared.Answer.the-variants.{Refused}
 use borrow.Author.Needs.{needs}

@@ -3,14 +3,14 @@ use Prim.Native.Nat.{_≤_, _-_}
 use mathlib.Core.Path.{_≡_}
 use denote.Ref.{now}
 use Rattle.table.specs.Bytes.{word}
-use Rattle.table.specs.Record.{every, pad}
+use Rattle.table.specs.Record.{spaced, pad}
 use Rattle.table.proofs.Lists.{pad-none, pad-on}
 use native.Mathlib.Omega.{arith}
 use Rattle.table.proofs.decode.list_of.Statement.{statement}
 use Rattle.table.proofs.decode.list_of.Tie as tie
 
 abbrev Inv-loop : tie.InvT-loop
-Inv-loop s from n list₀ k₀ list k = (k ≤ n) × (list ≡ pad 8 (every (word 4 s) 4 k from))
+Inv-loop s from n list₀ k₀ list k = (k ≤ n) × (list ≡ pad 8 (spaced (word 4 s) 4 k from))
 
 abbrev μ-loop : tie.MeasureT-loop
 μ-loop s from n list₀ k₀ list k = n - k

@@ -5,7 +5,7 @@ use mathlib.Core.Path.{_≡_, ap, _∙_}
 use denote.Ref.{now}
 use Rattle.table.specs.Find.{rowOf}
 use Rattle.table.specs.Place.{placeOf}
-use Rattle.table.specs.Taken.{tableOf}
+use Rattle.table.specs.Read.{tableOf}
 use Rattle.table.specs.declared.Row.{Row}
 use Rattle.table.proofs.Standing.{place-none}
 use Rattle.table.proofs.Stands.{row-there, stands, place-next}

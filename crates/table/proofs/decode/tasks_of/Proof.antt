@@ -2,14 +2,14 @@
 use Prim.Native.Nat.{_≤_, _-_}
 use mathlib.Core.Path.{_≡_}
 use denote.Ref.{now}
-use Rattle.table.specs.Record.{every, pad, priorityAt, costAt}
+use Rattle.table.specs.Record.{spaced, pad, priorityAt, costAt}
 use Rattle.table.proofs.Lists.{pad-none, pad-on}
 use native.Mathlib.Omega.{arith}
 use Rattle.table.proofs.decode.tasks_of.Statement.{statement}
 use Rattle.table.proofs.decode.tasks_of.Tie as tie
 
 abbrev Inv-loop : tie.InvT-loop
-Inv-loop s from n priority₀ cost₀ k₀ priority cost k = (k ≤ n) × (priority ≡ pad 16 (every (priorityAt s) 8 k from)) × (cost ≡ pad 16 (every (costAt s) 8 k from))
+Inv-loop s from n priority₀ cost₀ k₀ priority cost k = (k ≤ n) × (priority ≡ pad 16 (spaced (priorityAt s) 8 k from)) × (cost ≡ pad 16 (spaced (costAt s) 8 k from))
 
 abbrev μ-loop : tie.MeasureT-loop
 μ-loop s from n priority₀ cost₀ k₀ priority cost k = n - k

@@ -3,7 +3,7 @@ use Prim.Native.Nat.{_≤_, _+_, _*_, _-_}
 use mathlib.Core.Path.{_≡_, ap, sym, _∙_}
 use denote.Ref.{now}
 use Rattle.table.specs.Bytes.{word}
-use Rattle.table.specs.Record.{every}
+use Rattle.table.specs.Record.{spaced}
 use Rattle.table.specs.Fault.{falls as fallsOf}
 use Rattle.table.proofs.Lists.{every-start, every-on, every-end, falls-yes, falls-no, falls-end}
 use native.Mathlib.Omega.{arith}
@@ -11,7 +11,7 @@ use Rattle.table.proofs.fault.falls.Statement.{statement}
 use Rattle.table.proofs.fault.falls.Tie as tie
 
 abbrev Inv-loop : tie.InvT-loop
-Inv-loop s at n before₀ k₀ before k = (k ≤ n) × (fallsOf before (every (word 4 s) 4 (n - k) (at + 4 * k)) ≡ fallsOf 0 (every (word 4 s) 4 n at))
+Inv-loop s at n before₀ k₀ before k = (k ≤ n) × (fallsOf before (spaced (word 4 s) 4 (n - k) (at + 4 * k)) ≡ fallsOf 0 (spaced (word 4 s) 4 n at))
 
 abbrev μ-loop : tie.MeasureT-loop
 μ-loop s at n before₀ k₀ before k = n - k
@@ -34,7 +34,7 @@ outside-requires c κs = omega arith
 returns : tie.Need-returns Inv-loop μ-loop
 returns c = let a = c .before .before .before .before .before .before .args in
     let l = c .before .before .before .before .loop in
-    cc (every-on (word 4 (now (a .s))) 4 (a .n) (l .k) (a .at) (omega arith), falls-yes (l .before) (c .before .before .u32-at .result) (every (word 4 (now (a .s))) 4 (a .n - (l .k + 1)) (a .at + 4 * (l .k + 1))) (sym (c .before .outside .ensures) ∙ c .if1 .taken))
+    cc (every-on (word 4 (now (a .s))) 4 (a .n) (l .k) (a .at) (omega arith), falls-yes (l .before) (c .before .before .u32-at .result) (spaced (word 4 (now (a .s))) 4 (a .n - (l .k + 1)) (a .at + 4 * (l .k + 1))) (sym (c .before .outside .ensures) ∙ c .if1 .taken))
 
 add-k : tie.Need-add-k Inv-loop μ-loop
 add-k c = omega arith
@@ -45,7 +45,7 @@ loop-less c = omega arith
 loop-again : tie.Need-loop-again Inv-loop μ-loop
 loop-again c = let a = c .before .before .before .before .before .before .args in
     let l = c .before .before .before .before .loop in
-    (omega arith, cc (every-on (word 4 (now (a .s))) 4 (a .n) (l .k) (a .at) (omega arith), falls-no (l .before) (c .before .before .u32-at .result) (every (word 4 (now (a .s))) 4 (a .n - (l .k + 1)) (a .at + 4 * (l .k + 1))) (sym (c .before .outside .ensures) ∙ c .if1 .left)))
+    (omega arith, cc (every-on (word 4 (now (a .s))) 4 (a .n) (l .k) (a .at) (omega arith), falls-no (l .before) (c .before .before .u32-at .result) (spaced (word 4 (now (a .s))) 4 (a .n - (l .k + 1)) (a .at + 4 * (l .k + 1))) (sym (c .before .outside .ensures) ∙ c .if1 .left)))
 
 returns-2 : tie.Need-returns-2 Inv-loop μ-loop
 returns-2 c = let a = c .before .before .before .args in

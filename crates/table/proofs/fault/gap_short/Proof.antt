@@ -3,7 +3,7 @@ use Prim.Native.Nat.{_≤_, _+_, _*_, _-_}
 use mathlib.Core.Path.{_≡_, ap}
 use denote.Ref.{now}
 use Rattle.table.specs.Bytes.{word}
-use Rattle.table.specs.Record.{every}
+use Rattle.table.specs.Record.{spaced}
 use native.Mathlib.Nat.{mul-le-mul-left}
 use Rattle.table.specs.Fault.{gapShort}
 use Rattle.table.proofs.Lists.{every-start, every-on, every-end, gap-yes, gap-no, gap-end}
@@ -12,7 +12,7 @@ use Rattle.table.proofs.fault.gap_short.Statement.{statement}
 use Rattle.table.proofs.fault.gap_short.Tie as tie
 
 abbrev Inv-loop : tie.InvT-loop
-Inv-loop s at n gap k₀ k = (k ≤ n) × (gapShort gap (k + 1) (every (word 4 s) 4 (n - k) (at + 4 * k)) ≡ gapShort gap 1 (every (word 4 s) 4 n at))
+Inv-loop s at n gap k₀ k = (k ≤ n) × (gapShort gap (k + 1) (spaced (word 4 s) 4 (n - k) (at + 4 * k)) ≡ gapShort gap 1 (spaced (word 4 s) 4 n at))
 
 abbrev μ-loop : tie.MeasureT-loop
 μ-loop s at n gap k₀ k = n - k
@@ -42,7 +42,7 @@ cast-if1 c = omega arith
 returns : tie.Need-returns Inv-loop μ-loop
 returns c = let a = c .before .before .before .before .before .args in
     let l = c .before .before .before .loop in
-    cc (every-on (word 4 (now (a .s))) 4 (a .n) (l .k) (a .at) (omega arith), gap-yes (a .gap) (l .k + 1) (c .before .u32-at .result) (every (word 4 (now (a .s))) 4 (a .n - (l .k + 1)) (a .at + 4 * (l .k + 1))) (c .if1 .taken))
+    cc (every-on (word 4 (now (a .s))) 4 (a .n) (l .k) (a .at) (omega arith), gap-yes (a .gap) (l .k + 1) (c .before .u32-at .result) (spaced (word 4 (now (a .s))) 4 (a .n - (l .k + 1)) (a .at + 4 * (l .k + 1))) (c .if1 .taken))
 
 add-k : tie.Need-add-k Inv-loop μ-loop
 add-k c = omega arith
@@ -53,7 +53,7 @@ loop-less c = omega arith
 loop-again : tie.Need-loop-again Inv-loop μ-loop
 loop-again c = let a = c .before .before .before .before .before .args in
     let l = c .before .before .before .loop in
-    (omega arith, cc (every-on (word 4 (now (a .s))) 4 (a .n) (l .k) (a .at) (omega arith), gap-no (a .gap) (l .k + 1) (c .before .u32-at .result) (every (word 4 (now (a .s))) 4 (a .n - (l .k + 1)) (a .at + 4 * (l .k + 1))) (c .if1 .left)))
+    (omega arith, cc (every-on (word 4 (now (a .s))) 4 (a .n) (l .k) (a .at) (omega arith), gap-no (a .gap) (l .k + 1) (c .before .u32-at .result) (spaced (word 4 (now (a .s))) 4 (a .n - (l .k + 1)) (a .at + 4 * (l .k + 1))) (c .if1 .left)))
 
 returns-2 : tie.Need-returns-2 Inv-loop μ-loop
 returns-2 c = let a = c .before .before .before .args in

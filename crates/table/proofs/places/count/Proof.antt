@@ -6,7 +6,7 @@ use denote.Ref.{now}
 use lib.ListN.{length}
 use Rattle.table.specs.Bytes.{word}
 use Rattle.table.specs.Place.{placeOf}
-use Rattle.table.specs.Taken.{tableOf}
+use Rattle.table.specs.Read.{tableOf}
 use borrow.Author.Needs.{needs}
 use Rattle.table.proofs.places.count.Statement.{statement}
 use Rattle.table.proofs.places.count.Tie as tie

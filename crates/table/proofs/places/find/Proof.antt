@@ -11,7 +11,7 @@ use Rattle.table.specs.declared.Row.{Row}
 use Rattle.table.specs.Record.{rowAt}
 use Rattle.table.specs.Find.{rowOf, findOf}
 use Rattle.table.specs.Place.{placeOf}
-use Rattle.table.specs.Taken.{tableOf}
+use Rattle.table.specs.Read.{tableOf}
 use Rattle.table.proofs.Standing.{place-none}
 use Rattle.table.proofs.Stands.{row-there, stands, place-next}
 use native.Mathlib.Omega.{arith}

@@ -3,7 +3,7 @@ use Prim.Native.Nat.{_+_, _≤_, _-_}
 use mathlib.Core.Path.{_≡_, ap, _∙_}
 use denote.Ref.{now}
 use Rattle.table.specs.Place.{placeOf}
-use Rattle.table.specs.Taken.{tableOf}
+use Rattle.table.specs.Read.{tableOf}
 use Rattle.table.proofs.Standing.{place-none}
 use Rattle.table.proofs.Stands.{stands, place-next}
 use native.Mathlib.Omega.{arith}

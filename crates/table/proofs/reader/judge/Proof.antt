@@ -12,9 +12,9 @@ use Rattle.table.specs.Limits.{maxChains, maxAllTasks, maxBytes}
 use Rattle.table.specs.Bytes.{word}
 use Rattle.table.specs.declared.Table.{Table}
 use Rattle.table.specs.Record.{idAt, rowAt, lengthAt}
-use Rattle.table.specs.Before.{Before}
+use Rattle.table.specs.code.Before.{Before}
 use Rattle.table.specs.Fault.{markOf, chainFault}
-use Rattle.table.specs.Read.{empty, plus, accepted, unless, records, readTable}
+use Rattle.table.specs.Read.{empty, plus, accepted, refusal, unless, records, readTable}
 use Rattle.table.specs.declared.Reading.{Reading}
 use Rattle.table.specs.declared.Mark.the-variants.{Chain, Task, End, Other}
 use Rattle.table.proofs.Before.{before-more}
@@ -120,7 +120,7 @@ returns-3 c = let l = c .before .before .before .before .before .before .before 
     let rest = records (maxChains - (t .count + 1)) s (l .loop .at + lengthAt s (l .loop .at)) (plus t (rowAt s (l .loop .at))) in
     let g = records-chain s (l .loop .at) t (c .before .before .before .before .before .before .before .before .before .loop-test .taken) (chain-mark (c .before .before .before .before .before)) (omega (arith, l .loop .inv .1 .known .counts, l .loop .inv .1 .few, c .before .before .before .before .if3 .left)) in
     c .concluded3 .ensures t ∙ verdict (unless-fault (f .result) (accepted t) (c .before .if4 .taken)
-    ∙ sym (whole l ∙ g ∙ ap (λ (n : ℕ). unless n rest) (sym (f .ensures t (l .loop .inv .1 .known))) ∙ unless-fault (f .result) rest (c .before .if4 .taken)))
+    ∙ sym (whole l ∙ g ∙ ap (λ (n : ℕ). unless refusal n rest) (sym (f .ensures t (l .loop .inv .1 .known))) ∙ unless-fault (f .result) rest (c .before .if4 .taken)))
 
 id-at-requires : tie.Need-id-at-requires Inv-loop μ-loop
 id-at-requires c κs = omega (arith, right c .there)
@@ -189,7 +189,7 @@ returns-4 c = let l = c .before .before .before .before .before .before .before 
     let t = l .loop .inv .0 in
     let s = now (c .before .before .before .before .before .before .before .before .before .before .before .args .s) in
     let f = c .before .end-fault in
-    c .concluded4 .ensures t ∙ verdict (ap (λ (n : ℕ). unless n (accepted t)) (f .ensures t (l .loop .inv .1 .known .counts))
+    c .concluded4 .ensures t ∙ verdict (ap (λ (n : ℕ). unless refusal n (accepted t)) (f .ensures t (l .loop .inv .1 .known .counts))
     ∙ sym (whole l ∙ records-mark s (l .loop .at) t (c .before .before .before .before .before .before .loop-test .taken) (maxChains - t .count) End (end-mark (c .before .before)) (λ e. let z : _≡_ {A = ℕ} 0 1 = cc in omega arith)))
 
 enum-told-3 : tie.Need-enum-told-3 Inv-loop μ-loop

@@ -14,8 +14,8 @@ use Rattle.arrivals.specs.Arrivals.{η}
 use Rattle.arrivals.proofs.Counts.{η-mono}
 use Rattle.arrivals.proofs.Rows.{good-distances}
 use Rattle.search.proofs.Choice.{when-cases}
-use Rattle.windows.specs.Window.{Under}
-use Rattle.windows.specs.Load.{Load, loadOf, ownOf, Counted, demandIn}
+use Rattle.windows.specs.code.Load.{Under}
+use Rattle.windows.specs.code.Load.{Load, loadOf, ownOf, Counted, demandIn}
 use Rattle.windows.specs.Latency.{long}
 use Rattle.windows.proofs.Least.{Grows, under-climbs, under-next, under-solves, under-none}
 use Rattle.windows.proofs.Growth.{load-growing}

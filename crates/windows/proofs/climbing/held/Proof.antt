@@ -7,7 +7,7 @@ use native.Mathlib.Nat.{le-of-eq}
 use lib.ListN.{getD}
 use Rattle.table.specs.Limits.{maxChains}
 use Rattle.arrivals.proofs.Rows.{good-distances}
-use Rattle.windows.specs.Load.{heldOf, Behind}
+use Rattle.windows.specs.code.Load.{heldOf, Behind}
 use Rattle.windows.proofs.Bounds.{busiest, turns-le, held-on}
 use Rattle.windows.proofs.Counting.{behind-next, own-stays}
 use Rattle.windows.proofs.climbing.held.Statement.{statement}

@@ -14,11 +14,13 @@ use Rattle.table.specs.declared.Row.{Row}
 use Rattle.table.specs.declared.Table.{Table}
 use Rattle.table.specs.Find.{rowOf}
 use Rattle.table.specs.Place.{placeOf}
-use Rattle.table.specs.Taken.{tableOf, Stands}
+use Rattle.table.specs.code.Taken.{Stands}
+use Rattle.table.specs.Read.{tableOf}
 use Rattle.table.proofs.Stands.{row-there, stands, place-next}
 use Rattle.segments.specs.View.{View, viewOf}
 use Rattle.segments.proofs.Views.{view-list}
-use Rattle.windows.specs.Load.{dearest, most, Load, loadOf, Joined, Adds}
+use Rattle.windows.specs.code.Load.{most, Load, loadOf, Joined, Adds}
+use Rattle.segments.specs.code.Held.{dearest}
 use Rattle.windows.proofs.Besides.{viewsFrom, views-none, views-length, views-yes, views-no}
 use Rattle.windows.proofs.Joining.{once-joined, held-joined, joined-none, joined-on}
 use Rattle.windows.proofs.loading.beside.Statement.{statement}

@@ -9,11 +9,12 @@ use Rattle.table.specs.Record.{lengthAt, rowAt}
 use Rattle.table.specs.declared.Table.{Table}
 use Rattle.table.specs.Find.{rowOf}
 use Rattle.table.specs.Place.{placeOf}
-use Rattle.table.specs.Taken.{tableOf, Stands}
+use Rattle.table.specs.code.Taken.{Stands}
+use Rattle.table.specs.Read.{tableOf}
 use Rattle.table.proofs.Standing.{place-none}
 use Rattle.table.proofs.Stands.{row-there, stands, place-next}
 use Rattle.segments.specs.Tasks.{floorOf}
-use Rattle.windows.specs.Load.{loadOf, Loads}
+use Rattle.windows.specs.code.Load.{loadOf, Loads}
 use Rattle.windows.proofs.Besides.{viewsFrom, views-length, views-others}
 use Rattle.windows.proofs.Joining.{loads-on, loads-same}
 use Rattle.windows.proofs.loading.load.Statement.{statement}

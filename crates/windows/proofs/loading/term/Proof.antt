@@ -7,7 +7,7 @@ use borrow.Author.Tests.{eq-eqb, ne-eqb}
 use Rattle.table.specs.Record.{rowAt}
 use Rattle.table.specs.declared.Row.{Row}
 use Rattle.segments.specs.Tasks.{tasksOf, below, before}
-use Rattle.segments.specs.Held.{stretchOf}
+use Rattle.segments.specs.code.Held.{stretchOf}
 use Rattle.segments.proofs.Steps.{ahead-first, ahead-inside}
 use Rattle.windows.proofs.Terms.{free-adds, asynchronous-adds, synchronous-adds}
 use Rattle.windows.proofs.loading.term.Statement.{statement}

@@ -12,7 +12,7 @@ use Rattle.table.specs.Record.{rowAt}
 use Rattle.arrivals.proofs.Rows.{good-distances}
 use Rattle.windows.specs.Window.{windowOf}
 use Rattle.windows.specs.Latency.{marginOf, windowsOf}
-use Rattle.windows.specs.Load.{Load, loadOf, ownOf, Counted, demandIn}
+use Rattle.windows.specs.code.Load.{Load, loadOf, ownOf, Counted, demandIn}
 use Rattle.windows.specs.declared.Window.the-variants.{At}
 use Rattle.windows.specs.declared.Answer.the-variants.{Figures}
 use Rattle.windows.proofs.Growth.{Growing, load-growing}

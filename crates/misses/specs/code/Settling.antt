@@ -6,10 +6,10 @@ use mathlib.Core.List.{List}
 use lib.Dec.{leb}
 use lib.ListN.{getD}
 use Rattle.table.specs.Limits.{maxOverloads}
-use Rattle.windows.specs.Load.{Load, ownOf, demandIn}
+use Rattle.windows.specs.code.Load.{Load, ownOf, demandIn}
 use Rattle.packing.specs.Packing.{combinations}
 use Rattle.misses.specs.Bad.{over}
-use Rattle.misses.specs.Held.{dearest}
+use Rattle.segments.specs.code.Held.{dearest}
 use Rattle.misses.specs.declared.Settled.{Settled}
 
 -- a set that costs so much is bad, by the demand of a load
@@ -43,5 +43,5 @@ pub record Picks (s : Settled) (costs : List ℕ) (r : ℕ) : Type 0 where
   pub one : 0 < r → Open s r
 
 -- exactly the costs from r on are over
-abbrev pub Tells : (ℕ → Bool) → List ℕ → ℕ → Type 0
-Tells over costs r = (m : ℕ) → m < combinations → leb r (getD costs m 0) ≡ over (getD costs m 0)
+abbrev pub BadFrom : (ℕ → Bool) → List ℕ → ℕ → Type 0
+BadFrom over costs r = (m : ℕ) → m < combinations → leb r (getD costs m 0) ≡ over (getD costs m 0)

@@ -4,11 +4,12 @@ use mathlib.Core.List.{List, [], _∷_, map}
 use lib.ListN.{length, getD, take}
 use Rattle.search.specs.Choice.{_when_else_}
 use mathlib.Core.Path.{_≡_}
-use Rattle.table.specs.Limits.{maxTasks, maxCost, maxActivations, maxRun, horizon, maxOverloads, maxCapacity}
+use Rattle.table.specs.Limits.{maxActivations, maxRun, horizon, maxOverloads, maxCapacity}
 use Rattle.table.specs.Record.{pad}
 use Rattle.table.specs.declared.Row.{Row}
+use Rattle.segments.specs.code.Held.{dearest}
 use Rattle.misses.specs.Overloads.{Overload, Piece, piecesOf, capacitiesOf}
-use Rattle.misses.specs.Sets.{members, allowed, costOf}
+use Rattle.misses.specs.Sets.{members, allowed, setCost}
 use Rattle.misses.specs.declared.Pieces.{Pieces}
 
 -- the first six of a list, with 0s for those that it lacks
@@ -47,11 +48,7 @@ membersAt chains segments costs n m i = members (piecesAt chains segments costs 
 
 -- what a mask costs, 0 where it is no combination
 unfoldable pub priceOf : List Piece → ℕ → ℕ
-priceOf ps m = costOf (members ps m) when allowed ps m else 0
-
--- no chain costs more, so no active segment does
-abbrev pub dearest : ℕ
-dearest = maxTasks * maxCost
+priceOf ps m = setCost (members ps m) when allowed ps m else 0
 
 -- six active segments or fewer are held, and none costs more than a chain can
 pub record Few (p : Pieces) : Type 0 where

@@ -1,8 +1,8 @@
 -- How the code holds tasks and active segments.
-use Prim.Native.Nat.{ℕ, _-_}
+use Prim.Native.Nat.{ℕ, _*_, _-_}
 use mathlib.Core.List.{List, map}
 use lib.ListN.{length}
-use Rattle.table.specs.Limits.{maxTasks}
+use Rattle.table.specs.Limits.{maxTasks, maxCost}
 use Rattle.table.specs.Record.{pad}
 use Rattle.table.specs.declared.Row.{Row}
 use Rattle.segments.specs.Tasks.{Task, tasksFrom, costOf}
@@ -28,3 +28,7 @@ arraysOf l =
       cost = pad maxTasks (map (λ a. a .cost) l);
       segment = pad maxTasks (map (λ a. a .segment) l);
     }
+
+-- no chain costs more
+abbrev pub dearest : ℕ
+dearest = maxTasks * maxCost

@@ -5,20 +5,18 @@ use mathlib.Core.List.{List}
 use mathlib.Core.Bool.{Bool, true, false}
 use lib.ListN.{length, getD}
 use Rattle.search.specs.Lists.{sumOf}
-use Rattle.table.specs.Limits.{maxChains, maxTasks, maxCost}
-use Rattle.table.specs.Record.{rowAt}
+use Rattle.table.specs.Limits.{maxChains}
+use Rattle.table.specs.Record.{rowAt, distances}
 use Rattle.table.specs.declared.Row.{Row}
-use Rattle.table.specs.Taken.{Stands}
-use Rattle.arrivals.specs.Arrivals.{distances, η}
+use Rattle.table.specs.code.Taken.{Stands}
+use Rattle.arrivals.specs.Arrivals.{η}
 use Rattle.segments.specs.View.{View}
+use Rattle.segments.specs.code.Held.{dearest}
 use Rattle.windows.specs.Demand.{termOf, demandOf, typical}
 use Rattle.windows.specs.declared.Own.{Own}
 use Rattle.windows.specs.declared.Term.{Term}
 
--- no chain costs more, and all others together, with a set's cost beside them, no more
-abbrev pub dearest : ℕ
-dearest = maxTasks * maxCost
-
+-- all others together, with a set's cost beside them, cost no more
 abbrev pub most : ℕ
 most = 2 * maxChains * dearest
 
@@ -131,3 +129,8 @@ pub record Adds (v : View) (x : Term) : Type 0 where
   pub rate : x .rate ≤ dearest
   pub once : x .once ≤ dearest
   pub term : (t : ℕ) → termOf v t ≡ η (v .list) t * x .rate + x .once
+
+-- where a climb from below may start: under every s in which its demand fits
+pub record Under (d : ℕ → ℕ) (t : ℕ) : Type 0 where
+  pub low : 1 ≤ t
+  pub under : (s : ℕ) → 1 ≤ s → d s ≤ s → t ≤ s

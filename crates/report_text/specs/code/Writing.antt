@@ -6,7 +6,7 @@ use lib.ListN.{length, take, drop}
 use mathlib.Core.Logic.{_⊎_}
 use Rattle.table.specs.Find.{rowOf}
 use Rattle.table.specs.declared.Table.{Table}
-use Rattle.windows.specs.Demand.{othersOf}
+use Rattle.windows.specs.Demand.{viewsOf}
 use Rattle.windows.specs.Latency.{boundOf}
 use Rattle.windows.specs.declared.Answer.{Answer as Latency}
 use Rattle.windows.specs.declared.Answer.the-variants.{Refused as Unbounded}
@@ -26,7 +26,7 @@ pub record Bounded (latency : Latency) : Type 0 where
 
 -- the line of the chain k, and the lines of the first n chains
 abbrev pub lineIn : Table → ℕ → List ℕ
-lineIn t k = lineText (rowOf t k .id) (boundOf (rowOf t k) (othersOf t k) .answer) (missesAt t k missRun)
+lineIn t k = lineText (rowOf t k .id) (boundOf (rowOf t k) (viewsOf t k) .answer) (missesAt t k missRun)
 
 unfoldable pub linesIn : Table → ℕ → List ℕ
 linesIn t zero = []
