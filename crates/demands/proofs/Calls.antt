@@ -1,4 +1,4 @@
--- Demand 3 at the C entries: two calls on equally long answer buffers. Assumes nothing.
+-- Two calls of a C entry on equally long answer buffers. Assumes nothing.
 use Prim.Native.Nat.{ℕ, zero, suc, _*_}
 use mathlib.Core.Path.{_≡_, refl, ap, sym, _∙_}
 use mathlib.Core.List.{List}
@@ -10,9 +10,7 @@ use lib.Seq.{take-at, drop-at}
 use borrow.Author.Tests.{lt-ltb, le-ltb}
 use Rattle.search.specs.Choice.{_when_else_}
 use Rattle.search.proofs.Choice.{when-yes, when-no, lt-or-le}
-use Rattle.windows.specs.Latency as latency
-use Rattle.misses.specs.Misses as misses
-use Rattle.editor.specs.Entry.{figureBytes, written, returned, leftBy, latencyFigures, Answered}
+use Rattle.editor.specs.Entry.{figureBytes, startingWith, returned, leftBy, Answered, LatencyEntry, MissesEntry}
 use Rattle.editor.proofs.Writing.{length-figures}
 use Rattle.demands.specs.Entries.{OneAnswer}
 use Rattle.demands.specs.Others.{Unmoved, SameCall}
@@ -23,11 +21,11 @@ module _ (n : ℕ) (figures before : List ℕ) (long : length figures ≡ n) whe
   bytes : length (figureBytes figures) ≡ 4 * n
   bytes = length-figures figures ∙ ap (λ k. 4 * k) long
 
-  written-figures : take (4 * n) (written figures before) ≡ figureBytes figures
-  written-figures = take-at (figureBytes figures) (drop (4 * length figures) before) (4 * n) bytes
+  written-figures : take (4 * n) (startingWith (figureBytes figures) before) ≡ figureBytes figures
+  written-figures = take-at (figureBytes figures) (drop (length (figureBytes figures)) before) (4 * n) bytes
 
-  written-rest : drop (4 * n) (written figures before) ≡ drop (4 * n) before
-  written-rest = drop-at (figureBytes figures) (drop (4 * length figures) before) (4 * n) bytes ∙ ap (λ k. drop (4 * k) before) long
+  written-rest : drop (4 * n) (startingWith (figureBytes figures) before) ≡ drop (4 * n) before
+  written-rest = drop-at (figureBytes figures) (drop (length (figureBytes figures)) before) (4 * n) bytes ∙ ap (λ k. drop k before) bytes
 
 -- a call that returns 0 had room, and its answer's number is 0
 zero-number : (n number : ℕ) (before : List ℕ) → returned n number before ≡ 0 → number ≡ 0
@@ -52,22 +50,20 @@ same-call {Refusal} {n} {number} {figures} {before} {after} {before′} {after�
     full : r ≡ 0 → length figures ≡ n
     full e = one .answered (zero-number n number before (sym (x .returns) ∙ e))
 
-    held : {before after : List ℕ} {r : ℕ} → Answered n number figures before after r → r ≡ 0 → after ≡ written figures before
-    held {before} {after} {r} a e = a .leaves ∙ ap (λ k. leftBy k figures before) e
+    held : {before after : List ℕ} {r : ℕ} → Answered n number figures before after r → r ≡ 0 → after ≡ startingWith (figureBytes figures) before
+    held {before} {after} {r} a e = a .leaves ∙ ap (λ k. leftBy k (figureBytes figures) before) e
 
     left : {before after : List ℕ} {r : ℕ} → Answered n number figures before after r → (r ≡ 0 → ⊥) → after ≡ before
     left {before} {after} {r} a h = a .leaves ∙ by r h
       where
-        by : (k : ℕ) → (k ≡ 0 → ⊥) → leftBy k figures before ≡ before
+        by : (k : ℕ) → (k ≡ 0 → ⊥) → leftBy k (figureBytes figures) before ≡ before
         by zero h = absurd (h refl)
         by (suc k) h = refl
 
--- demand 3 at the latency entry and at the miss entry: wherever the answers for an id are unmoved, so are the calls
-module _ {s r : List ℕ} {id : ℕ} (h : Unmoved s r id) {before after before′ after′ : List ℕ} {n m : ℕ} (long : length before ≡ length before′) where
-  pub same-latency-call : Answered 4 (latency.numberOf (latency.latencyOf s id)) (latencyFigures (latency.latencyOf s id)) before after n
-      → Answered 4 (latency.numberOf (latency.latencyOf r id)) (latencyFigures (latency.latencyOf r id)) before′ after′ m → SameCall 4 before after n before′ after′ m
-  same-latency-call x y = same-call (latency-one s id) long x (rw (h .latency) y)
+-- wherever the answers for an id are unmoved, so are the calls of the latency entry and of the miss entry
+module _ {s r : List ℕ} {id : ℕ} (h : Unmoved s r id) {before before′ : List ℕ} (long : length before ≡ length before′) {after after′ : List ℕ} {n m : ℕ} where
+  pub same-latency-call : LatencyEntry s id before after n → LatencyEntry r id before′ after′ m → SameCall 4 before after n before′ after′ m
+  same-latency-call x y = same-call (latency-one s id) long (x .answers) (rw (h .latency) (y .answers))
 
-  pub same-misses-call : (k : ℕ) → Answered 1 (misses.numberOf (misses.missesOf s id k)) (misses.valuesOf (misses.missesOf s id k)) before after n
-      → Answered 1 (misses.numberOf (misses.missesOf r id k)) (misses.valuesOf (misses.missesOf r id k)) before′ after′ m → SameCall 1 before after n before′ after′ m
-  same-misses-call k x y = same-call (misses-one s id k) long x (rw (h .misses k) y)
+  pub same-misses-call : (k : ℕ) → MissesEntry s id k before after n → MissesEntry r id k before′ after′ m → SameCall 1 before after n before′ after′ m
+  same-misses-call k x y = same-call (misses-one s id k) long (x .answers) (rw (h .misses k) (y .answers))

@@ -30,8 +30,8 @@ use Rattle.misses.proofs.Answers as misses
 use Rattle.saving.proofs.Verdicts.{read-accepted}
 use Rattle.saving.proofs.Splits.{rowIn}
 use Rattle.saving.proofs.Records.{record-row}
-use Rattle.demands.specs.Stored.{IsTable, Has, at, chainOf, bytesOf}
-use Rattle.demands.specs.Stored as stored
+use Rattle.demands.specs.Chains.{IsTable, Has, chainNumber, chainOf, recordBytes}
+use Rattle.demands.specs.Chains as chains
 
 -- an accepted table is good, and reads back
 pub table-good : {s : List ℕ} → IsTable s → GoodTable (tableOf s)
@@ -41,25 +41,25 @@ pub table-read : {s : List ℕ} → IsTable s → readTable s ≡ accepted (tabl
 table-read {s} h = read-accepted s (ap numberOf (h .accepted))
 
 -- the row is what the record's bytes make
-pub own-row : {s : List ℕ} {id : ℕ} → Has s id → rowIn (bytesOf s id) ≡ chainOf s id
-own-row {s} {id} h = record-row s (tableOf s) (table-read (h .table)) (h .table .bytes) (at s id) (h .there)
+pub own-row : {s : List ℕ} {id : ℕ} → Has s id → rowIn (recordBytes s id) ≡ chainOf s id
+own-row {s} {id} h = record-row s (tableOf s) (table-read (h .table)) (h .table .bytes) (chainNumber s id) (h .there)
 
 -- the answers go by the row and the rows of the others
 module _ {s : List ℕ} {id : ℕ} (h : Has s id) where
-  found : at s id ≡ tableOf s .count → ⊥
+  found : chainNumber s id ≡ tableOf s .count → ⊥
   found e = omega (arith, e, h .there)
 
-  pub latency-is : latencyOf s id ≡ boundOf (chainOf s id) (map (λ a. viewOf a (chainOf s id)) (stored.othersOf s id)) .answer
+  pub latency-is : latencyOf s id ≡ boundOf (chainOf s id) (map (λ a. viewOf a (chainOf s id)) (chains.othersOf s id)) .answer
   unfolding viewsOf
   latency-is = latency.latency-accepted s id (h .table .accepted) ∙ latency.chain-found (tableOf s) id found
 
   pub misses-are : (k : ℕ) → missesOf s id k
-      ≡ missesBeside (chainOf s id) (map (λ a. viewOf a (chainOf s id)) (stored.othersOf s id)) (overloads (chainOf s id) (stored.othersOf s id)) k
+      ≡ missesBeside (chainOf s id) (map (λ a. viewOf a (chainOf s id)) (chains.othersOf s id)) (overloads (chainOf s id) (chains.othersOf s id)) k
   unfolding viewsOf missesAt
   misses-are k = misses.misses-accepted s id k (h .table .accepted) ∙ misses.chain-found (tableOf s) id k found
 
 -- no chain has the id: 12
-module _ {s : List ℕ} (h : IsTable s) (id : ℕ) (none : at s id ≡ tableOf s .count) where
+module _ {s : List ℕ} (h : IsTable s) (id : ℕ) (none : chainNumber s id ≡ tableOf s .count) where
   pub latency-absent : latencyOf s id ≡ Refused 12
   latency-absent = latency.latency-accepted s id (h .accepted) ∙ latency.chain-none (tableOf s) id none
 
@@ -80,32 +80,32 @@ module _ {s : List ℕ} (h : IsTable s) (id : ℕ) where
   row-at : (j : ℕ) → j < length (rows t) → getD (rows t) j none ≡ rowOf t j
   row-at j l = getD-take (t .count) (t .row) j none (omega (arith, count))
 
-  pub absent-or-there : (at s id ≡ t .count) ⊎ (at s id < t .count)
+  pub absent-or-there : (chainNumber s id ≡ t .count) ⊎ (chainNumber s id < t .count)
   unfolding findOf
   absent-or-there = eq-or-lt-of-le (omega (arith, first-le (λ k. bears id (rowOf t k)) 0 (t .count)))
 
-  pub none-bears : at s id ≡ t .count → keep (bears id) (rows t) ≡ []
+  pub none-bears : chainNumber s id ≡ t .count → keep (bears id) (rows t) ≡ []
   unfolding findOf
   none-bears e =
       keep-none none (bears id) (rows t)
       (λ j l. ap (bears id) (row-at j l) ∙ first-miss (λ k. bears id (rowOf t k)) 0 (t .count) j (omega arith) (omega (arith, e, count)))
 
-  module _ (there : at s id < t .count) where
-    pub own-bears : bears id (rowOf t (at s id)) ≡ true
+  module _ (there : chainNumber s id < t .count) where
+    pub own-bears : bears id (rowOf t (chainNumber s id)) ≡ true
     unfolding findOf
     own-bears = first-hit (λ k. bears id (rowOf t k)) 0 (t .count) (omega (arith, there))
 
-    other : (j : ℕ) → j < length (rows t) → (j ≡ at s id → ⊥) → bears id (getD (rows t) j none) ≡ false
+    other : (j : ℕ) → j < length (rows t) → (j ≡ chainNumber s id → ⊥) → bears id (getD (rows t) j none) ≡ false
     other j l n =
-        ne-eqb _ _ (λ e. n (table-good h .ids j (at s id) (omega (arith, count)) there
+        ne-eqb _ _ (λ e. n (table-good h .ids j (chainNumber s id) (omega (arith, count)) there
         (ap (λ (a : Row). a .id) (sym (row-at j l)) ∙ e ∙ sym (eqb-true _ _ own-bears))))
 
     pub one-bears : keep (bears id) (rows t) ≡ chainOf s id ∷ []
     one-bears =
-        let l : at s id < length (rows t) = omega (arith, count) in
-        keep-one none (bears id) (rows t) (at s id) l (ap (bears id) (row-at (at s id) l) ∙ own-bears) other ∙ ap (λ a. a ∷ []) (row-at (at s id) l)
+        let l : chainNumber s id < length (rows t) = omega (arith, count) in
+        keep-one none (bears id) (rows t) (chainNumber s id) l (ap (bears id) (row-at (chainNumber s id) l) ∙ own-bears) other ∙ ap (λ a. a ∷ []) (row-at (chainNumber s id) l)
 
-    pub others-bear : keep (λ a. not (bears id a)) (rows t) ≡ stored.othersOf s id
+    pub others-bear : keep (λ a. not (bears id a)) (rows t) ≡ chains.othersOf s id
     others-bear =
-        let l : at s id < length (rows t) = omega (arith, count) in
-        keep-rest none (λ a. not (bears id a)) (rows t) (at s id) l (ap not (ap (bears id) (row-at (at s id) l) ∙ own-bears)) (λ j m n. ap not (other j m n))
+        let l : chainNumber s id < length (rows t) = omega (arith, count) in
+        keep-rest none (λ a. not (bears id a)) (rows t) (chainNumber s id) l (ap not (ap (bears id) (row-at (chainNumber s id) l) ∙ own-bears)) (λ j m n. ap not (other j m n))

@@ -1,52 +1,27 @@
 -- Demand 1, entry by entry: the library's reader, queries, save and report, and the C entries. Assumes nothing.
-use Prim.Native.Nat.{ℕ, zero, suc, _*_}
+use Prim.Native.Nat.{ℕ, zero, suc, _+_, _*_}
 use mathlib.Core.Path.{_≡_, refl, ap, ap₂, sym, subst, _∙_}
-use mathlib.Core.List.{List, []}
+use mathlib.Core.List.{List, [], _∷_}
+use mathlib.Core.Bool.{Bool, true, false}
 use mathlib.Core.Logic.{inl, inr, ⊎-elim}
+use native.Mathlib.Omega.{arith}
 use lib.Dec.{ltb}
 use lib.ListN.{length}
 use borrow.Author.Tests.{lt-ltb, le-ltb, ne-eqb}
 use denote.Ref.{RefT, ptr, now}
 use Rattle.search.specs.Choice.{_when_else_}
 use Rattle.search.proofs.Choice.{when-yes, when-no, when-cases, lt-or-le}
-use Rattle.table.specs.Read.{numberOf, readTable}
-use Rattle.table.specs.declared.Reading.{Reading}
-use Rattle.segments.specs.Query as segment
-use Rattle.segments.specs.declared.Answer.{Answer as Segment}
-use Rattle.windows.specs.Latency as latency
-use Rattle.misses.specs.Misses as misses
+use Rattle.segments.specs.Query.{segmentOf, partOf, offsetOf}
 use Rattle.saving.specs.Save as save
 use Rattle.saving.proofs.After.{saved-number}
-use Rattle.editor.specs.Entry.{returned, leftBy, latencyFigures, Answered, Stored}
-use Rattle.report_text.specs.Report.{Reported}
-use Rattle.demands.specs.Entries.{TableRefusal, LatencyRefusal, MissesRefusal, SegmentRefusal, SaveRefusal, AtEntry, OneAnswer, Query, Call}
+use Rattle.report_text.specs.Report.{reportOf}
+use Rattle.editor.specs.Entry.{figureBytes, returned, leftBy, tooLong, Answered, SaveEntry, ReportEntry}
+use Rattle.demands.specs.Entries.{SaveRefusal, ReportRefusal, AtEntry, OneAnswer, Query, Call, OneResult, OnePart, LatencyRefusal, MissesRefusal, SegmentRefusal, TableRefusal, EveryEntry}
 use Rattle.demands.proofs.Answers.{verdict-one, latency-one, misses-one, segment-one, save-one}
 
 -- a statement that names the answer
 query : {A : Type 0} (right : A) (Refusal : ℕ → Type 0) (n : ℕ) (number : A → ℕ) (figures : A → List ℕ) → OneAnswer Refusal n (number right) (figures right) → Query (λ a. a ≡ right) Refusal n number figures
-query right Refusal n number figures one = record { some = (right, refl); one = λ e f. e ∙ sym f; answer = λ e. rw e one }
-
--- judging a table, and reading it: one reading for any bytes
-pub judging : (s : List ℕ) → Query (λ v. v ≡ readTable s .verdict) TableRefusal 0 numberOf (λ v. [])
-judging s = query (readTable s .verdict) TableRefusal 0 numberOf (λ v. []) (verdict-one s)
-
-pub reading : (s : List ℕ) {r q : Reading} → r ≡ readTable s → q ≡ readTable s → r ≡ q
-reading s e f = e ∙ sym f
-
--- the queries of the library
-pub latency-query : (s : List ℕ) (id : ℕ) → Query (λ a. a ≡ latency.latencyOf s id) LatencyRefusal 4 latency.numberOf latencyFigures
-latency-query s id = query (latency.latencyOf s id) LatencyRefusal 4 latency.numberOf latencyFigures (latency-one s id)
-
-pub misses-query : (s : List ℕ) (id k : ℕ) → Query (λ a. a ≡ misses.missesOf s id k) MissesRefusal 1 misses.numberOf misses.valuesOf
-misses-query s id k = query (misses.missesOf s id k) MissesRefusal 1 misses.numberOf misses.valuesOf (misses-one s id k)
-
-pub segment-query : (s : List ℕ) (chain against number : ℕ) → Query (λ a. a ≡ segment.segmentOf s chain against number) SegmentRefusal 2 segment.numberOf segment.valuesOf
-segment-query s chain against number = query (segment.segmentOf s chain against number) SegmentRefusal 2 segment.numberOf segment.valuesOf (segment-one s chain against number)
-
--- the part of the lent table that is handed back: its bytes, and where it stands
-pub segment-part : (table : RefT (List ℕ)) (answer : Segment) {r q : RefT (List ℕ)} → segment.HandedBack table r answer → segment.HandedBack table q answer
-    → (now r ≡ now q) × (ptr r ≡ ptr q)
-segment-part table answer x y = (x .bytes ∙ sym (y .bytes), x .place ∙ sym (y .place))
+query right Refusal n number figures one = record { taken = (right, refl); one = λ e f. e ∙ sym f; answer = λ e. rw e one }
 
 -- the save of the library: its answer, and the whole buffer
 module _ (buffer : List ℕ) (used : ℕ) (old new : List ℕ) where
@@ -55,61 +30,108 @@ module _ (buffer : List ℕ) (used : ℕ) (old new : List ℕ) where
   unfolding save.bufferAfter
   save-leaves h = when-no _ _ (ne-eqb (save.saveFault buffer used old new) 0 (λ e. h (saved-number buffer used old new ∙ e)))
 
-  pub save-call : Call (λ after a. save.Saves buffer used old new a after) SaveRefusal save.numberOf buffer
+  save-call : Call (λ after a. save.Saves buffer used old new a after) SaveRefusal save.numberOf buffer
   save-call = record {
-    some = (save.bufferAfter buffer used old new, save.savedOf buffer used old new, record { answers = refl; leaves = refl });
+    taken = (save.bufferAfter buffer used old new, save.savedOf buffer used old new, record { answers = refl; leaves = refl });
     one = λ x y. (x .leaves ∙ sym (y .leaves), x .answers ∙ sym (y .answers));
     refused = λ {x} {r} a h.
         let n = ap save.numberOf (a .answers) in
         (subst SaveRefusal (sym n) (save-one buffer used old new .refused (λ e. h (n ∙ e)) .0), a .leaves ∙ save-leaves (λ e. h (n ∙ e)));
   }
 
--- the report's text: its length, and the whole buffer
-pub report-text : {s before x y : List ℕ} {r q : ℕ} → Reported s before x r → Reported s before y q → (x ≡ y) × (r ≡ q)
-report-text a b = (a .leaves ∙ sym (b .leaves), a .answers ∙ sym (b .answers))
+-- the part of the lent table that is handed back
+one-part : (table : RefT (List ℕ)) (chain against number : ℕ) → OnePart table (segmentOf (now table) chain against number)
+one-part table chain against number =
+    let answer = segmentOf (now table) chain against number in
+    record {
+      taken = (record { ptr = (ptr table .0, offsetOf answer + ptr table .1); name = table .name; now = partOf (now table) answer }, record { bytes = refl; place = refl });
+      one = λ x y. (x .bytes ∙ sym (y .bytes), x .place ∙ sym (y .place));
+    }
 
 -- a C entry
 module _ (Refusal : ℕ → Type 0) (n number : ℕ) (figures : List ℕ) (one : OneAnswer Refusal n number figures) (before : List ℕ) where
   returned-known : (returned n number before ≡ 0 → ⊥) → AtEntry Refusal (returned n number before)
   returned-known = when-cases (λ r. (r ≡ 0 → ⊥) → AtEntry Refusal r) (ltb (length before) (4 * n)) (λ e h. inl refl) (λ e h. inr (one .refused h .0))
 
-  left : (r : ℕ) → (r ≡ 0 → ⊥) → leftBy r figures before ≡ before
-  left zero h = absurd (h refl)
-  left (suc r) h = refl
-
-  answered : Call (λ after r. Answered n number figures before after r) (AtEntry Refusal) (λ r. r) before
+  answered : Call (Answered n number figures before) (AtEntry Refusal) (λ r. r) before
   answered = record {
-    some = (leftBy (returned n number before) figures before, returned n number before, record { returns = refl; leaves = refl });
-    one = λ x y. let e = x .returns ∙ sym (y .returns) in (x .leaves ∙ ap (λ r. leftBy r figures before) e ∙ sym (y .leaves), e);
+    taken = (leftBy (returned n number before) (figureBytes figures) before, returned n number before, record { returns = refl; leaves = refl });
+    one = λ x y. let e = x .returns ∙ sym (y .returns) in (x .leaves ∙ ap (λ r. leftBy r (figureBytes figures) before) e ∙ sym (y .leaves), e);
     refused = λ {x} {r} a h. (subst (AtEntry Refusal) (sym (a .returns)) (returned-known (λ e. h (a .returns ∙ e))), a .leaves ∙ left r h);
   }
+    where
+      left : (r : ℕ) → (r ≡ 0 → ⊥) → leftBy r (figureBytes figures) before ≡ before
+      left zero h = absurd (h refl)
+      left (suc r) h = refl
 
-pub latency-entry : (s : List ℕ) (id : ℕ) (before : List ℕ)
-    → Call (λ after r. Answered 4 (latency.numberOf (latency.latencyOf s id)) (latencyFigures (latency.latencyOf s id)) before after r) (AtEntry LatencyRefusal) (λ r. r) before
-latency-entry s id before = answered LatencyRefusal 4 _ _ (latency-one s id) before
-
-pub misses-entry : (s : List ℕ) (id k : ℕ) (before : List ℕ)
-    → Call (λ after r. Answered 1 (misses.numberOf (misses.missesOf s id k)) (misses.valuesOf (misses.missesOf s id k)) before after r) (AtEntry MissesRefusal) (λ r. r) before
-misses-entry s id k before = answered MissesRefusal 1 _ _ (misses-one s id k) before
-
-pub segment-entry : (s : List ℕ) (chain against number : ℕ) (before : List ℕ)
-    → Call (λ after r. Answered 2 (segment.numberOf (segment.segmentOf s chain against number)) (segment.valuesOf (segment.segmentOf s chain against number)) before after r) (AtEntry SegmentRefusal) (λ r. r) before
-segment-entry s chain against number before = answered SegmentRefusal 2 _ _ (segment-one s chain against number) before
+-- an entry whose statement is that of an answer
+entry : {A R : Type 0} {Allows Other : A → R → Type 0} {Refusal : ℕ → Type 0} {number : R → ℕ} {before : A}
+    → ((x : A) (r : R) → Allows x r → Other x r) → ((x : A) (r : R) → Other x r → Allows x r) → Call Allows Refusal number before → Call Other Refusal number before
+entry to from c = record {
+  taken = (c .taken .0, c .taken .1, to _ _ (c .taken .2));
+  one = λ x y. c .one (from _ _ x) (from _ _ y);
+  refused = λ x h. c .refused (from _ _ x) h;
+}
 
 -- the save entry lends two: the table's buffer and the answer's
-pub save-entry : (buffer : List ℕ) (used : ℕ) (old new answer : List ℕ)
-    → Call {A = List ℕ × List ℕ} (λ after r. Stored buffer used old new answer (after .0) (after .1) r) (AtEntry SaveRefusal) (λ r. r) (buffer, answer)
-save-entry buffer used old new answer = record {
-  some = (((buffer when ltb (length answer) 4 else save.bufferAfter buffer used old new), c .some .0), c .some .1, record { answers = c .some .2; leaves = refl });
-  one = λ x y. let e = c .one (x .answers) (y .answers) in (ap₂ (λ a b. (a, b)) (x .leaves ∙ sym (y .leaves)) (e .0), e .1);
-  refused = λ x h. let f = c .refused (x .answers) h in (f .0, ap₂ (λ a b. (a, b)) (x .leaves ∙ table (λ e. h (x .answers .returns ∙ e))) (f .1));
-}
-  where
-    c : Call (λ after r. Answered 1 (save.numberOf (save.savedOf buffer used old new)) (save.figuresOf (save.savedOf buffer used old new)) answer after r) (AtEntry SaveRefusal) (λ r. r) answer
-    c = answered SaveRefusal 1 _ _ (save-one buffer used old new) answer
+module _ (buffer : List ℕ) (used : ℕ) (old new answer : List ℕ) where
+  abbrev later : List ℕ
+  later = buffer when ltb (length answer) 4 else save.bufferAfter buffer used old new
 
-    table : (returned 1 (save.numberOf (save.savedOf buffer used old new)) answer ≡ 0 → ⊥) → (buffer when ltb (length answer) 4 else save.bufferAfter buffer used old new) ≡ buffer
-    table h = ⊎-elim
-        (λ l. when-yes _ _ (lt-ltb (length answer) 4 l))
-        (λ l. when-no _ _ (le-ltb (length answer) 4 l) ∙ save-leaves buffer used old new (λ e. h (when-no _ _ (le-ltb (length answer) 4 l) ∙ e)))
-        (lt-or-le (length answer) 4)
+  pub save-entry : Call {A = List ℕ × List ℕ} (λ after r. SaveEntry buffer used old new answer (after .0) (after .1) r) (AtEntry SaveRefusal) (λ r. r) (buffer, answer)
+  save-entry =
+      let c = answered SaveRefusal 1 _ _ (save-one buffer used old new) answer in
+      record {
+        taken = ((later, c .taken .0), c .taken .1, record { answers = c .taken .2; leaves = refl });
+        one = λ x y. let e = c .one (x .answers) (y .answers) in (ap₂ (λ a b. (a, b)) (x .leaves ∙ sym (y .leaves)) (e .0), e .1);
+        refused = λ x h. let f = c .refused (x .answers) h in (f .0, ap₂ (λ a b. (a, b)) (x .leaves ∙ table (λ e. h (x .answers .returns ∙ e))) (f .1));
+      }
+    where
+      table : (returned 1 (save.numberOf (save.savedOf buffer used old new)) answer ≡ 0 → ⊥) → later ≡ buffer
+      table h = ⊎-elim
+          (λ l. when-yes _ _ (lt-ltb (length answer) 4 l))
+          (λ l. when-no _ _ (le-ltb (length answer) 4 l) ∙ save-leaves buffer used old new (λ e. h (when-no _ _ (le-ltb (length answer) 4 l) ∙ e)))
+          (lt-or-le (length answer) 4)
+
+-- and so does the report entry: the text's buffer and the answer's
+module _ (s text answer : List ℕ) where
+  report-one : OneAnswer ReportRefusal 1 (24 when tooLong s text else 0) ([] when tooLong s text else length (reportOf s) ∷ [])
+  unfolding _when_else_
+  report-one = by (tooLong s text)
+    where
+      by : (long : Bool) → OneAnswer ReportRefusal 1 (24 when long else 0) ([] when long else length (reportOf s) ∷ [])
+      by true = record { answered = λ e. absurd (omega (arith, e)); refused = λ h. (refl, refl) }
+      by false = record { answered = λ e. refl; refused = λ h. absurd (h refl) }
+
+  pub report-entry : Call {A = List ℕ × List ℕ} (λ after r. ReportEntry s text answer (after .0) (after .1) r) (AtEntry ReportRefusal) (λ r. r) (text, answer)
+  report-entry =
+      let c = answered ReportRefusal 1 _ _ report-one answer in
+      record {
+        taken = ((leftBy (c .taken .1) (reportOf s) text, c .taken .0), c .taken .1, record { answers = c .taken .2; leaves = refl });
+        one = λ x y.
+            let e = c .one (x .answers) (y .answers) in
+            (ap₂ (λ a b. (a, b)) (x .leaves ∙ ap (λ r. leftBy r (reportOf s) text) (e .1) ∙ sym (y .leaves)) (e .0), e .1);
+        refused = λ {x} {r} a h. let f = c .refused (a .answers) h in (f .0, ap₂ (λ a b. (a, b)) (a .leaves ∙ left r h) (f .1));
+      }
+    where
+      left : (r : ℕ) → (r ≡ 0 → ⊥) → leftBy r (reportOf s) text ≡ text
+      left zero h = absurd (h refl)
+      left (suc r) h = refl
+
+pub every-entry : EveryEntry
+every-entry = record {
+  judge = λ s. query _ TableRefusal 0 _ _ (verdict-one s);
+  read = λ s e f. e ∙ sym f;
+  latency = λ s id. query _ LatencyRefusal 4 _ _ (latency-one s id);
+  misses = λ s id k. query _ MissesRefusal 1 _ _ (misses-one s id k);
+  segment = λ s chain against number. query _ SegmentRefusal 2 _ _ (segment-one s chain against number);
+  part = one-part;
+  save = save-call;
+  report = λ s before. record { one = λ a b. (a .leaves ∙ sym (b .leaves), a .answers ∙ sym (b .answers)) };
+  latency-entry = λ s id before. entry (λ x r a. record { answers = a }) (λ x r e. e .answers) (answered LatencyRefusal 4 _ _ (latency-one s id) before);
+  misses-entry = λ s id k before. entry (λ x r a. record { answers = a }) (λ x r e. e .answers) (answered MissesRefusal 1 _ _ (misses-one s id k) before);
+  segment-entry = λ s chain against number before.
+      entry (λ x r a. record { answers = a }) (λ x r e. e .answers) (answered SegmentRefusal 2 _ _ (segment-one s chain against number) before);
+  save-entry = save-entry;
+  report-entry = report-entry;
+}

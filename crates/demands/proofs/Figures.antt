@@ -19,6 +19,8 @@ use Rattle.table.specs.Limits.{maxActivations}
 use Rattle.arrivals.specs.Arrivals.{δ}
 use Rattle.arrivals.specs.code.Bounds.{GoodDistances}
 use Rattle.table.specs.Record.{distances}
+use Rattle.arrivals.proofs.Distances.{δ-one, δ-listed, δ-rule}
+use Rattle.arrivals.proofs.Counts.{η-zero, η-greatest}
 use Rattle.arrivals.proofs.Rows.{good-distances}
 use Rattle.windows.specs.Demand.{viewsOf}
 use Rattle.windows.specs.Window.{Solution, windowOf}
@@ -35,11 +37,13 @@ use Rattle.windows.proofs.Walks.{Open, windows-end, windows-open}
 use Rattle.windows.proofs.Latencies.{latency-greatest}
 use Rattle.windows.proofs.Closing as closing
 use Rattle.table.specs.Read.{tableOf}
-use Rattle.demands.specs.Stored.{Has, at, chainOf}
-use Rattle.demands.specs.Stored as stored
+use Rattle.demands.specs.Chains.{Has, chainNumber, chainOf}
+use Rattle.demands.specs.Chains as chains
+use Rattle.demands.specs.Arrivals.{Counted}
 use Rattle.demands.specs.Figures.{count, OpenTo, NoWindow, NoClose, Closes, Means}
 use Rattle.demands.specs.Misses.{full}
 use Rattle.demands.proofs.Chains.{table-good, latency-is}
+use Rattle.demands.proofs.Equation.{equation-is}
 
 module _ (demand : ℕ → ℕ → ℕ) (ds : List ℕ) where
   abbrev ends-at : ℕ → Bool
@@ -226,22 +230,30 @@ module _ {s : List ℕ} {id : ℕ} (h : Has s id) where
   abbrev b : Row
   b = chainOf s id
 
-  abbrev demandFor : ℕ → ℕ → ℕ
-  demandFor = full b (stored.othersOf s id)
+  abbrev l : List Row
+  l = chains.othersOf s id
 
   good : GoodRow b
-  good = table-good (h .table) .row (at s id) (h .there)
+  good = table-good (h .table) .row (chainNumber s id) (h .there)
 
-  growing : Growing demandFor
+  -- arrivals are document 01's
+  pub counted : Counted (distances b)
+  counted =
+      let g = good-distances good in
+      record { alone = δ-one g; listed = δ-listed g; turns = δ-rule g; never = η-zero g; greatest = η-greatest g }
+
+  growing : Growing (full b l)
   unfolding viewsOf
-  growing = demand-growing b _ good (others-paced (tableOf s) (table-good (h .table)) (at s id))
+  growing = subst Growing (equation-is b l) (demand-growing b _ good (others-paced (tableOf s) (table-good (h .table)) (chainNumber s id)))
 
-  -- demand 2: the answer of the latency query for a chain of an accepted table
-  pub latency-means : Means demandFor (distances b) (b .deadline) (latencyOf s id)
+  -- the answer of the latency query for a chain of an accepted table is that of the demand equation
+  answer-is : latencyOf s id ≡ windowsOf (full b l) (distances b) (b .deadline) .answer
   unfolding boundOf
-  latency-means = rw (latency-is h) (answer-means demandFor (distances b) (b .deadline) growing (good-distances good))
+  answer-is = latency-is h ∙ ap (λ d. windowsOf d (distances b) (b .deadline) .answer) (equation-is b l)
+
+  pub latency-means : Means (full b l) (distances b) (b .deadline) (latencyOf s id)
+  latency-means = rw answer-is (answer-means (full b l) (distances b) (b .deadline) growing (good-distances good))
 
   -- whatever meets the words is that answer: not always a refusal, nor a fixed figure, nor a made-up K, latency or late count
-  pub latency-only : (a : Answer) → Means demandFor (distances b) (b .deadline) a → a ≡ latencyOf s id
-  unfolding boundOf
-  latency-only a m = means-one demandFor (distances b) (b .deadline) growing (good-distances good) a m ∙ sym (latency-is h)
+  pub latency-only : (a : Answer) → Means (full b l) (distances b) (b .deadline) a → a ≡ latencyOf s id
+  latency-only a m = means-one (full b l) (distances b) (b .deadline) growing (good-distances good) a m ∙ sym answer-is

@@ -25,7 +25,7 @@ use Rattle.windows.specs.Demand as demand
 use Rattle.windows.specs.Latency.{windowsOf, boundOf}
 use Rattle.windows.specs.declared.Windows.{Windows}
 use Rattle.windows.specs.declared.Answer.the-variants.{Refused as Unbounded}
-use Rattle.windows.proofs.Growth.{Paced, demand-growing}
+use Rattle.windows.proofs.Growth.{Paced, Growing, demand-growing}
 use Rattle.windows.proofs.Besides.{others-good, others-paced}
 use Rattle.packing.proofs.Most.{most-greatest, most-is}
 use Rattle.packing.proofs.Laws.{most-same}
@@ -37,12 +37,14 @@ use Rattle.misses.specs.declared.Answer.the-variants.{Misses, Refused}
 use Rattle.misses.proofs.Starts.{starts}
 use Rattle.misses.proofs.Answers as answers
 use Rattle.table.specs.Read.{tableOf, unless}
-use Rattle.demands.specs.Stored.{Has, at, chainOf, othersOf}
+use Rattle.demands.specs.Chains.{Has, chainNumber, chainOf, othersOf}
 use Rattle.demands.specs.Figures.{Exactly}
-use Rattle.demands.specs.Misses.{views, marked, pieces, full, IsBad, MayAsk, Figured, lastOf, Few, Once, Fine, Capped, Most, Says, Right}
+use Rattle.demands.specs.Misses.{marked, pieces, full, capacityOf, IsBad, MayAsk, Figured, lastOf, Few, Once, Fine, Capped, Most, Says, Right}
 use Rattle.demands.proofs.Chains.{table-good, misses-are}
 use Rattle.demands.proofs.Figures.{no-window, no-close, closes-last, three, latency-means}
+use Rattle.demands.proofs.Equation.{viewed, equation-is}
 use Rattle.demands.proofs.Sets.{bad-means}
+use Rattle.demands.proofs.Capacities.{room-at, capped-all, all-capped}
 
 -- no element passes
 module _ {A : Type 0} (p : A → Bool) where
@@ -83,9 +85,9 @@ same-test true y f g = sym (g .1 (f .0 refl))
 same-test false true f g = f .1 (g .0 refl)
 same-test false false f g = refl
 
-module _ (b : Row) (l : List Row) (good : GoodRow b) (rows : All GoodRow l) (paced : Paced (views b l)) (k : ℕ) where
+module _ (b : Row) (l : List Row) (good : GoodRow b) (rows : All GoodRow l) (paced : Paced (viewed b l)) (k : ℕ) where
   abbrev vs : List View
-  vs = views b l
+  vs = viewed b l
 
   abbrev os : List Overload
   os = marked b l
@@ -112,8 +114,8 @@ module _ (b : Row) (l : List Row) (good : GoodRow b) (rows : All GoodRow l) (pac
   by-windows : MayAsk b l k → (w : Windows) → windows ≡ w → answer ≡ byBound b vs os k (w .answer) (w .last)
   unfolding missesBeside boundOf unless
   by-windows a w e =
-      ap (λ x. unless Refused x (byBound b vs os k (windows .answer) (windows .last))) (asked-early a)
-      ∙ ap (λ (x : Windows). byBound b vs os k (x .answer) (x .last)) e
+      ap (λ x. unless Refused x (byBound b vs os k (boundOf b vs .answer) (boundOf b vs .last))) (asked-early a)
+      ∙ ap (λ (x : Windows). byBound b vs os k (x .answer) (x .last)) (ap (λ d. windowsOf d (distances b) (b .deadline)) (equation-is b l) ∙ e)
 
   refused-by : MayAsk b l k → (n : ℕ) → windows .answer ≡ Unbounded n → answer ≡ Refused n
   refused-by a n e = by-windows a _ refl ∙ ap (λ x. byBound b vs os k x (windows .last)) e
@@ -135,9 +137,9 @@ module _ (b : Row) (l : List Row) (good : GoodRow b) (rows : All GoodRow l) (pac
     -- whatever is the most uses is the number that is answered with
     most-same-uses : (uses : ℕ) → Most b l f uses → mostUses (badOf b vs os (f .close)) (λ i. getD (roomOf b os k (f .latency)) i 0) ≡ uses
     most-same-uses uses m =
-        let room : ℕ → ℕ = λ i. getD (roomOf b os k (f .latency)) i 0 in
-        most-same (badOf b vs os (f .close)) (m .bad) room room (λ x s h. same-test _ _ (bad-exactly x) (m .is x)) (λ i h. refl)
-        ∙ most-is (m .bad) room (m .most)
+        most-same (badOf b vs os (f .close)) (m .bad) (λ i. getD (roomOf b os k (f .latency)) i 0) (capacityOf b l k (f .latency))
+        (λ x s h. same-test _ _ (bad-exactly x) (m .is x)) (λ i h. room-at b l k (f .latency) i)
+        ∙ most-is (m .bad) (capacityOf b l k (f .latency)) (m .most)
 
   -- an answer that the words allow is the answer given
   says-answer : {a : Answer} → Says b l k a → answer ≡ a
@@ -163,11 +165,11 @@ module _ (b : Row) (l : List Row) (good : GoodRow b) (rows : All GoodRow l) (pac
   says-answer (Says.above f h few once fine n) =
       by-figures f
       ∙ answers.too-roomy b vs os k (f .close) (f .latency) (f .late) (lastOf b l f) (λ e. omega (arith, e, h)) few
-      (within-none 1 (λ o. η (o .list) (lastOf b l f)) os once) (bad-false f fine) (not-within maxCapacity (λ c. c) (roomOf b os k (f .latency)) n)
+      (within-none 1 (λ o. η (o .list) (lastOf b l f)) os once) (bad-false f fine) (not-within maxCapacity (λ c. c) (roomOf b os k (f .latency)) (λ a. n (all-capped b l k (f .latency) maxCapacity a)))
   says-answer (Says.packed f uses h few once fine room m) =
       by-figures f
       ∙ answers.packs b vs os k (f .close) (f .latency) (f .late) (lastOf b l f) (λ e. omega (arith, e, h)) few
-      (within-none 1 (λ o. η (o .list) (lastOf b l f)) os once) (bad-false f fine) (within-none maxCapacity (λ c. c) (roomOf b os k (f .latency)) room)
+      (within-none 1 (λ o. η (o .list) (lastOf b l f)) os once) (bad-false f fine) (within-none maxCapacity (λ c. c) (roomOf b os k (f .latency)) (capped-all b l k (f .latency) maxCapacity room))
       ∙ ap (λ u. Misses (f .late * u)) (most-same-uses f uses m)
 
   -- and the words allow it
@@ -178,15 +180,15 @@ module _ (b : Row) (l : List Row) (good : GoodRow b) (rows : All GoodRow l) (pac
   module _ (f : Figured b l k) (h : 1 ≤ f .late) (few : Few b l) where
     packed-says : Once b l f → Fine b l f → Capped b l f → Says b l k answer
     packed-says once fine room =
-        is (Says.packed f (mostUses (badOf b vs os (f .close)) (λ i. getD (roomOf b os k (f .latency)) i 0)) h few once fine room (record {
+        is (Says.packed f (mostUses (badOf b vs os (f .close)) (capacityOf b l k (f .latency))) h few once fine room (record {
           bad = badOf b vs os (f .close);
           is = bad-exactly f;
-          most = most-greatest (badOf b vs os (f .close)) (λ i. getD (roomOf b os k (f .latency)) i 0);
+          most = most-greatest (badOf b vs os (f .close)) (capacityOf b l k (f .latency));
         }))
 
     roomy-says : Once b l f → Fine b l f → (t : Bool) → some (ltb maxCapacity) (roomOf b os k (f .latency)) ≡ t → Says b l k answer
-    roomy-says once fine true e = is (Says.above f h few once fine (some-not maxCapacity (λ c. c) (roomOf b os k (f .latency)) e))
-    roomy-says once fine false e = packed-says once fine (none-within maxCapacity (λ c. c) (roomOf b os k (f .latency)) e)
+    roomy-says once fine true e = is (Says.above f h few once fine (λ a. some-not maxCapacity (λ c. c) (roomOf b os k (f .latency)) e (capped-all b l k (f .latency) maxCapacity a)))
+    roomy-says once fine false e = packed-says once fine (all-capped b l k (f .latency) maxCapacity (none-within maxCapacity (λ c. c) (roomOf b os k (f .latency)) e))
 
     always-says : Once b l f → (t : Bool) → badOf b vs os (f .close) 0 ≡ t → Says b l k answer
     always-says once true e = is (Says.always f h few once (bad-exactly f 0 .0 e))
@@ -206,7 +208,7 @@ module _ (b : Row) (l : List Row) (good : GoodRow b) (rows : All GoodRow l) (pac
   asked-says a = ⊎-elim
       (λ n. is (Says.window a n))
       (⊎-elim (λ o. is (Says.close a o)) (λ c. late-says (record { asked = a; close = c .0; latency = c .1; late = c .2; margin = c .3; figures = c .4 })))
-      (three (full b l) (distances b) (b .deadline) (demand-growing b vs good paced) (good-distances good))
+      (three (full b l) (distances b) (b .deadline) (subst Growing (equation-is b l) (demand-growing b vs good paced)) (good-distances good))
 
   answer-says : Says b l k answer
   answer-says = ⊎-elim
@@ -228,9 +230,9 @@ pub misses-mean : {s : List ℕ} {id : ℕ} → Has s id → (k : ℕ) (a : Answ
 unfolding demand.viewsOf
 misses-mean {s} {id} h k a =
     let t = table-good (h .table) in
-    let b = t .row (at s id) (h .there) in
-    let r = others-good (tableOf s) t (at s id) in
-    let p = others-paced (tableOf s) t (at s id) in
+    let b = t .row (chainNumber s id) (h .there) in
+    let r = others-good (tableOf s) t (chainNumber s id) in
+    let p = others-paced (tableOf s) t (chainNumber s id) in
     (λ e. subst (Says (chainOf s id) (othersOf s id) k) (sym (misses-are h k) ∙ e) (answer-says (chainOf s id) (othersOf s id) b r p k), λ x. misses-are h k ∙ says-answer (chainOf s id) (othersOf s id) b r p k x)
 
 -- both at once

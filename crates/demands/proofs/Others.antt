@@ -1,4 +1,4 @@
--- Demand 3, and what follows from it: a chain's answers go by its own record and by what it sees of the others. Assumes nothing.
+-- What demand 3 says, and what follows from it: a chain's answers go by its own record and by what it sees of the others. Assumes nothing.
 use Prim.Native.Nat.{ℕ}
 use mathlib.Core.Path.{_≡_, refl, ap, ap₂, sym, subst, _∙_}
 use mathlib.Core.Bool.{Bool, not}
@@ -13,7 +13,7 @@ use Rattle.search.proofs.Pairing.{paired-keep, paired-weaker, paired-cons, pair
 use Rattle.table.specs.Find.{rows}
 use Rattle.table.specs.declared.Row.{Row}
 use Rattle.segments.specs.Tasks.{Task, tasksOf, costOf, floorOf, tailOf, below, before}
-use Rattle.segments.specs.Segments.{cutSegments}
+use Rattle.segments.specs.Segments.{cutSegments, cutSegmentsOf}
 use Rattle.segments.specs.View.{viewOf, Alike}
 use Rattle.segments.proofs.Lists.{sum-map, sum-flatten}
 use Rattle.windows.specs.Latency.{boundOf}
@@ -24,11 +24,9 @@ use Rattle.misses.specs.Misses.{missesBeside}
 use Rattle.misses.proofs.Views.{alike-misses}
 use Rattle.table.specs.Read.{tableOf}
 use Rattle.saving.proofs.Splits.{rowIn}
-use Rattle.demands.specs.Stored.{IsTable, Has, at, chainOf, othersOf}
-use Rattle.demands.specs.Misses.{Right}
-use Rattle.demands.specs.Others.{segmentsOf, SameSegment, Agrees, Besides, SameBesides, Unmoved, Reordered, SameWork, SameActives, SplitTasks}
-use Rattle.demands.proofs.Misses.{answers-right}
-use Rattle.demands.proofs.Splits.{split-actives}
+use Rattle.demands.specs.Chains.{IsTable, Has, chainNumber, chainOf, othersOf}
+use Rattle.demands.specs.Others.{SameSegment, Agrees, Besides, SameBesides, Unmoved, Reordered, SameWork, RegroupedTasks}
+use Rattle.demands.proofs.Regroupings.{grouped-actives, grouped-defers, grouped-first}
 use Rattle.demands.proofs.Chains.{own-row, latency-is, misses-are, latency-absent, misses-absent, bears, absent-or-there, none-bears, own-bears, one-bears, others-bear}
 
 -- chains that agree against b are alike to it
@@ -64,13 +62,9 @@ module _ {s r : List ℕ} {id : ℕ} (one : Has s id) (two : Has r id) (row : ch
         ∙ sym (misses-are two k);
   }
 
--- demand 3: the latency answers are equal, and the miss answers are equal for every k, refusals included
+-- the latency answers are equal, and the miss answers are equal for every k, refusals included
 pub same-besides : {s r : List ℕ} {id : ℕ} → SameBesides s r id → Unmoved s r id
 same-besides h = rows-unmoved (h .one) (h .two) (sym (own-row (h .one)) ∙ ap rowIn (h .own) ∙ own-row (h .two)) (h .others)
-
--- and both are those of demand 2
-pub same-and-right : {s r : List ℕ} {id : ℕ} → SameBesides s r id → Unmoved s r id × Right s id × Right r id
-same-and-right h = (same-besides h, answers-right (h .one), answers-right (h .two))
 
 -- other chains' ids, deadlines and gaps changed
 tasks-same : {a c : Row} → SameWork a c → tasksOf a ≡ tasksOf c
@@ -88,15 +82,18 @@ work-agrees b {a} {c} h =
       arrivals = ap₂ take (h .listed) (h .list);
       defers = ap (some (below (floorOf b))) e;
       first = ap (λ ts. costOf (before (below (floorOf b)) ts)) e;
-      segments = subst (λ ts. Paired SameSegment (segmentsOf a b) (cutSegments (floorOf b) (tailOf b) ts)) e (paired-order segment-own (Permᴰ·refl (segmentsOf a b)));
+      segments = subst (λ ts. Paired SameSegment (cutSegmentsOf a b) (cutSegments (floorOf b) (tailOf b) ts)) e (paired-order segment-own (Permᴰ·refl (cutSegmentsOf a b)));
     }
+
+pub agrees-own : (b a : Row) → Agrees b a a
+agrees-own b a = work-agrees b (record { kind = refl; overload = refl; listed = refl; list = refl; tasks = refl; priority = refl; cost = refl })
 
 pub ids-deadlines-gaps : {s r : List ℕ} {id : ℕ} → Besides SameWork s r id → Unmoved s r id
 ids-deadlines-gaps {s} {r} {id} h =
     same-besides (record { one = h .one; two = h .two; own = h .own; others = paired-weaker (h .others) (λ a c e. work-agrees (chainOf s id) e) })
 
--- an active segment split into other tasks
-pairs-off : (x y : List (List (List Task))) → map (map costOf) x ≡ map (map costOf) y → Paired SameSegment x y
+-- segments with the same active-segment costs pair off
+pub pairs-off : (x y : List (List (List Task))) → map (map costOf) x ≡ map (map costOf) y → Paired SameSegment x y
 pairs-off [] [] e = paired-order segment-own (Permᴰ·refl [])
 pairs-off [] (y ∷ ys) e = let z : _≡_ {A = ℕ} 0 1 = cc in absurd (omega arith)
 pairs-off (x ∷ xs) [] e = let z : _≡_ {A = ℕ} 0 1 = cc in absurd (omega arith)
@@ -108,8 +105,9 @@ pairs-off (x ∷ xs) (y ∷ ys) e =
     whole : (x : List (List Task)) → costOf (flatten x) ≡ sumOf (λ c. c) (map costOf x)
     whole x = sum-flatten (λ t. t .cost) x ∙ sym (sum-map costOf (λ c. c) x)
 
-pub same-actives : {s r : List ℕ} {id : ℕ} → Besides (SameActives (chainOf s id)) s r id → Unmoved s r id
-same-actives h =
+-- tasks regrouped within active segments
+pub regrouped : {s r : List ℕ} {id : ℕ} → Besides (RegroupedTasks (chainOf s id)) s r id → Unmoved s r id
+regrouped {s} {r} {id} h =
     same-besides (record {
       one = h .one;
       two = h .two;
@@ -118,16 +116,11 @@ same-actives h =
         kind = e .kind;
         overload = e .overload;
         arrivals = e .arrivals;
-        defers = e .defers;
-        first = e .first;
-        segments = pairs-off _ _ (e .costs);
+        defers = grouped-defers (chainOf s id) a c e;
+        first = grouped-first (chainOf s id) a c e;
+        segments = pairs-off _ _ (grouped-actives (chainOf s id) a c e);
       });
     })
-
--- and so where tasks are split in two
-pub split-tasks : {s r : List ℕ} {id : ℕ} → Besides (SplitTasks (chainOf s id)) s r id → Unmoved s r id
-split-tasks {s} {r} {id} h =
-    same-actives (record { one = h .one; two = h .two; own = h .own; others = paired-weaker (h .others) (split-actives (chainOf s id)) })
 
 -- rows that pair off so: the one with the id is the same, and the others agree
 pub record Beside (id : ℕ) (a c : Row) : Type 0 where
@@ -136,7 +129,7 @@ pub record Beside (id : ℕ) (a c : Row) : Type 0 where
   pub agrees : (b : Row) → Agrees b a c
 
 pub beside-own : (id : ℕ) (a : Row) → Beside id a a
-beside-own id a = record { bearing = refl; own = λ e. refl; agrees = λ b. work-agrees b (record { kind = refl; overload = refl; listed = refl; list = refl; tasks = refl; priority = refl; cost = refl }) }
+beside-own id a = record { bearing = refl; own = λ e. refl; agrees = λ b. agrees-own b a }
 
 module _ {s r : List ℕ} (id : ℕ) (one : IsTable s) (two : IsTable r) (pairs : Paired (Beside id) (rows (tableOf s)) (rows (tableOf r))) where
   owns : Paired (Beside id) (keep (bears id) (rows (tableOf s))) (keep (bears id) (rows (tableOf r)))

@@ -1,5 +1,4 @@
--- Demand 3 after a save (the customer's third grievance): a save that changes only another chain's deadline or gap moves no other
--- chain's answers. Assumes nothing.
+-- After a save that changes only another chain's deadline or gap, no other chain's answers have moved. Assumes nothing.
 use Prim.Native.Nat.{ℕ, _+_, _*_, _≤_}
 use mathlib.Core.Path.{_≡_, ap, sym, _∙_}
 use mathlib.Core.List.{List}
@@ -11,20 +10,21 @@ use lib.Seq.{getD-take}
 use Rattle.search.specs.Lists.{Paired}
 use Rattle.search.proofs.Pairing.{paired-set}
 use Rattle.table.specs.Limits.{maxDistances, maxTasks}
-use Rattle.table.specs.Bytes.{word, Bytes}
+use Rattle.table.specs.Bytes.{word}
 use Rattle.table.specs.Record.{idAt, listedAt, tasksAt, priorityAt, costAt, distancesAt, prioritiesAt, costsAt, pad, rowAt}
 use Rattle.table.specs.Find.{none, rows}
 use Rattle.table.specs.declared.Reading.{Reading}
-use Rattle.saving.specs.Save.{numberOf, seenOf}
+use Rattle.saving.specs.Save.{seenOf}
 use Rattle.table.specs.Read.{tableOf}
-use Rattle.saving.specs.Later.{State, stored, Edit, answer, after}
+use Rattle.saving.specs.Later.{State, stored, Edit, after}
 use Rattle.saving.proofs.Alike.{Alike, every-alike, word-alike}
 use Rattle.saving.proofs.Verdicts.{read-accepted}
 use Rattle.saving.proofs.Splits.{rowIn}
 use Rattle.saving.proofs.Records.{record-row}
 use Rattle.saving.proofs.After.{bytes-take, all-passed}
 use Rattle.saving.proofs.Promises.{OneReplaced, reads-back}
-use Rattle.demands.specs.Stored.{IsTable}
+use Rattle.demands.specs.Chains.{IsTable}
+use Rattle.demands.specs.Saves.{Accepted}
 use Rattle.demands.specs.Others.{Unmoved, SameWork, DeadlineOrGap}
 use Rattle.demands.proofs.Chains.{table-read}
 use Rattle.demands.proofs.Others.{Beside, beside-own, work-agrees, paired-unmoved}
@@ -73,15 +73,15 @@ module _ {old new : List ℕ} (h : DeadlineOrGap old new) where
   beside id n = record { bearing = ap (λ x. eqb x id) (sym same-id); own = λ e. absurd (n e); agrees = λ b. work-agrees b same-work }
 
 -- after an accepted save whose new record differs from the old in deadline or gap alone, every other id is answered as before
-pub saved-deadline-or-gap : (x : State) (e : Edit) → Bytes (x .buffer) → Bytes (e .new) → numberOf (answer x e) ≡ 0 → DeadlineOrGap (e .old) (e .new)
+pub saved-deadline-or-gap : (x : State) (e : Edit) → Accepted x e → DeadlineOrGap (e .old) (e .new)
     → (id : ℕ) → (idAt (e .old) 0 ≡ id → ⊥) → Unmoved (stored x) (stored (after x e)) id
-saved-deadline-or-gap x e bytes new-bytes ok h id n = paired-unmoved id one two pairs
+saved-deadline-or-gap x e took h id n = paired-unmoved id one two pairs
   where
     o : OneReplaced x e
-    o = reads-back x e bytes new-bytes ok
+    o = reads-back x e (took .buffer) (took .new) (took .number)
 
     one : IsTable (stored x)
-    one = record { bytes = bytes-take (x .used) (x .buffer) bytes; accepted = ap (λ (r : Reading). r .verdict) (read-accepted (stored x) (all-passed x e ok .table)) }
+    one = record { bytes = bytes-take (x .used) (x .buffer) (took .buffer); accepted = ap (λ (r : Reading). r .verdict) (read-accepted (stored x) (all-passed x e (took .number) .table)) }
 
     two : IsTable (stored (after x e))
     two = record {

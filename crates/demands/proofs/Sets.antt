@@ -1,6 +1,6 @@
 -- Bad combinations in words: any two active segments of one chain are of one segment, and some window is late. Assumes nothing.
 use Prim.Native.Nat.{ℕ, zero, suc, _+_, _/_, _%_, _^_, _≤_, _<_}
-use mathlib.Core.Path.{_≡_, refl, ap, ap₂, sym, _∙_}
+use mathlib.Core.Path.{_≡_, refl, ap, ap₂, sym, _∙_, subst}
 use mathlib.Core.Bool.{Bool, true, false, _&&_, _||_}
 use mathlib.Core.List.{List, [], _∷_}
 use native.Mathlib.Omega.{arith}
@@ -15,8 +15,8 @@ use Rattle.table.specs.declared.Row.{Row}
 use Rattle.arrivals.specs.Arrivals.{δ}
 use Rattle.table.specs.Record.{distances}
 use Rattle.segments.specs.View.{View}
-use Rattle.windows.specs.Demand.{typical}
-use Rattle.windows.specs.Window.{windowOf}
+use Rattle.windows.specs.Demand.{demandOf, typical}
+use Rattle.windows.specs.Window.{Solution, windowOf}
 use Rattle.windows.specs.Latency.{upTo}
 use Rattle.windows.specs.declared.Window.the-variants.{At}
 use Rattle.windows.proofs.Growth.{Paced}
@@ -34,7 +34,8 @@ use Rattle.misses.proofs.Turning.{bit-zero}
 use Rattle.misses.proofs.Sweeps.{some-one}
 use Rattle.misses.proofs.Existence.{combination-window}
 use Rattle.demands.specs.Figures.{Exactly, Closes}
-use Rattle.demands.specs.Misses.{pieceOf, Combination, views, marked, pieces, full, without, IsBad}
+use Rattle.demands.specs.Misses.{pieceOf, Combination, marked, pieces, full, IsBad}
+use Rattle.demands.proofs.Equation.{viewed, equation-is, unmarked-is}
 
 -- two of one chain are of one segment
 agree-one : (p r : Piece) → agree p r ≡ true → p .chain ≡ r .chain → p .segment ≡ r .segment
@@ -132,35 +133,36 @@ typical-paced [] h = tt
 typical-paced (v ∷ vs) h = when-cases Paced _ (λ e. (h .0, typical-paced vs (h .1))) (λ e. typical-paced vs (h .1))
 
 -- where the figures close at K, each combination has its windows up to K, and bad is what it says
-module _ (b : Row) (l : List Row) (good : GoodRow b) (rows : All GoodRow l) (paced : Paced (views b l)) {deadline close latency late : ℕ} {margin : _}
+module _ (b : Row) (l : List Row) (good : GoodRow b) (rows : All GoodRow l) (paced : Paced (viewed b l)) {deadline close latency late : ℕ} {margin : _}
     (c : Closes (full b l) (distances b) deadline close latency late margin) where
   abbrev cost : ℕ → ℕ
   cost m = setCost (members (pieces b l) m)
 
-  is-bad : (m : ℕ) → badOf b (views b l) (marked b l) close m ≡ true → IsBad b l close m
+  is-bad : (m : ℕ) → badOf b (viewed b l) (marked b l) close m ≡ true → IsBad b l close m
   unfolding badOf bad over
   is-bad m e =
       let a = and-left (allowed (pieces b l) m) _ e in
       let f = found _ close (and-right (allowed (pieces b l) m) _ e) in
       let q = f .0 in
-      let w = combination-window b l good rows (typical-paced (views b l) paced) q m (c .B q) (f .1) (sym (window-only (full b l q) (At (c .B q)) (c .windows q (f .1) (f .2)))) a in
+      let w = combination-window b l good rows (typical-paced (viewed b l) paced) q m (c .B q) (f .1) (ap (λ d. windowOf (d q)) (equation-is b l) ∙ sym (window-only (full b l q) (At (c .B q)) (c .windows q (f .1) (f .2)))) a in
       record {
         combination = allowed-combination (pieces b l) m a;
         q = q;
         low = f .1;
         high = f .2;
         t = w .0;
-        window = window-at _ (w .0) (w .1);
+        window = subst (λ d. Solution (withCost d (cost m) q) (w .0)) (unmarked-is b l) (window-at _ (w .0) (w .1));
         late = ltb-true _ _ (sym (ap (λ x. longer x (δ (distances b) q + b .deadline)) (w .1)) ∙ f .3);
       }
 
-  bad-is : (m : ℕ) → IsBad b l close m → badOf b (views b l) (marked b l) close m ≡ true
+  bad-is : (m : ℕ) → IsBad b l close m → badOf b (viewed b l) (marked b l) close m ≡ true
   unfolding badOf bad over
   bad-is m h =
-      let w : windowOf (withCost (without b l) (cost m) (h .q)) ≡ At (h .t) = sym (window-only _ (At (h .t)) (h .window)) in
+      let d : ℕ → ℕ → ℕ = demandOf b (typical (viewed b l)) in
+      let w : windowOf (withCost d (cost m) (h .q)) ≡ At (h .t) = ap (λ e. windowOf (withCost e (cost m) (h .q))) (unmarked-is b l) ∙ sym (window-only _ (At (h .t)) (h .window)) in
       ap₂ _&&_ (combination-allowed (pieces b l) m (h .combination))
-      (some-one (λ q. longer (windowOf (withCost (without b l) (cost m) q)) (δ (distances b) q + b .deadline)) close (h .q) (h .low) (h .high)
+      (some-one (λ q. longer (windowOf (withCost d (cost m) q)) (δ (distances b) q + b .deadline)) close (h .q) (h .low) (h .high)
       (ap (λ x. longer x (δ (distances b) (h .q) + b .deadline)) w ∙ lt-ltb _ _ (h .late)))
 
-  pub bad-means : (m : ℕ) → Exactly (badOf b (views b l) (marked b l) close m ≡ true) (IsBad b l close m)
+  pub bad-means : (m : ℕ) → Exactly (badOf b (viewed b l) (marked b l) close m ≡ true) (IsBad b l close m)
   bad-means m = (is-bad m, bad-is m)

@@ -1,6 +1,6 @@
--- Demand 4: every starred case of document 01 holds. Assumes nothing.
+-- Every starred case of document 01 holds. Assumes nothing.
 use Prim.Native.Nat.{ℕ}
-use mathlib.Core.Path.{_≡_, refl, ap, _∙_}
+use mathlib.Core.Path.{_≡_, refl, ap, sym, _∙_}
 use mathlib.Core.Bool.{_||_}
 use mathlib.Core.List.{List, [], _∷_, flatten, map}
 use lib.Dec.{eqb}
@@ -24,8 +24,9 @@ use Rattle.windows.specs.declared.Window.the-variants.{At}
 use Rattle.windows.proofs.Starred as windows
 use Rattle.misses.specs.Misses.{badOf, roomOf}
 use Rattle.misses.proofs.Starred as misses
-use Rattle.demands.specs.Stored.{chainOf, othersOf}
+use Rattle.demands.specs.Chains.{chainOf, othersOf}
 use Rattle.demands.specs.Misses as words
+use Rattle.demands.proofs.Equation.{viewed, equation-is}
 use Rattle.demands.specs.Starred.{sample, edge, past, chain1, others1, chain3, task, Starred}
 
 -- the bytes are those of the cases that were proved
@@ -85,10 +86,10 @@ starred =
       eta-26 = arrivals.starred .6;
       edge-figures = rw (← edge-same) (windows.starred .edge-latency);
       edge-refused = rw (← past-same) (windows.starred .past-latency);
-      window-1 = of-chain1 (λ b l. windowOf (words.full b l 1) ≡ At 64) (windows.starred .sample-window);
+      window-1 = of-chain1 (λ b l. windowOf (words.full b l 1) ≡ At 64) (ap (λ d. windowOf (d 1)) (sym (equation-is _ _)) ∙ windows.starred .sample-window);
       segment-3 = of-chain3 (λ a b. segmentsOf a b ≡ (task 2 7 10 ∷ task 0 8 6 ∷ []) ∷ []) segment;
       active-3 = of-chain3 (λ a b. map (λ x. x .cost) (activesOf a b) ≡ 6 ∷ 10 ∷ []) active;
-      bad-sets = of-chain1 (λ b l. (n : ℕ) → badOf b (words.views b l) (words.marked b l) 1 n ≡ (eqb n 3 || eqb n 5 || eqb n 6 || eqb n 7)) (m .sets);
+      bad-sets = of-chain1 (λ b l. (n : ℕ) → badOf b (viewed b l) (words.marked b l) 1 n ≡ (eqb n 3 || eqb n 5 || eqb n 6 || eqb n 7)) (m .sets);
       room-10 = of-chain1 (λ b l. roomOf b (words.marked b l) 10 64 ≡ 2 ∷ 2 ∷ 2 ∷ []) (m .room-10);
       room-11 = of-chain1 (λ b l. roomOf b (words.marked b l) 11 64 ≡ 3 ∷ 3 ∷ 3 ∷ []) (m .room-11);
       misses-10 = rw (← sample-same) (m .misses-10);

@@ -1,16 +1,26 @@
--- Demand 1: every input of every entry is answered or refused with one number, a refused call leaves every lent byte, and two results
--- that an entry's statement allows are equal, all lent bytes included.
+-- Demand 1, entry by entry: every input is answered or refused with one number, a refused call leaves every lent byte, and two results
+-- that an entry's statement allows are equal, all lent bytes included. An entry's statement is the one of its contract.
 use Prim.Native.Nat.{ℕ, _≤_}
 use mathlib.Core.Path.{_≡_}
 use mathlib.Core.List.{List, []}
 use mathlib.Core.Logic.{_⊎_}
 use lib.ListN.{length}
+use denote.Ref.{RefT, ptr, now}
+use Rattle.table.specs.Read.{readTable, numberOf as verdictNumber}
+use Rattle.table.specs.declared.Reading.{Reading}
+use Rattle.segments.specs.Query.{segmentOf, HandedBack, numberOf as segmentNumber, valuesOf as segmentFigures}
+use Rattle.segments.specs.declared.Answer.{Answer as Segment}
+use Rattle.windows.specs.Latency.{latencyOf, numberOf as latencyNumber}
+use Rattle.misses.specs.Misses.{missesOf, numberOf as missesNumber, valuesOf as missesFigures}
+use Rattle.saving.specs.Save.{Saves, numberOf as saveNumber}
+use Rattle.report_text.specs.Report.{Reported}
+use Rattle.editor.specs.Entry.{latencyFigures, LatencyEntry, MissesEntry, SegmentEntry, SaveEntry, ReportEntry}
 
 -- n lies between low and high, both included
 abbrev pub Between : ℕ → ℕ → ℕ → Type 0
 Between low high n = (low ≤ n) × (n ≤ high)
 
--- the numbers that a table, each query, and a save can be refused with; a C entry also with 27
+-- the numbers that a table, each query, a save and a report can be refused with; a C entry also with 27
 abbrev pub TableRefusal : ℕ → Type 0
 TableRefusal n = Between 1 11 n
 
@@ -26,6 +36,9 @@ SegmentRefusal n = Between 1 12 n ⊎ Between 25 26 n
 abbrev pub SaveRefusal : ℕ → Type 0
 SaveRefusal n = Between 1 11 n ⊎ Between 22 24 n
 
+abbrev pub ReportRefusal : ℕ → Type 0
+ReportRefusal n = n ≡ 24
+
 abbrev pub AtEntry : (ℕ → Type 0) → ℕ → Type 0
 AtEntry Refusal n = (n ≡ 27) ⊎ Refusal n
 
@@ -36,13 +49,47 @@ pub record OneAnswer (Refusal : ℕ → Type 0) (n number : ℕ) (figures : List
 
 -- a query of the library, by what its statement allows: some answer, and two that it allows are equal
 pub record Query {A : Type 0} (Allows : A → Type 0) (Refusal : ℕ → Type 0) (n : ℕ) (number : A → ℕ) (figures : A → List ℕ) : Type 0 where
-  pub some : (a : A) × Allows a
+  pub taken : (a : A) × Allows a
   pub one : {a b : A} → Allows a → Allows b → a ≡ b
   pub answer : {a : A} → Allows a → OneAnswer Refusal n (number a) (figures a)
 
 -- a call that writes into lent bytes, by what its statement allows of these bytes afterwards and of its result, whose number is 0 or a
 -- refusal: some result, two that it allows are equal, lent bytes included, and a refused call leaves every lent byte
 pub record Call {A R : Type 0} (Allows : A → R → Type 0) (Refusal : ℕ → Type 0) (number : R → ℕ) (before : A) : Type 0 where
-  pub some : (after : A) × (r : R) × Allows after r
+  pub taken : (after : A) × (r : R) × Allows after r
   pub one : {x y : A} {r q : R} → Allows x r → Allows y q → (x ≡ y) × (r ≡ q)
   pub refused : {x : A} {r : R} → Allows x r → (number r ≡ 0 → ⊥) → Refusal (number r) × (x ≡ before)
+
+-- a call that is refused nowhere: two results that its statement allows are equal, lent bytes included
+pub record OneResult {A R : Type 0} (Allows : A → R → Type 0) : Type 0 where
+  pub one : {x y : A} {r q : R} → Allows x r → Allows y q → (x ≡ y) × (r ≡ q)
+
+-- the part of the lent table that is handed back: there is one, and its bytes and its place in memory are the only ones
+pub record OnePart (table : RefT (List ℕ)) (answer : Segment) : Type 0 where
+  pub taken : (r : RefT (List ℕ)) × HandedBack table r answer
+  pub one : {r q : RefT (List ℕ)} → HandedBack table r answer → HandedBack table q answer → (now r ≡ now q) × (ptr r ≡ ptr q)
+
+-- every entry of the library and of C
+pub record EveryEntry : Type 0 where
+  -- `table::judge`, `table::read`
+  pub judge : (s : List ℕ) → Query (λ v. v ≡ readTable s .verdict) TableRefusal 0 verdictNumber (λ v. [])
+  pub read : (s : List ℕ) {r q : Reading} → r ≡ readTable s → q ≡ readTable s → r ≡ q
+  -- `windows::latency`, `misses::misses`
+  pub latency : (s : List ℕ) (id : ℕ) → Query (λ a. a ≡ latencyOf s id) LatencyRefusal 4 latencyNumber latencyFigures
+  pub misses : (s : List ℕ) (id k : ℕ) → Query (λ a. a ≡ missesOf s id k) MissesRefusal 1 missesNumber missesFigures
+  -- `segments::segment`, `segments::segment_part`
+  pub segment : (s : List ℕ) (chain against number : ℕ) → Query (λ a. a ≡ segmentOf s chain against number) SegmentRefusal 2 segmentNumber segmentFigures
+  pub part : (table : RefT (List ℕ)) (chain against number : ℕ) → OnePart table (segmentOf (now table) chain against number)
+  -- `saving::save`
+  pub save : (buffer : List ℕ) (used : ℕ) (old new : List ℕ) → Call (λ after a. Saves buffer used old new a after) SaveRefusal saveNumber buffer
+  -- `report_text::report`
+  pub report : (s before : List ℕ) → OneResult (Reported s before)
+  -- `mishtodran_latency`, `mishtodran_misses`, `mishtodran_segment`
+  pub latency-entry : (s : List ℕ) (id : ℕ) (before : List ℕ) → Call (LatencyEntry s id before) (AtEntry LatencyRefusal) (λ r. r) before
+  pub misses-entry : (s : List ℕ) (id k : ℕ) (before : List ℕ) → Call (MissesEntry s id k before) (AtEntry MissesRefusal) (λ r. r) before
+  pub segment-entry : (s : List ℕ) (chain against number : ℕ) (before : List ℕ) → Call (SegmentEntry s chain against number before) (AtEntry SegmentRefusal) (λ r. r) before
+  -- `mishtodran_save` and `mishtodran_report`, which are lent two buffers to be written
+  pub save-entry : (buffer : List ℕ) (used : ℕ) (old new answer : List ℕ)
+      → Call {A = List ℕ × List ℕ} (λ after r. SaveEntry buffer used old new answer (after .0) (after .1) r) (AtEntry SaveRefusal) (λ r. r) (buffer, answer)
+  pub report-entry : (s text answer : List ℕ)
+      → Call {A = List ℕ × List ℕ} (λ after r. ReportEntry s text answer (after .0) (after .1) r) (AtEntry ReportRefusal) (λ r. r) (text, answer)

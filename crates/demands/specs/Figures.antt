@@ -18,10 +18,10 @@ use Rattle.windows.specs.declared.Answer.the-variants.{Figures, Refused}
 abbrev pub Exactly : Type 0 → Type 0 → Type 0
 Exactly A B = (A → B) × (B → A)
 
--- how many of 1, 2, .., k pass
+-- how many of 1, 2, .., n pass
 unfoldable pub count : (ℕ → Bool) → ℕ → ℕ
 count p zero = 0
-count p (suc k) = (1 when p (suc k) else 0) + count p k
+count p (suc n) = (1 when p (suc n) else 0) + count p n
 
 module _ (demand : ℕ → ℕ → ℕ) (ds : List ℕ) where
   -- all windows before q are there and stay open: B(p) reaches past δ(p + 1)
@@ -42,21 +42,21 @@ module _ (demand : ℕ → ℕ → ℕ) (ds : List ℕ) where
 
   -- figures: B(1), .., B(K) are there, and K is the first with B(K) ≤ δ(K + 1); none ends before its activation; latency is the greatest
   -- B(q) − δ(q), late how many of them exceed the deadline, margin the deadline minus latency
-  pub record Closes (deadline k latency late : ℕ) (margin : ℤ) : Type 0 where
-    pub low : 1 ≤ k
-    pub high : k ≤ maxActivations
+  pub record Closes (deadline close latency late : ℕ) (margin : ℤ) : Type 0 where
+    pub low : 1 ≤ close
+    pub high : close ≤ maxActivations
     pub B : ℕ → ℕ
-    pub windows : (q : ℕ) → 1 ≤ q → q ≤ k → Solution (demand q) (B q)
-    pub reach : (q : ℕ) → 1 ≤ q → q < k → δ ds (q + 1) < B q
-    pub shut : B k ≤ δ ds (k + 1)
-    pub behind : (q : ℕ) → 1 ≤ q → q ≤ k → δ ds q ≤ B q
-    pub greatest : Greatest (λ x. (q : ℕ) × (1 ≤ q) × (q ≤ k) × (B q ≡ δ ds q + x)) latency
-    pub counts : late ≡ count (λ q. ltb (δ ds q + deadline) (B q)) k
+    pub windows : (q : ℕ) → 1 ≤ q → q ≤ close → Solution (demand q) (B q)
+    pub reach : (q : ℕ) → 1 ≤ q → q < close → δ ds (q + 1) < B q
+    pub shut : B close ≤ δ ds (close + 1)
+    pub behind : (q : ℕ) → 1 ≤ q → q ≤ close → δ ds q ≤ B q
+    pub greatest : Greatest (λ x. (q : ℕ) × (1 ≤ q) × (q ≤ close) × (B q ≡ δ ds q + x)) latency
+    pub counts : late ≡ count (λ q. ltb (δ ds q + deadline) (B q)) close
     pub rest : margin ≡ pos deadline -ℤ pos latency
 
   -- what each answer says, and that there is no other
   pub record Means (deadline : ℕ) (answer : Answer) : Type 0 where
-    pub figures : (k latency late : ℕ) (margin : ℤ) → Exactly (answer ≡ Figures k latency late margin) (Closes deadline k latency late margin)
+    pub figures : (close latency late : ℕ) (margin : ℤ) → Exactly (answer ≡ Figures close latency late margin) (Closes deadline close latency late margin)
     pub none : Exactly (answer ≡ Refused 16) NoWindow
     pub unclosed : Exactly (answer ≡ Refused 17) NoClose
-    pub other : ((k latency late : ℕ) (margin : ℤ) → answer ≡ Figures k latency late margin → ⊥) → (answer ≡ Refused 16 → ⊥) → answer ≡ Refused 17
+    pub other : ((close latency late : ℕ) (margin : ℤ) → answer ≡ Figures close latency late margin → ⊥) → (answer ≡ Refused 16 → ⊥) → answer ≡ Refused 17

@@ -1,6 +1,12 @@
-pub mod Stored
+pub mod Demands
+pub mod Chains
 pub mod Entries
+pub mod Saves
+pub mod Arrivals
+pub mod Equation
 pub mod Figures
 pub mod Misses
+pub mod Parts
 pub mod Others
 pub mod Starred
+pub mod Witness

@@ -1,28 +1,29 @@
 -- Demand 2 for the miss query: what its answer says of a chain b beside the other chains l, for a run of k activations.
-use Prim.Native.Nat.{ℕ, _+_, _*_, _^_, _≤_, _<_}
+use Prim.Native.Nat.{ℕ, _+_, _*_, _-_, _^_, _≤_, _<_}
 use mathlib.Core.Path.{_≡_}
 use mathlib.Core.Bool.{Bool, true}
-use mathlib.Core.List.{List, map}
+use mathlib.Core.List.{List, [], map}
 use mathlib.Core.Logic.{_⊎_}
+use lib.Dec.{ltb}
 use lib.IntN.{ℤ}
 use lib.ListN.{length, getD}
+use Rattle.search.specs.Choice.{_when_else_}
 use Rattle.search.specs.Lists.{All}
 use Rattle.table.specs.Limits.{maxRun, maxOverloads, maxCapacity}
 use Rattle.table.specs.declared.Row.{Row}
 use Rattle.arrivals.specs.Arrivals.{δ, η}
 use Rattle.table.specs.Record.{distances}
-use Rattle.segments.specs.View.{View, viewOf}
-use Rattle.windows.specs.Demand.{demandOf, typical}
 use Rattle.windows.specs.Window.{Solution}
 use Rattle.windows.specs.Latency.{latencyOf}
 use Rattle.packing.specs.Packing.{bit, IsMost}
 use Rattle.misses.specs.Overloads.{Overload, overloads, Piece, piecesOf}
 use Rattle.misses.specs.Sets.{members, setCost}
 use Rattle.misses.specs.Bad.{withCost}
-use Rattle.misses.specs.Misses.{roomOf, missesOf}
+use Rattle.misses.specs.Misses.{missesOf}
 use Rattle.misses.specs.declared.Answer.{Answer}
 use Rattle.misses.specs.declared.Answer.the-variants.{Misses, Refused}
-use Rattle.demands.specs.Stored.{chainOf, othersOf}
+use Rattle.demands.specs.Chains.{chainOf, othersOf}
+use Rattle.demands.specs.Equation.{equation, unmarked}
 use Rattle.demands.specs.Figures.{Exactly, NoWindow, NoClose, Closes, Means}
 
 -- the active segment of a bit, out of all of them
@@ -35,9 +36,6 @@ pub record Combination (ps : List Piece) (m : ℕ) : Type 0 where
   pub one : (i j : ℕ) → i < length ps → j < length ps → bit i m ≡ 1 → bit j m ≡ 1 → pieceOf ps i .chain ≡ pieceOf ps j .chain → pieceOf ps i .segment ≡ pieceOf ps j .segment
 
 module _ (b : Row) (l : List Row) where
-  abbrev pub views : List View
-  views = map (λ a. viewOf a b) l
-
   -- the overload chains, and their active segments in a row
   abbrev pub marked : List Overload
   marked = overloads b l
@@ -47,10 +45,15 @@ module _ (b : Row) (l : List Row) where
 
   -- b's demand beside all others, and with all overload chains' terms dropped
   abbrev pub full : ℕ → ℕ → ℕ
-  full = demandOf b views
+  full = equation b l
 
   abbrev pub without : ℕ → ℕ → ℕ
-  without = demandOf b (typical views)
+  without = equation b (unmarked l)
+
+  -- capacity of each active segment of a chain a: η_a((k − 1) times b's gap + latency) + 1; a bit past the last one's has none
+  unfoldable pub capacityOf : ℕ → ℕ → ℕ → ℕ
+  capacityOf k latency i =
+      η (getD (map (λ o. o .list) marked) (pieceOf pieces i .chain) []) ((k - 1) * b .gap + latency) + 1 when ltb i (length pieces) else 0
 
   -- a bad combination: with the set's costs added once, for some q ≤ K its window minus δ(q) exceeds the deadline
   pub record IsBad (close m : ℕ) : Type 0 where
@@ -95,13 +98,13 @@ module _ (b : Row) (l : List Row) where
     Fine = IsBad (f .close) 0 → ⊥
 
     abbrev pub Capped : Type 0
-    Capped = All (λ c. c ≤ maxCapacity) (roomOf b marked k (f .latency))
+    Capped = (i : ℕ) → i < length pieces → capacityOf k (f .latency) i ≤ maxCapacity
 
     -- the most uses that a packing of the bad combinations has, no active segment beyond its capacity: reached by one, exceeded by none
     pub record Most (uses : ℕ) : Type 0 where
       pub bad : ℕ → Bool
       pub is : (m : ℕ) → Exactly (bad m ≡ true) (IsBad (f .close) m)
-      pub most : IsMost bad (λ i. getD (roomOf b marked k (f .latency)) i 0) uses
+      pub most : IsMost bad (capacityOf k (f .latency)) uses
 
   -- what each answer says, in document 01's order
   pub data Says (k : ℕ) : Answer → Type 0 where

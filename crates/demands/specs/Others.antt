@@ -1,23 +1,19 @@
 -- Demand 3: what a chain is answered hangs on its own record and on what it sees of the other chains, and on nothing else of them.
 use Prim.Native.Nat.{ℕ, _+_, _*_, _<_, _≤_}
 use mathlib.Core.Path.{_≡_}
-use mathlib.Core.List.{List, [], _∷_, map, flatten, List·Permᴰ}
+use mathlib.Core.List.{List, [], _∷_, _++_, map, flatten, List·Permᴰ}
 use mathlib.Core.Logic.{_⊎_}
 use lib.ListN.{length, getD, take, drop}
-use Rattle.search.specs.Lists.{Paired}
+use Rattle.search.specs.Lists.{All, Paired}
 use Rattle.table.specs.Find.{rows}
 use Rattle.table.specs.declared.Row.{Row}
 use Rattle.table.specs.Record.{distances}
 use Rattle.segments.specs.Tasks.{Task, tasksOf, costOf, floorOf, tailOf, below, deferred, firstCost}
-use Rattle.segments.specs.Segments.{cutSegments}
+use Rattle.segments.specs.Segments.{cutSegmentsOf}
 use Rattle.windows.specs.Latency.{latencyOf}
 use Rattle.misses.specs.Misses.{missesOf}
 use Rattle.table.specs.Read.{tableOf}
-use Rattle.demands.specs.Stored.{IsTable, Has, chainOf, bytesOf, othersOf}
-
--- the segments of a chain a against a chain b, each as its active segments
-abbrev pub segmentsOf : Row → Row → List (List (List Task))
-segmentsOf a b = cutSegments (floorOf b) (tailOf b) (tasksOf a)
+use Rattle.demands.specs.Chains.{IsTable, Has, chainOf, recordBytes, othersOf}
 
 -- two segments with the same cost and the same active-segment costs in any order
 pub record SameSegment (x y : List (List Task)) : Type 0 where
@@ -32,13 +28,13 @@ pub record Agrees (b a c : Row) : Type 0 where
   pub arrivals : distances a ≡ distances c
   pub defers : deferred a b ≡ deferred c b
   pub first : firstCost a b ≡ firstCost c b
-  pub segments : Paired SameSegment (segmentsOf a b) (segmentsOf c b)
+  pub segments : Paired SameSegment (cutSegmentsOf a b) (cutSegmentsOf c b)
 
 -- two accepted tables in which the id's records are the same bytes, and the other chains pair off one to one, each pair related by R
 pub record Besides (R : Row → Row → Type 0) (s r : List ℕ) (id : ℕ) : Type 0 where
   pub one : Has s id
   pub two : Has r id
-  pub own : bytesOf s id ≡ bytesOf r id
+  pub own : recordBytes s id ≡ recordBytes r id
   pub others : Paired R (othersOf s id) (othersOf r id)
 
 -- and each pair agrees against that chain
@@ -66,29 +62,25 @@ pub record SameWork (a c : Row) : Type 0 where
   pub priority : a .priority ≡ c .priority
   pub cost : a .cost ≡ c .cost
 
--- a and c have other tasks, and the same active-segment costs, segment by segment
-pub record SameActives (b a c : Row) : Type 0 where
+-- tasks in a row that no cut parts, of which all but the first are at or above the tail, and all at or above the floor
+pub record Uncut (floor tail : ℕ) (t : Task) (ts : List Task) : Type 0 where
+  pub first : floor ≤ t .priority
+  pub rest : All (λ u. (floor ≤ u .priority) × (tail ≤ u .priority)) ts
+
+-- some tasks that no cut parts give way to others with the same cost together, the first of which stands to the tail as theirs did: one
+-- task is cut in two, 6 and 4 become 5 and 5
+pub data Regrouped (floor tail : ℕ) : List Task → List Task → Type 0 where
+  none : Regrouped floor tail [] []
+  kept : {x y : Task} {xs ys : List Task} → x .priority ≡ y .priority → x .cost ≡ y .cost → Regrouped floor tail xs ys → Regrouped floor tail (x ∷ xs) (y ∷ ys)
+  group : {x y : Task} {us vs xs ys : List Task} → Uncut floor tail x us → Uncut floor tail y vs → below tail x ≡ below tail y
+      → costOf (x ∷ us) ≡ costOf (y ∷ vs) → Regrouped floor tail xs ys → Regrouped floor tail (x ∷ (us ++ xs)) (y ∷ (vs ++ ys))
+
+-- c is a with tasks within its active segments regrouped
+pub record RegroupedTasks (b a c : Row) : Type 0 where
   pub kind : a .kind ≡ c .kind
   pub overload : a .overload ≡ c .overload
   pub arrivals : distances a ≡ distances c
-  pub defers : deferred a b ≡ deferred c b
-  pub first : firstCost a b ≡ firstCost c b
-  pub costs : map (map costOf) (segmentsOf a b) ≡ map (map costOf) (segmentsOf c b)
-
--- some tasks x at or above the floor are each split in two, y and z, with x's cost together: y stands to floor and tail as x did, and z
--- is at or above both, so that no cut comes before it
-pub data Split (floor tail : ℕ) : List Task → List Task → Type 0 where
-  none : Split floor tail [] []
-  kept : {x y : Task} {xs ys : List Task} → x .priority ≡ y .priority → x .cost ≡ y .cost → Split floor tail xs ys → Split floor tail (x ∷ xs) (y ∷ ys)
-  two : {x y z : Task} {xs ys : List Task} → floor ≤ x .priority → floor ≤ y .priority → below tail x ≡ below tail y → floor ≤ z .priority → tail ≤ z .priority
-      → x .cost ≡ y .cost + z .cost → Split floor tail xs ys → Split floor tail (x ∷ xs) (y ∷ z ∷ ys)
-
--- c is a with such tasks split
-pub record SplitTasks (b a c : Row) : Type 0 where
-  pub kind : a .kind ≡ c .kind
-  pub overload : a .overload ≡ c .overload
-  pub arrivals : distances a ≡ distances c
-  pub tasks : Split (floorOf b) (tailOf b) (tasksOf a) (tasksOf c)
+  pub tasks : Regrouped (floorOf b) (tailOf b) (tasksOf a) (tasksOf c)
 
 -- the new record differs from the old one in deadline and gap at most, its bytes 6 to 13
 pub record DeadlineOrGap (old new : List ℕ) : Type 0 where

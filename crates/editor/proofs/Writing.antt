@@ -5,11 +5,11 @@ use mathlib.Core.Path.{_≡_, refl, ap, sym, _∙_}
 use mathlib.Core.List.{List, [], _∷_, _++_, append-assoc, append-nil}
 use lib.ListN.{length, take, drop, length-append}
 use lib.Seq.{take-at, drop-append-add, drop-drop}
-use Rattle.table.specs.Bytes.{bytesOf}
-use Rattle.table.proofs.Words.{length-bytes}
 use borrow.Author.Tests.{lt-ltb, le-ltb}
 use Rattle.search.proofs.Choice.{when-yes, when-no}
-use Rattle.editor.specs.Entry.{figureBytes, written, leftBy, Answered}
+use Rattle.table.specs.Bytes.{bytesOf}
+use Rattle.table.proofs.Words.{length-bytes}
+use Rattle.editor.specs.Entry.{figureBytes, startingWith, leftBy, Answered}
 
 pub length-figures : (xs : List ℕ) → length (figureBytes xs) ≡ 4 * length xs
 unfolding figureBytes
@@ -21,26 +21,27 @@ unfolding figureBytes
 figures-more [] x = append-nil (bytesOf 4 x)
 figures-more (y ∷ xs) x = ap (λ l. bytesOf 4 y ++ l) (figures-more xs x) ∙ sym (append-assoc (bytesOf 4 y) (figureBytes xs) (bytesOf 4 x))
 
-pub written-none : (before : List ℕ) → written [] before ≡ before
+-- no figure leaves the buffer as it is
+pub figures-none : (before : List ℕ) → startingWith (figureBytes []) before ≡ before
 unfolding figureBytes
-written-none before = refl
-
--- one more, at its place
-written-on : (xs : List ℕ) (x : ℕ) (before : List ℕ)
-    → take (4 * length xs) (written xs before) ++ bytesOf 4 x ++ drop (4 * length xs + 4) (written xs before) ≡ written (xs ++ (x ∷ [])) before
-written-on xs x before =
-    let n : length (figureBytes xs) ≡ 4 * length xs = length-figures xs in
-    let m : 4 * length (xs ++ (x ∷ [])) ≡ 4 * length xs + 4 = omega (arith, length-append xs (x ∷ [])) in
-    let rest : List ℕ = drop (4 * length xs) before in
-    let t : take (4 * length xs) (written xs before) ≡ figureBytes xs = take-at (figureBytes xs) rest (4 * length xs) n in
-    let d : drop (4 * length xs + 4) (written xs before) ≡ drop 4 rest = ap (λ (k : ℕ). drop (k + 4) (written xs before)) (sym n) ∙ drop-append-add (figureBytes xs) rest 4 in
-    rw (t, d, m, figures-more xs x, drop-drop 4 (4 * length xs) before)
+figures-none before = refl
 
 -- a store of the next figure takes what holds some of them to what holds one more
-pub stored-next : (xs : List ℕ) (x : ℕ) (before held after : List ℕ) → held ≡ written xs before
-    → after ≡ take (4 * length xs) held ++ bytesOf 4 x ++ drop (4 * length xs + 4) held → after ≡ written (xs ++ (x ∷ [])) before
+pub stored-next : (xs : List ℕ) (x : ℕ) (before held after : List ℕ) → held ≡ startingWith (figureBytes xs) before
+    → after ≡ take (4 * length xs) held ++ bytesOf 4 x ++ drop (4 * length xs + 4) held → after ≡ startingWith (figureBytes (xs ++ (x ∷ []))) before
 stored-next xs x before held after e f =
-    f ∙ ap (λ (l : List ℕ). take (4 * length xs) l ++ bytesOf 4 x ++ drop (4 * length xs + 4) l) e ∙ written-on xs x before
+    f ∙ ap (λ (l : List ℕ). take (4 * length xs) l ++ bytesOf 4 x ++ drop (4 * length xs + 4) l) e ∙ on
+  where
+    on : take (4 * length xs) (startingWith (figureBytes xs) before) ++ bytesOf 4 x ++ drop (4 * length xs + 4) (startingWith (figureBytes xs) before)
+        ≡ startingWith (figureBytes (xs ++ (x ∷ []))) before
+    on =
+        let n : length (figureBytes xs) ≡ 4 * length xs = length-figures xs in
+        let m : length (figureBytes xs ++ bytesOf 4 x) ≡ length (figureBytes xs) + 4 = omega (arith, length-append (figureBytes xs) (bytesOf 4 x), length-bytes 4 x) in
+        let rest : List ℕ = drop (length (figureBytes xs)) before in
+        let t : take (4 * length xs) (startingWith (figureBytes xs) before) ≡ figureBytes xs = take-at (figureBytes xs) rest (4 * length xs) n in
+        let d : drop (4 * length xs + 4) (startingWith (figureBytes xs) before) ≡ drop 4 rest =
+        ap (λ (k : ℕ). drop (k + 4) (startingWith (figureBytes xs) before)) (sym n) ∙ drop-append-add (figureBytes xs) rest 4 in
+        rw (t, d, figures-more xs x, m, drop-drop 4 (length (figureBytes xs)) before)
 
 -- the three ways an entry ends
 module _ (n number : ℕ) (figures before : List ℕ) where
@@ -51,9 +52,9 @@ module _ (n number : ℕ) (figures before : List ℕ) where
     pub answered-refusal : (r : ℕ) → number ≡ r → figures ≡ [] → Answered n number figures before before r
     answered-refusal r e f = record { returns = sym (when-no 27 number (le-ltb _ _ room) ∙ e); leaves = kept r }
       where
-        kept : (r : ℕ) → before ≡ leftBy r figures before
-        kept zero = sym (ap (λ l. written l before) f ∙ written-none before)
+        kept : (r : ℕ) → before ≡ leftBy r (figureBytes figures) before
+        kept zero = sym (ap (λ l. startingWith (figureBytes l) before) f ∙ figures-none before)
         kept (suc r) = refl
 
-    pub answered-figures : (after : List ℕ) → number ≡ 0 → after ≡ written figures before → Answered n number figures before after 0
+    pub answered-figures : (after : List ℕ) → number ≡ 0 → after ≡ startingWith (figureBytes figures) before → Answered n number figures before after 0
     answered-figures after e f = record { returns = sym (when-no 27 number (le-ltb _ _ room) ∙ e); leaves = f }

@@ -1,15 +1,19 @@
--- An entry of the C editor (01, 'The C editor and the report'): what it returns, and what it leaves in the lent answer buffer.
+-- The entries of the C editor (01, 'The C editor and the report'): what each returns, and what it leaves in the buffers it is lent.
 use Prim.Native.Nat.{ℕ, zero, suc, _*_, _-_}
 use mathlib.Core.Path.{_≡_}
 use mathlib.Core.List.{List, [], _∷_, _++_, map}
+use mathlib.Core.Bool.{Bool}
 use lib.ListN.{length, drop}
 use lib.Dec.{ltb}
 use lib.IntN.{ℤ, pos, negsuc}
 use Rattle.search.specs.Choice.{_when_else_}
 use Rattle.table.specs.Bytes.{bytesOf}
+use Rattle.segments.specs.Query as segment
 use Rattle.windows.specs.Latency as latency
 use Rattle.windows.specs.declared.Answer.{Answer as Latency}
+use Rattle.misses.specs.Misses as misses
 use Rattle.saving.specs.Save as save
+use Rattle.report_text.specs.Report.{reportOf}
 
 -- a signed number in two's complement
 abbrev pub unsigned : ℤ → ℕ
@@ -21,29 +25,48 @@ unfoldable pub figureBytes : List ℕ → List ℕ
 figureBytes [] = []
 figureBytes (x ∷ xs) = bytesOf 4 x ++ figureBytes xs
 
--- the figures stand first in the answer buffer, and its rest stays
-abbrev pub written : List ℕ → List ℕ → List ℕ
-written figures before = figureBytes figures ++ drop (4 * length figures) before
+-- bytes stand first in a buffer, and its rest stays
+abbrev pub startingWith : List ℕ → List ℕ → List ℕ
+startingWith bytes before = bytes ++ drop (length bytes) before
 
--- 27 before everything where the buffer has no room for n figures; else the number of the query's answer
+-- 27 before everything where the answer buffer has no room for n figures; else the number of the answer
 abbrev pub returned : ℕ → ℕ → List ℕ → ℕ
 returned n number before = 27 when ltb (length before) (4 * n) else number
 
--- a refusal leaves every byte
+-- 0 leaves the bytes first in the buffer; a refusal leaves every byte
 abbrev pub leftBy : ℕ → List ℕ → List ℕ → List ℕ
-leftBy zero figures before = written figures before
-leftBy (suc n) figures before = before
+leftBy zero bytes before = startingWith bytes before
+leftBy (suc n) bytes before = before
 
 -- r is returned, and the answer buffer that held `before` holds `after`, for an answer of that number and those figures, n if any
 pub record Answered (n number : ℕ) (figures before after : List ℕ) (r : ℕ) : Type 0 where
   pub returns : r ≡ returned n number before
-  pub leaves : after ≡ leftBy r figures before
+  pub leaves : after ≡ leftBy r (figureBytes figures) before
 
--- the latency entry's figures: K, latency, late, and the margin in two's complement
+-- latency: K, latency, late, and the margin in two's complement
 abbrev pub latencyFigures : Latency → List ℕ
 latencyFigures answer = map unsigned (latency.valuesOf answer)
 
--- the save entry: 27 leaves the table's buffer too
-pub record Stored (buffer : List ℕ) (used : ℕ) (old new answer : List ℕ) (bufferAfter answerAfter : List ℕ) (r : ℕ) : Type 0 where
+pub record LatencyEntry (table : List ℕ) (id : ℕ) (before after : List ℕ) (r : ℕ) : Type 0 where
+  pub answers : Answered 4 (latency.numberOf (latency.latencyOf table id)) (latencyFigures (latency.latencyOf table id)) before after r
+
+-- misses: how many deadlines are missed
+pub record MissesEntry (table : List ℕ) (id k : ℕ) (before after : List ℕ) (r : ℕ) : Type 0 where
+  pub answers : Answered 1 (misses.numberOf (misses.missesOf table id k)) (misses.valuesOf (misses.missesOf table id k)) before after r
+
+-- segment: offset and length
+pub record SegmentEntry (table : List ℕ) (chain against number : ℕ) (before after : List ℕ) (r : ℕ) : Type 0 where
+  pub answers : Answered 2 (segment.numberOf (segment.segmentOf table chain against number)) (segment.valuesOf (segment.segmentOf table chain against number)) before after r
+
+-- save: the new used length, and the table's buffer as the save leaves it; 27 leaves that too
+pub record SaveEntry (buffer : List ℕ) (used : ℕ) (old new answer bufferAfter answerAfter : List ℕ) (r : ℕ) : Type 0 where
   pub answers : Answered 1 (save.numberOf (save.savedOf buffer used old new)) (save.figuresOf (save.savedOf buffer used old new)) answer answerAfter r
   pub leaves : bufferAfter ≡ (buffer when ltb (length answer) 4 else save.bufferAfter buffer used old new)
+
+-- report: 24 where its text is longer than the text buffer, else the text's length, and the text; a refused table has its text
+abbrev pub tooLong : List ℕ → List ℕ → Bool
+tooLong table text = ltb (length text) (length (reportOf table))
+
+pub record ReportEntry (table text answer textAfter answerAfter : List ℕ) (r : ℕ) : Type 0 where
+  pub answers : Answered 1 (24 when tooLong table text else 0) ([] when tooLong table text else length (reportOf table) ∷ []) answer answerAfter r
+  pub leaves : textAfter ≡ leftBy r (reportOf table) text

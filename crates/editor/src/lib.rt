@@ -1,13 +1,12 @@
 // The C editor's entries (document 01, 'The C editor and the report'): numbers and byte slices only. Each returns 0 or the
 // refusal's number; refused, every byte lent stays.
-ghost use mathlib.Core.Path.{_≡_};
-ghost use Rattle.windows.specs.Latency as latency;
-ghost use Rattle.misses.specs.Misses as miss;
-ghost use Rattle.segments.specs.Query as segment;
-ghost use Rattle.saving.specs.Save as save;
-ghost use Rattle.editor.specs.Entry.{unsigned as unsignedOf, latencyFigures, Answered, Stored};
+use report_text::LONGEST;
 use saving::Saved;
 use table::put_u32;
+ghost use mathlib.Core.Path.{_≡_};
+ghost use Prim.Native.Nat.{_*_, _≤_};
+ghost use lib.ListN.{length};
+ghost use Rattle.editor.specs.Entry.{unsigned as unsignedOf, figureBytes, startingWith, LatencyEntry, MissesEntry, SegmentEntry, SaveEntry, ReportEntry};
 
 // A signed number in two's complement.
 fn unsigned(x: i32) -> u32
@@ -20,10 +19,22 @@ fn unsigned(x: i32) -> u32
     }
 }
 
+// The figures, four bytes each, at the start of an answer buffer.
+fn put_figures(answer: &mut [u8], figures: &[u32])
+    requires { ⌜ 4 * length (now figures) ≤ length (now answer) ⌝ }
+    ensures { λ _. ⌜ now (answer .exit) ≡ startingWith (figureBytes (now (figures .entry))) (now (answer .entry)) ⌝ }
+{
+    let mut i: usize = 0;
+    while i < figures.len() {
+        put_u32(answer, 4 * i, figures[i]);
+        i += 1;
+    }
+}
+
 // A chain's K, latency, late and margin.
 #[no_mangle]
 pub extern "C" fn mishtodran_latency(table: &[u8], id: u32, answer: &mut [u8]) -> u32
-    ensures { λ r. ⌜ Answered 4 (latency.numberOf (latency.latencyOf (now (table .entry)) id)) (latencyFigures (latency.latencyOf (now (table .entry)) id)) (now (answer .entry)) (now (answer .exit)) r ⌝ }
+    ensures { λ r. ⌜ LatencyEntry (now (table .entry)) id (now (answer .entry)) (now (answer .exit)) r ⌝ }
 {
     if answer.len() < 16 {
         return 27;
@@ -35,10 +46,8 @@ pub extern "C" fn mishtodran_latency(table: &[u8], id: u32, answer: &mut [u8]) -
             late,
             margin,
         } => {
-            put_u32(answer, 0, k);
-            put_u32(answer, 4, latency);
-            put_u32(answer, 8, late);
-            put_u32(answer, 12, unsigned(margin));
+            let figures = [k, latency, late, unsigned(margin)];
+            put_figures(answer, &figures);
             0
         }
         windows::Answer::Refused(n) => n,
@@ -48,14 +57,15 @@ pub extern "C" fn mishtodran_latency(table: &[u8], id: u32, answer: &mut [u8]) -
 // How many deadlines a chain misses at most in a run of k activations.
 #[no_mangle]
 pub extern "C" fn mishtodran_misses(table: &[u8], id: u32, k: u32, answer: &mut [u8]) -> u32
-    ensures { λ r. ⌜ Answered 1 (miss.numberOf (miss.missesOf (now (table .entry)) id k)) (miss.valuesOf (miss.missesOf (now (table .entry)) id k)) (now (answer .entry)) (now (answer .exit)) r ⌝ }
+    ensures { λ r. ⌜ MissesEntry (now (table .entry)) id k (now (answer .entry)) (now (answer .exit)) r ⌝ }
 {
     if answer.len() < 4 {
         return 27;
     }
     match misses::misses(table, id, k) {
         misses::Answer::Misses(n) => {
-            put_u32(answer, 0, n);
+            let figures = [n];
+            put_figures(answer, &figures);
             0
         }
         misses::Answer::Refused(n) => n,
@@ -71,15 +81,15 @@ pub extern "C" fn mishtodran_segment(
     number: u32,
     answer: &mut [u8],
 ) -> u32
-    ensures { λ r. ⌜ Answered 2 (segment.numberOf (segment.segmentOf (now (table .entry)) chain against number)) (segment.valuesOf (segment.segmentOf (now (table .entry)) chain against number)) (now (answer .entry)) (now (answer .exit)) r ⌝ }
+    ensures { λ r. ⌜ SegmentEntry (now (table .entry)) chain against number (now (answer .entry)) (now (answer .exit)) r ⌝ }
 {
     if answer.len() < 8 {
         return 27;
     }
     match segments::segment(table, chain, against, number) {
         segments::Answer::Records { offset, length } => {
-            put_u32(answer, 0, offset);
-            put_u32(answer, 4, length);
+            let figures = [offset, length];
+            put_figures(answer, &figures);
             0
         }
         segments::Answer::Refused(n) => n,
@@ -95,16 +105,37 @@ pub extern "C" fn mishtodran_save(
     new_record: &[u8],
     answer: &mut [u8],
 ) -> u32
-    ensures { λ r. ⌜ Stored (now (buffer .entry)) used (now (old_record .entry)) (now (new_record .entry)) (now (answer .entry)) (now (buffer .exit)) (now (answer .exit)) r ⌝ }
+    ensures { λ r. ⌜ SaveEntry (now (buffer .entry)) used (now (old_record .entry)) (now (new_record .entry)) (now (answer .entry)) (now (buffer .exit)) (now (answer .exit)) r ⌝ }
 {
     if answer.len() < 4 {
         return 27;
     }
     match saving::save(buffer, used, old_record, new_record) {
         Saved::Used(n) => {
-            put_u32(answer, 0, n);
+            let figures = [n];
+            put_figures(answer, &figures);
             0
         }
         Saved::Refused(n) => n,
     }
+}
+
+// The report's text at the start of a text buffer, and its length. It is made in a place of its own first, so that a text that does
+// not fit leaves the buffer as it was.
+#[no_mangle]
+pub extern "C" fn mishtodran_report(table: &[u8], text: &mut [u8], answer: &mut [u8]) -> u32
+    ensures { λ r. ⌜ ReportEntry (now (table .entry)) (now (text .entry)) (now (answer .entry)) (now (text .exit)) (now (answer .exit)) r ⌝ }
+{
+    if answer.len() < 4 {
+        return 27;
+    }
+    let mut made = [0u8; LONGEST];
+    let n = report_text::report(table, &mut made);
+    if text.len() < n {
+        return 24;
+    }
+    bytes::copy(&made[..n], text);
+    let figures = [n as u32];
+    put_figures(answer, &figures);
+    0
 }

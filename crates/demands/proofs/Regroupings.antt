@@ -1,4 +1,4 @@
--- Tasks split in two within an active segment leave every segment's active-segment costs as they were. Assumes nothing.
+-- Tasks regrouped within an active segment leave every segment's active-segment costs as they were. Assumes nothing.
 use Prim.Native.Nat.{ℕ, _+_, _≤_}
 use mathlib.Core.Path.{_≡_, refl, ap, ap₂, sym, _∙_}
 use mathlib.Core.Bool.{Bool, true, false, not, _&&_, _||_}
@@ -10,12 +10,12 @@ use Rattle.search.specs.Choice.{_when_else_}
 use Rattle.search.specs.Lists.{sumOf, some}
 use Rattle.search.proofs.Choice.{when-no}
 use Rattle.table.specs.declared.Row.{Row}
-use Rattle.segments.specs.Tasks.{Task, tasksOf, costOf, floorOf, tailOf, below, before}
-use Rattle.segments.specs.Segments.{_on_, stretches, around, nonempty, cuts, parts, cutSegments}
+use Rattle.segments.specs.Tasks.{Task, tasksOf, costOf, floorOf, tailOf, below, before, deferred, firstCost}
+use Rattle.segments.specs.Segments.{_on_, stretches, around, nonempty, cuts, parts, cutSegments, cutSegmentsOf}
 use Rattle.segments.proofs.Lists.{around-map}
 use Rattle.segments.proofs.Order.{costs}
 use Rattle.segments.proofs.Renaming.{full-costs}
-use Rattle.demands.specs.Others.{SameActives, Split, SplitTasks}
+use Rattle.demands.specs.Others.{Uncut, Regrouped, RegroupedTasks}
 
 -- a task of the cost c in front of stretches, each as its active-segment costs: in the first one's first active segment, or as one of its own
 put : ℕ → Bool → List (List ℕ) → List (List ℕ)
@@ -84,42 +84,60 @@ module _ (floor tail : ℕ) where
       go true e = ap (λ r. [] ∷ r) e
       go false e = in-front t ts ∙ ap (put (t .cost) (joined ts)) e
 
-  -- split tasks: as joined, as costed, as deferred, with the same first cost
   high : (t : Task) → floor ≤ t .priority → below floor t ≡ false
   high t h = le-ltb (t .priority) floor h
 
-  split-joined : {xs ys : List Task} → Split floor tail xs ys → joined xs ≡ joined ys
-  unfolding joined
-  split-joined Split.none = refl
-  split-joined (Split.kept {x} {y} e c s) = ap (λ p. not (ltb p floor) && not (ltb p tail)) e
-  split-joined (Split.two {x} {y} a b t f g c s) = ap₂ (λ p q. not p && not q) (high x a ∙ sym (high y b)) t
+  -- tasks that no cut parts count as one, before whatever follows
+  run-costed : (t : Task) (us xs : List Task) → Uncut floor tail t us → costed (t ∷ (us ++ xs)) ≡ put (costOf (t ∷ us)) (joined xs) (costed xs)
+  unfolding costed joined sumOf
+  run-costed t [] xs h = when-no _ _ (high t (h .first)) ∙ ap (λ n. put n (joined xs) (costed xs)) (omega arith)
+  run-costed t (u ∷ us) xs h =
+      let v = h .rest .0 in
+      let joins : joined (u ∷ (us ++ xs)) ≡ true = ap₂ (λ p q. not p && not q) (high u (v .0)) (le-ltb (u .priority) tail (v .1)) in
+      when-no _ _ (high t (h .first)) ∙ ap₂ (put (t .cost)) joins (run-costed u us xs (record { first = v .0; rest = h .rest .1 }))
+      ∙ sym (put-put (t .cost) (costOf (u ∷ us)) (joined xs) (costed xs))
 
-  split-costed : {xs ys : List Task} → Split floor tail xs ys → costed xs ≡ costed ys
-  unfolding costed joined
-  split-costed Split.none = refl
-  split-costed (Split.kept {x} {y} {xs} {ys} e c s) = rw (split-costed s, split-joined s, e, c)
-  split-costed (Split.two {x} {y} {z} {xs} {ys} a b t f g c s) =
-      when-no _ _ (high x a) ∙ ap (λ n. put n (joined xs) (costed xs)) c ∙ put-put (y .cost) (z .cost) (joined xs) (costed xs)
-      ∙ ap₂ (λ j l. put (y .cost) true (put (z .cost) j l)) (split-joined s) (split-costed s)
-      ∙ ap₂ (put (y .cost)) (sym (ap₂ (λ p q. not p && not q) (high z f) (le-ltb (z .priority) tail g))) (sym (when-no _ _ (high z f)))
-      ∙ sym (when-no _ _ (high y b))
-
-  split-some : {xs ys : List Task} → Split floor tail xs ys → some (below floor) xs ≡ some (below floor) ys
+  run-some : (t : Task) (us xs : List Task) → Uncut floor tail t us → some (below floor) (t ∷ (us ++ xs)) ≡ some (below floor) xs
   unfolding some
-  split-some Split.none = refl
-  split-some (Split.kept e c s) = ap₂ (λ p r. ltb p floor || r) e (split-some s)
-  split-some (Split.two {x} {y} {z} a b t f g c s) = rw (high x a, high y b, high z f) (split-some s)
+  run-some t [] xs h = rw (high t (h .first))
+  run-some t (u ∷ us) xs h = rw (high t (h .first)) (run-some u us xs (record { first = h .rest .0 .0; rest = h .rest .1 }))
 
-  split-before : {xs ys : List Task} → Split floor tail xs ys → costOf (before (below floor) xs) ≡ costOf (before (below floor) ys)
+  run-before : (t : Task) (us xs : List Task) → Uncut floor tail t us → costOf (before (below floor) (t ∷ (us ++ xs))) ≡ costOf (t ∷ us) + costOf (before (below floor) xs)
   unfolding before sumOf _when_else_
-  split-before Split.none = refl
-  split-before (Split.kept {x} {y} {xs} {ys} e c s) =
-      ap (λ p. costOf ([] when ltb p floor else x ∷ before (below floor) xs)) e ∙ go (ltb (y .priority) floor) (split-before s)
+  run-before t [] xs h = rw (high t (h .first)) (omega arith)
+  run-before t (u ∷ us) xs h = rw (high t (h .first)) (omega (arith, run-before u us xs (record { first = h .rest .0 .0; rest = h .rest .1 })))
+
+  -- regrouped tasks: as joined, as costed, as deferred, with the same first cost
+  grouped-joined : {xs ys : List Task} → Regrouped floor tail xs ys → joined xs ≡ joined ys
+  unfolding joined
+  grouped-joined Regrouped.none = refl
+  grouped-joined (Regrouped.kept e c s) = ap (λ p. not (ltb p floor) && not (ltb p tail)) e
+  grouped-joined (Regrouped.group {x} {y} g h e c s) = ap₂ (λ p q. not p && not q) (high x (g .first) ∙ sym (high y (h .first))) e
+
+  grouped-costed : {xs ys : List Task} → Regrouped floor tail xs ys → costed xs ≡ costed ys
+  unfolding costed
+  grouped-costed Regrouped.none = refl
+  grouped-costed (Regrouped.kept {x} {y} {xs} {ys} e c s) = rw (grouped-costed s, grouped-joined s, e, c)
+  grouped-costed (Regrouped.group {x} {y} {us} {vs} {xs} {ys} g h e c s) =
+      run-costed x us xs g ∙ ap (λ n. put n (joined xs) (costed xs)) c ∙ ap₂ (put (costOf (y ∷ vs))) (grouped-joined s) (grouped-costed s)
+      ∙ sym (run-costed y vs ys h)
+
+  grouped-some : {xs ys : List Task} → Regrouped floor tail xs ys → some (below floor) xs ≡ some (below floor) ys
+  unfolding some
+  grouped-some Regrouped.none = refl
+  grouped-some (Regrouped.kept e c s) = ap₂ (λ p r. ltb p floor || r) e (grouped-some s)
+  grouped-some (Regrouped.group {x} {y} {us} {vs} {xs} {ys} g h e c s) = run-some x us xs g ∙ grouped-some s ∙ sym (run-some y vs ys h)
+
+  grouped-before : {xs ys : List Task} → Regrouped floor tail xs ys → costOf (before (below floor) xs) ≡ costOf (before (below floor) ys)
+  unfolding before sumOf _when_else_
+  grouped-before Regrouped.none = refl
+  grouped-before (Regrouped.kept {x} {y} {xs} {ys} e c s) =
+      ap (λ p. costOf ([] when ltb p floor else x ∷ before (below floor) xs)) e ∙ go (ltb (y .priority) floor) (grouped-before s)
     where
       go : (b : Bool) → costOf (before (below floor) xs) ≡ costOf (before (below floor) ys) → costOf ([] when b else x ∷ before (below floor) xs) ≡ costOf ([] when b else y ∷ before (below floor) ys)
       go true r = refl
       go false r = ap₂ _+_ c r
-  split-before (Split.two {x} {y} {z} {xs} {ys} a b t f g c s) = rw (high x a, high y b, high z f) (omega (arith, split-before s))
+  grouped-before (Regrouped.group {x} {y} {us} {vs} {xs} {ys} g h e c s) = omega (arith, run-before x us xs g, run-before y vs ys h, c, grouped-before s)
 
   -- the active-segment costs of the segments go by what the stretches cost
   segments-costed : (ts : List Task) → costs (cutSegments floor tail ts) ≡ nonempty (around _++_ (costed ts))
@@ -128,15 +146,16 @@ module _ (floor tail : ℕ) where
       let ps = parts floor tail ts in
       full-costs (around _++_ ps) ∙ ap nonempty (around-map _++_ _++_ (map costOf) (map-append costOf) ps ∙ ap (around _++_) (parts-costed ts))
 
-pub split-actives : (b a c : Row) → SplitTasks b a c → SameActives b a c
-split-actives b a c h = record {
-  kind = h .kind;
-  overload = h .overload;
-  arrivals = h .arrivals;
-  defers = split-some (floorOf b) (tailOf b) (h .tasks);
-  first = split-before (floorOf b) (tailOf b) (h .tasks);
-  costs =
+-- so they have the same active-segment costs, segment by segment, and are as deferred, with the same first-segment cost
+module _ (b a c : Row) (h : RegroupedTasks b a c) where
+  pub grouped-actives : map (map costOf) (cutSegmentsOf a b) ≡ map (map costOf) (cutSegmentsOf c b)
+  grouped-actives =
       segments-costed (floorOf b) (tailOf b) (tasksOf a)
-      ∙ ap (λ l. nonempty (around _++_ l)) (split-costed (floorOf b) (tailOf b) (h .tasks))
-      ∙ sym (segments-costed (floorOf b) (tailOf b) (tasksOf c));
-}
+      ∙ ap (λ l. nonempty (around _++_ l)) (grouped-costed (floorOf b) (tailOf b) (h .tasks))
+      ∙ sym (segments-costed (floorOf b) (tailOf b) (tasksOf c))
+
+  pub grouped-defers : deferred a b ≡ deferred c b
+  grouped-defers = grouped-some (floorOf b) (tailOf b) (h .tasks)
+
+  pub grouped-first : firstCost a b ≡ firstCost c b
+  grouped-first = grouped-before (floorOf b) (tailOf b) (h .tasks)

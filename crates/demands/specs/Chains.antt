@@ -21,14 +21,14 @@ pub record Has (s : List ℕ) (id : ℕ) : Type 0 where
   pub there : findOf (tableOf s) id < tableOf s .count
 
 -- the number of that chain in the table, its row, its record's bytes, and the other chains' rows
-abbrev pub at : List ℕ → ℕ → ℕ
-at s id = findOf (tableOf s) id
+abbrev pub chainNumber : List ℕ → ℕ → ℕ
+chainNumber s id = findOf (tableOf s) id
 
 abbrev pub chainOf : List ℕ → ℕ → Row
-chainOf s id = rowOf (tableOf s) (at s id)
+chainOf s id = rowOf (tableOf s) (chainNumber s id)
 
-abbrev pub bytesOf : List ℕ → ℕ → List ℕ
-bytesOf s id = recordOf s (at s id)
+abbrev pub recordBytes : List ℕ → ℕ → List ℕ
+recordBytes s id = recordOf s (chainNumber s id)
 
 abbrev pub othersOf : List ℕ → ℕ → List Row
-othersOf s id = others (tableOf s) (at s id)
+othersOf s id = others (tableOf s) (chainNumber s id)

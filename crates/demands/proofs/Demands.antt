@@ -1,0 +1,36 @@
+-- The three demands, each closed by one theorem. Assumes nothing.
+use Rattle.demands.specs.Demands.{Demand1, Demand2, Demand3}
+use Rattle.demands.proofs.Entries.{every-entry}
+use Rattle.demands.proofs.Saving.{seen-records}
+use Rattle.demands.proofs.Figures.{counted, latency-means, latency-only}
+use Rattle.demands.proofs.Misses.{misses-mean, answers-right}
+use Rattle.demands.proofs.Parts.{task-records}
+use Rattle.demands.proofs.Others.{same-besides, reordered, ids-deadlines-gaps, regrouped}
+use Rattle.demands.proofs.Saves.{saved-deadline-or-gap}
+use Rattle.demands.proofs.Calls.{same-latency-call, same-misses-call}
+use Rattle.demands.proofs.Witness.{met}
+
+pub demand-1 : Demand1
+demand-1 = record { entries = every-entry; saves = seen-records }
+
+pub demand-2 : Demand2
+demand-2 = record {
+  arrivals = counted;
+  windows = latency-means;
+  only = latency-only;
+  misses = misses-mean;
+  segment = task-records;
+}
+
+pub demand-3 : Demand3
+demand-3 = record {
+  same = same-besides;
+  right = λ h. (answers-right (h .one), answers-right (h .two));
+  order = reordered;
+  names-deadlines-gaps = ids-deadlines-gaps;
+  splits = regrouped;
+  saved = saved-deadline-or-gap;
+  latency-calls = λ h long x y. same-latency-call h long x y;
+  misses-calls = λ h k long x y. same-misses-call h long k x y;
+  witness = met;
+}

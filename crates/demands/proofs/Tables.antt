@@ -1,0 +1,98 @@
+-- The tables of the starred cases and the witness as they are read: their bytes are bytes, and their rows are these. Assumes nothing.
+use Prim.Native.Nat.{ℕ, zero, suc, _<_}
+use mathlib.Core.Path.{_≡_, refl, ap}
+use mathlib.Core.Bool.{Bool, true, false, _&&_}
+use mathlib.Core.List.{List, [], _∷_, map}
+use native.Mathlib.Omega.{arith}
+use lib.Dec.{ltb}
+use lib.ListN.{length, replicate}
+use borrow.Author.Tests.{ltb-true}
+use Rattle.search.specs.Choice.{_when_else_}
+use Rattle.search.specs.Find.{first}
+use Rattle.table.specs.Limits.{maxDistances, maxTasks}
+use Rattle.table.specs.Bytes.{word, Bytes}
+use Rattle.table.specs.Record.{spaced, pad, rowAt}
+use Rattle.table.specs.Find.{findOf}
+use Rattle.table.specs.Fault.{_then_, markOf, headFault, falls, gapShort, listFault, taskFault, tasksFault, chainFault, endFault}
+use Rattle.table.specs.Read.{blank, accepted, unless, start, records, readTable}
+use Rattle.table.specs.declared.Row.{Row}
+use Rattle.table.specs.declared.Table.{Table}
+use Rattle.table.specs.declared.Reading.{Reading}
+use Rattle.demands.specs.Chains.{IsTable}
+use Rattle.demands.specs.Starred.{sample}
+use Rattle.demands.specs.Witness.{altered}
+
+-- a chain of these distances, and of tasks as priority and cost
+abbrev pub chain : ℕ → ℕ → ℕ → ℕ → ℕ → List ℕ → List (ℕ × ℕ) → Row
+chain id kind overload deadline gap ds ts = record {
+  id = id;
+  kind = kind;
+  overload = overload;
+  deadline = deadline;
+  gap = gap;
+  listed = length ds;
+  tasks = length ts;
+  list = pad maxDistances ds;
+  priority = pad maxTasks (map (λ p. p .0) ts);
+  cost = pad maxTasks (map (λ p. p .1) ts);
+}
+
+-- each number is a byte
+pub small : List ℕ → Bool
+small [] = true
+small (a ∷ l) = ltb a 256 && small l
+
+small-bytes : (l : List ℕ) → small l ≡ true → Bytes l
+unfolding small
+small-bytes [] e k = omega arith
+small-bytes (a ∷ l) e zero = ltb-true a 256 (left (ltb a 256) (small l) e)
+  where
+    left : (x y : Bool) → (x && y) ≡ true → x ≡ true
+    left true y e = refl
+    left false y e = e
+small-bytes (a ∷ l) e (suc k) = small-bytes l (right (ltb a 256) (small l) e) k
+  where
+    right : (x y : Bool) → (x && y) ≡ true → y ≡ true
+    right true y e = e
+    right false y e = absurd (let z : _≡_ {A = ℕ} 0 1 = cc in omega arith)
+
+-- the bytes are read as the table
+pub record Reads (s : List ℕ) (t : Table) : Type 0 where
+  pub are : small s ≡ true
+  pub reads : readTable s ≡ accepted t
+
+pub read-table : {s : List ℕ} {t : Table} → Reads s t → IsTable s
+read-table {s} a = record { bytes = small-bytes s (a .are); accepted = ap (λ (r : Reading). r .verdict) (a .reads) }
+
+-- the sample, and the witness beside it
+unfoldable pub sampled : Table
+sampled = record {
+  count = 4;
+  tasks = 7;
+  row =
+      chain 1 0 0 40 100 (100 ∷ []) ((5, 10) ∷ (3, 10) ∷ [])
+      ∷ chain 2 0 0 100 50 (50 ∷ []) ((9, 5) ∷ [])
+      ∷ chain 3 1 1 500 0 (1000 ∷ []) ((8, 6) ∷ (1, 4) ∷ (7, 10) ∷ [])
+      ∷ chain 4 0 1 300 0 (1000 ∷ []) ((6, 12) ∷ [])
+      ∷ replicate 12 blank;
+}
+
+unfoldable pub alteration : Table
+alteration = record {
+  count = 4;
+  tasks = 8;
+  row =
+      chain 4 0 1 300 0 (1000 ∷ []) ((6, 12) ∷ [])
+      ∷ chain 7 1 1 600 2000 (1000 ∷ []) ((8, 3) ∷ (8, 3) ∷ (1, 4) ∷ (7, 10) ∷ [])
+      ∷ chain 1 0 0 40 100 (100 ∷ []) ((5, 10) ∷ (3, 10) ∷ [])
+      ∷ chain 2 0 0 100 50 (50 ∷ []) ((9, 5) ∷ [])
+      ∷ replicate 12 blank;
+}
+
+pub sample-reads : Reads sample sampled
+unfolding small sample sampled readTable records start unless chainFault headFault listFault falls gapShort tasksFault taskFault endFault _then_ markOf word spaced rowAt findOf first _when_else_
+sample-reads = record { are = refl; reads = refl }
+
+pub altered-reads : Reads altered alteration
+unfolding small altered alteration readTable records start unless chainFault headFault listFault falls gapShort tasksFault taskFault endFault _then_ markOf word spaced rowAt findOf first _when_else_
+altered-reads = record { are = refl; reads = refl }

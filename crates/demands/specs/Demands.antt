@@ -1,0 +1,70 @@
+-- What the customer demands: each demand is one record, its fields his sentences in his order, over definitions that stand in the files
+-- imported here. proofs/Demands.antt closes each record by one theorem, `demand-1`, `demand-2`, `demand-3`.
+use Prim.Native.Nat.{ℕ}
+use mathlib.Core.Path.{_≡_}
+use mathlib.Core.List.{List}
+use lib.ListN.{length}
+use Rattle.table.specs.Bytes.{Bytes}
+use Rattle.table.specs.Record.{idAt, distances}
+use Rattle.segments.specs.Query.{segmentOf, partOf}
+use Rattle.segments.specs.declared.Answer.the-variants.{Records}
+use Rattle.windows.specs.Latency.{latencyOf}
+use Rattle.windows.specs.declared.Answer.{Answer as Latency}
+use Rattle.misses.specs.Misses.{missesOf}
+use Rattle.misses.specs.declared.Answer.{Answer as Misses}
+use Rattle.saving.specs.Later.{State, stored, Edit, after}
+use Rattle.editor.specs.Entry.{LatencyEntry, MissesEntry}
+use Rattle.demands.specs.Chains.{Has, chainOf, othersOf}
+use Rattle.demands.specs.Entries.{EveryEntry}
+use Rattle.demands.specs.Saves.{Accepted, SeenRecords}
+use Rattle.demands.specs.Arrivals.{Counted}
+use Rattle.demands.specs.Figures.{Exactly, Means}
+use Rattle.demands.specs.Misses.{full, Says, Right}
+use Rattle.demands.specs.Parts.{activeOf, TaskRecords}
+use Rattle.demands.specs.Others.{Besides, SameBesides, Unmoved, Reordered, SameWork, RegroupedTasks, DeadlineOrGap, SameCall}
+use Rattle.demands.specs.Starred.{sample}
+use Rattle.demands.specs.Witness.{altered}
+
+pub record Demand1 : Type 0 where
+  -- every entry takes every input without help from its caller: it is taken, or gets the one refusal the rules name, and a refused call
+  -- changes no byte it was lent
+  pub entries : EveryEntry
+  -- a save that starts from a record other than the stored one is refused; a record changed away and back counts as the one seen
+  pub saves : SeenRecords
+
+-- every figure equals the published chain analysis as document 01 fixes it
+pub record Demand2 : Type 0 where
+  -- arrivals are those of its rule for δ, and η(t) is the greatest n with δ(n) < t
+  pub arrivals : {s : List ℕ} {id : ℕ} → Has s id → Counted (distances (chainOf s id))
+  -- each window is the least solution of its demand equation up to the horizon, refused exactly when there is none; K, latency, late and
+  -- margin are those of these windows
+  pub windows : {s : List ℕ} {id : ℕ} → Has s id → Means (full (chainOf s id) (othersOf s id)) (distances (chainOf s id)) (chainOf s id .deadline) (latencyOf s id)
+  -- and no other answer is
+  pub only : {s : List ℕ} {id : ℕ} → Has s id → (a : Latency) → Means (full (chainOf s id) (othersOf s id)) (distances (chainOf s id)) (chainOf s id .deadline) a → a ≡ latencyOf s id
+  -- the miss count is the late activations per window times the greatest feasible packing of bad combinations
+  pub misses : {s : List ℕ} {id : ℕ} → Has s id → (k : ℕ) (a : Misses) → Exactly (missesOf s id k ≡ a) (Says (chainOf s id) (othersOf s id) k a)
+  -- an active segment is handed back as the records of its tasks
+  pub segment : (s : List ℕ) → Bytes s → (chain against number : ℕ) {offset len : ℕ} → segmentOf s chain against number ≡ Records offset len
+      → TaskRecords (partOf s (Records offset len)) (chainOf s chain) (activeOf s chain against number)
+
+pub record Demand3 : Type 0 where
+  -- take two accepted tables with the same record for one chain, their other chains paired off one to one. If each pair agrees against
+  -- that chain, then its latency and miss figures and refusals are the same in both, for every run length
+  pub same : {s r : List ℕ} {id : ℕ} → SameBesides s r id → Unmoved s r id
+  -- and are those of demand 2
+  pub right : {s r : List ℕ} {id : ℕ} → SameBesides s r id → Right s id × Right r id
+  -- row order moves nothing, for any id
+  pub order : {s r : List ℕ} → Reordered s r → (id : ℕ) → Unmoved s r id
+  -- nor do other chains' names, deadlines and largest gaps
+  pub names-deadlines-gaps : {s r : List ℕ} {id : ℕ} → Besides SameWork s r id → Unmoved s r id
+  -- nor, where the active-segment costs stay the same, how an active segment is split into tasks
+  pub splits : {s r : List ℕ} {id : ℕ} → Besides (RegroupedTasks (chainOf s id)) s r id → Unmoved s r id
+  -- so an accepted save that changes a record's deadline or gap alone leaves every other id's answers
+  pub saved : (x : State) (e : Edit) → Accepted x e → DeadlineOrGap (e .old) (e .new) → (id : ℕ) → (idAt (e .old) 0 ≡ id → ⊥) → Unmoved (stored x) (stored (after x e)) id
+  -- and two calls of the latency entry, or of the miss entry, with equally long answer buffers, are the same
+  pub latency-calls : {s r : List ℕ} {id : ℕ} → Unmoved s r id → {before before′ : List ℕ} → length before ≡ length before′
+      → {after after′ : List ℕ} {n m : ℕ} → LatencyEntry s id before after n → LatencyEntry r id before′ after′ m → SameCall 4 before after n before′ after′ m
+  pub misses-calls : {s r : List ℕ} {id : ℕ} → Unmoved s r id → (k : ℕ) {before before′ : List ℕ} → length before ≡ length before′
+      → {after after′ : List ℕ} {n m : ℕ} → MissesEntry s id k before after n → MissesEntry r id k before′ after′ m → SameCall 1 before after n before′ after′ m
+  -- two different tables meet the hypothesis, for chains 1, 2 and 4 of the sample
+  pub witness : (sample ≡ altered → ⊥) × SameBesides sample altered 1 × SameBesides sample altered 2 × SameBesides sample altered 4
