@@ -13,10 +13,10 @@
 #include <stdlib.h>
 #include <string.h>
 
-enum { LATENCY, MISSES, SEGMENT, SAVE, ENTRIES };
-enum { LONGEST_RECORD = 4096, ANSWER_ROOM = 32, NUMBERS = 28 };
+enum { LATENCY, MISSES, SEGMENT, SAVE, REPORT, ENTRIES };
+enum { LONGEST_RECORD = 4096, ANSWER_ROOM = 32, TEXT_ROOM = MISHTODRAN_LONGEST_REPORT + 32, NUMBERS = 28 };
 
-static const char *const entry_name[] = {"latency", "misses", "segment", "save"};
+static const char *const entry_name[] = {"latency", "misses", "segment", "save", "report"};
 static const size_t answer_bytes[] = {16, 4, 8, 4};
 
 /* How often each entry has returned each number. */
@@ -419,6 +419,56 @@ static void save_somehow(struct source *source, const struct generated *table, c
     save(&buffer, &new, &old, answer_len); /* back again */
 }
 
+/* ---- Reports ---- */
+
+struct told {
+    struct outcome outcome;
+    uint8_t text[TEXT_ROOM]; /* the lent buffer and what follows it */
+};
+
+static void stop_at_report(const struct generated *table, const struct told *proved, const struct told *plain,
+                           size_t text_len, size_t answer_len)
+{
+    printf("difference in report, or the table was written to; %zu bytes for the text, %zu for the answer\n", text_len,
+           answer_len);
+    printf("family: %s %s\n", table->family, table->damage);
+    print_hex("table", table->bytes, table->length);
+    print_outcome("mishtodran", &proved->outcome);
+    print_hex("its text and beyond", proved->text, TEXT_ROOM);
+    print_outcome("plain", &plain->outcome);
+    print_hex("its text and beyond", plain->text, TEXT_ROOM);
+    exit(1);
+}
+
+/* The text of both, and its length; 0 where it is refused. */
+static size_t report(const struct generated *table, size_t text_len, size_t answer_len)
+{
+    static struct generated lent;
+    struct told proved = {.outcome = nothing_yet()};
+    for (unsigned i = 0; i < TEXT_ROOM; i++)
+        proved.text[i] = (uint8_t)(0x21 + 3 * i);
+    struct told plain = proved;
+    lent = *table;
+    proved.outcome.returned =
+        mishtodran_report(lent.bytes, lent.length, proved.text, text_len, proved.outcome.answer, answer_len);
+    plain.outcome.returned =
+        plain_report(table->bytes, table->length, plain.text, text_len, plain.outcome.answer, answer_len);
+    if (!same(&proved.outcome, &plain.outcome) || memcmp(proved.text, plain.text, TEXT_ROOM) != 0 ||
+        memcmp(lent.bytes, table->bytes, sizeof lent.bytes) != 0)
+        stop_at_report(table, &proved, &plain, text_len, answer_len);
+    note(REPORT, plain.outcome.returned);
+    return plain.outcome.returned ? 0 : plain.outcome.answer[0] | (size_t)plain.outcome.answer[1] << 8;
+}
+
+/* Into a buffer of the longest text, of this one's length, and of one byte less; an answer too short comes before that. */
+static void ask_reports(struct source *source, const struct generated *table)
+{
+    size_t length = report(table, MISHTODRAN_LONGEST_REPORT, 4);
+    report(table, length, draw(source, 4, ANSWER_ROOM));
+    report(table, draw(source, 0, 3) ? length - 1 : draw(source, 0, length - 1), 4);
+    report(table, length - draw(source, 0, 1), draw(source, 0, 3));
+}
+
 /* ---- All tables ---- */
 
 static void compare_table(struct source *source, const struct generated *table)
@@ -429,6 +479,7 @@ static void compare_table(struct source *source, const struct generated *table)
     ask_oddly(source, table, &places);
     for (unsigned i = 0; i < 12; i++)
         save_somehow(source, table, &places);
+    ask_reports(source, table);
 }
 
 /* The first chain alone, and once. */
