@@ -191,17 +191,20 @@ static void ask_oddly(struct source *source, const struct generated *table, cons
     const uint32_t ids[] = {0, known, known + 65536, known ^ 1, 65535, UINT32_MAX};
     for (unsigned i = 0; i < 6; i++) {
         ask_whole(table, LATENCY, ids[i], 0, 0);
-        ask_whole(table, MISSES, ids[i], 1001, 0);
+        ask_whole(table, MISSES, ids[i], one_in(source, 2) ? 0 : 1001, 0);
         ask_whole(table, MISSES, ids[i], 1u << 16 | 10, 0);
-        ask_whole(table, SEGMENT, known, ids[i], 1);
-        ask_whole(table, SEGMENT, ids[i], known, 0);
+        ask_whole(table, SEGMENT, known, ids[i], (uint32_t)draw(source, 0, 1) * 99);
+        ask_whole(table, SEGMENT, ids[i], known, (uint32_t)draw(source, 0, 1) * 99);
         ask_whole(table, SEGMENT, ids[i], ids[draw(source, 0, 5)], 1);
+        ask_whole(table, SEGMENT, ids[i], ids[i], (uint32_t)draw(source, 0, 2));
     }
     for (unsigned entry = LATENCY; entry <= SEGMENT; entry++) {
         size_t whole = answer_bytes[entry];
         const size_t lengths[] = {0, whole - 1, whole + 1, ANSWER_ROOM};
-        for (unsigned i = 0; i < 4; i++)
+        for (unsigned i = 0; i < 4; i++) {
             ask(table, (struct query){entry, {known, 10, 1}, lengths[i]});
+            ask(table, (struct query){entry, {ids[draw(source, 0, 5)], 0, 0}, lengths[i]});
+        }
     }
 }
 
@@ -339,6 +342,38 @@ static void change_record(struct source *source, struct record *record)
     }
 }
 
+/* A new record that is longer than the stored one, of another id or without a chain's mark, or of which the result is
+   refused. */
+static void spoil_record(struct source *source, struct record *record)
+{
+    resize_record(source, record);
+    switch (draw(source, 0, 7)) {
+    case 0:
+        record->bytes[2 + draw(source, 0, 1)] ^= (uint8_t)draw(source, 1, 255);
+        break;
+    case 1:
+        record->bytes[draw(source, 0, 1)] ^= 1;
+        break;
+    case 2:
+        record->bytes[4 + draw(source, 0, 1)] = 2;
+        break;
+    case 3:
+        put32(record->bytes + 6, 0);
+        break;
+    case 4:
+        put32(record->bytes + 10, UINT32_MAX);
+        break;
+    case 5:
+        put32(record->bytes + 16, UINT32_MAX); /* a distance, a task's mark and priority, or a cost */
+        break;
+    case 6:
+        record->bytes[record->length - 8] ^= 1;
+        break;
+    default:
+        put32(record->bytes + record->length - 4, 0);
+    }
+}
+
 /* The old record as an editor could offer it. */
 static void make_stale(struct source *source, struct record *record)
 {
@@ -408,7 +443,10 @@ static void save_somehow(struct source *source, const struct generated *table, c
     static struct buffer buffer;
     struct record old = stored_record(source, table, places);
     struct record new = old;
-    change_record(source, &new);
+    if (one_in(source, 4))
+        spoil_record(source, &new);
+    else
+        change_record(source, &new);
     if (one_in(source, 6))
         make_stale(source, &old);
     fill_buffer(source, &buffer, table, table->length - old.length + new.length);
