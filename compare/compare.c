@@ -498,7 +498,7 @@ static size_t report(const struct generated *table, size_t text_len, size_t answ
     return plain.outcome.returned ? 0 : plain.outcome.answer[0] | (size_t)plain.outcome.answer[1] << 8;
 }
 
-/* Into a buffer of the longest text, of this one's length, and of one byte less; an answer too short comes before that. */
+/* Into a buffer of the longest text, of this one's length, and of less; an answer too short comes before that. */
 static void ask_reports(struct source *source, const struct generated *table)
 {
     size_t length = report(table, MISHTODRAN_LONGEST_REPORT, 4);

@@ -822,15 +822,19 @@ static void spoil_task(struct source *source, uint8_t *task)
         put(task + 4, one_in(source, 2) ? 0 : DEAREST + 1, 4);
 }
 
-/* Makes the value wrong that is looked at in this step. */
-static void spoil_value(struct source *source, struct generated *table, const struct layout *record, unsigned step)
+/* The mark after a task, or the count after the last one. */
+static void spoil_next(struct source *source, uint8_t *mark)
 {
-    static const char *const marks[] = {"TK", "XX", "Ch"}, *const task_marks[] = {"CH", "EN", "XK", "TX"};
-    uint8_t *bytes = table->bytes + record->at, *task = table->bytes + record->task;
+    if (mark[0] == 'E' && one_in(source, 2))
+        put(mark + 2, 0, 2);
+    else
+        put_mark(mark, "XX");
+}
+
+static void spoil_fixed_part(struct source *source, struct generated *table, const struct layout *record, unsigned step)
+{
+    uint8_t *bytes = table->bytes + record->at;
     switch (step) {
-    case MARK:
-        put_mark(bytes, marks[draw(source, 0, 2)]);
-        break;
     case ID:
         put(bytes + 2, record->at > 0 && one_in(source, 2) ? get(table->bytes + 2, 2) : 0, 2);
         break;
@@ -846,8 +850,19 @@ static void spoil_value(struct source *source, struct generated *table, const st
     case LIST_LENGTH:
         bytes[14] = (uint8_t)(one_in(source, 2) ? 0 : draw(source, 9, 255));
         break;
-    case TASK_COUNT:
+    default:
         bytes[15] = wrong_task_count(source, record->tasks_before);
+    }
+}
+
+/* Makes the value wrong that is looked at in this step. */
+static void spoil_value(struct source *source, struct generated *table, const struct layout *record, unsigned step)
+{
+    static const char *const marks[] = {"TK", "XX", "Ch"}, *const task_marks[] = {"CH", "EN", "XK", "TX"};
+    uint8_t *task = table->bytes + record->task;
+    switch (step) {
+    case MARK:
+        put_mark(table->bytes + record->at, marks[draw(source, 0, 2)]);
         break;
     case LIST:
         spoil_list(source, table, record);
@@ -858,16 +873,19 @@ static void spoil_value(struct source *source, struct generated *table, const st
     case TASK:
         spoil_task(source, task);
         break;
+    case NEXT_MARK:
+        spoil_next(source, task + 8);
+        break;
     default:
-        put_mark(task + 8, "XX");
+        spoil_fixed_part(source, table, record, step);
     }
 }
 
 static void spoil(struct source *source, struct generated *table, const struct layout *record, unsigned step)
 {
-    bool there = step == MARK_THERE || step == FIXED_PART_THERE || step == LIST_THERE || step == TASK_MARK_THERE ||
-                 step == TASK_THERE || step == NEXT_THERE;
-    if (there)
+    static const bool there[STEPS] = {[MARK_THERE] = true,      [FIXED_PART_THERE] = true, [LIST_THERE] = true,
+                                      [TASK_MARK_THERE] = true, [TASK_THERE] = true,       [NEXT_THERE] = true};
+    if (there[step])
         table->length = end_before(source, record, step);
     else
         spoil_value(source, table, record, step);
@@ -893,12 +911,10 @@ static void spoil_chains(struct source *source, struct generated *table, unsigne
     struct layout record = layout_of(source, table, place);
     unsigned first = (unsigned)draw(source, 0, chains == 17 ? FIXED_PART_THERE : STEPS - 2);
     unsigned second = first + (unsigned)draw(source, 1, first + 2 < STEPS ? 2 : 1);
-    if (place + 1 < chains && one_in(source, 5)) {
-        struct layout next = layout_of(source, table, place + 1);
-        put(table->bytes + next.at + 2, 0, 2);
-    } else {
+    if (place + 1 < chains && one_in(source, 5))
+        put(table->bytes + record_at(table, place + 1) + 2, 0, 2); /* the next id */
+    else
         spoil(source, table, &record, second);
-    }
     spoil(source, table, &record, first);
 }
 

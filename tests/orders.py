@@ -9,6 +9,8 @@ Never both: a mark that is not whole and its value (2, 3; here one byte that beg
 chain record accepted so far ends past byte 1,280), 16 and 17 of one window, no late activation and 20 (windows without
 overload are never longer), 4, 2 or 11 in the result of a save (the new record is whole and has the id of the old one), 24
 and a new record under 16 bytes (the result is shorter than the table).
+
+Run as a program it lists the pairs.
 """
 from collections import namedtuple
 
@@ -33,6 +35,7 @@ def record(id=2, kind=0, overload=0, deadline=40, gap=100, distances=(100,), tas
 
 GOOD = record(id=1)
 SIXTEEN = b"".join(record(id=i + 1, tasks=[(5, 10)]) for i in range(16))
+SEVENTEENTH = record(id=17) + end(17)
 FIFTEEN = SIXTEEN[:len(SIXTEEN) // 16 * 15]
 SIXTY_FOUR = b"".join(record(id=i + 11, tasks=[(5, 10)] * 16) for i in range(4))
 
@@ -137,14 +140,16 @@ def tasks():
     ]
     for what, bad in BAD_TASKS:
         two, whole = [bad, (3, 10)], FIRST_TASK + TASK
+        last = GOOD[:-TASK] + record(tasks=[bad])[-TASK:]
         pairs += [
             Pair(10, 2, f"task 1 has {what}, task 2 is missing", cut(whole, tasks=two), cut(whole)),
             Pair(10, 2, f"task 1 has {what}, task 2 is cut", cut(whole + 4, tasks=two), cut(whole + 4)),
             Pair(10, 3, f"task 1 has {what}, task 2 another mark", marked(b"XX", 1, tasks=two), marked(b"XX", 1)),
-            Pair(10, 2, f"the last task has {what}, nothing follows", GOOD[:-TASK] + record(tasks=[bad])[-TASK:], GOOD),
-            Pair(10, 3, f"the last task has {what}, an unknown mark", GOOD[:-TASK] + record(tasks=[bad])[-TASK:] + b"XX", GOOD + b"XX"),
-            Pair(10, 11, f"the last task has {what}, a wrong end count", GOOD + record(tasks=[bad]) + end(3), GOOD + record() + end(3)),
-            Pair(10, 4, f"task 1 has {what}, id 0 in the next chain", stored(record(tasks=two), record(id=0)), stored(record(), record(id=0))),
+            Pair(10, 2, f"the last task has {what}, nothing follows", last, GOOD),
+            Pair(10, 3, f"the last task has {what}, an unknown mark", last + b"XX", GOOD + b"XX"),
+            Pair(10, 11, f"the last task has {what}, a wrong end count", last + end(2), GOOD + end(2)),
+            Pair(10, 4, f"task 1 has {what}, id 0 in the next chain", stored(record(tasks=two), record(id=0)),
+                 stored(record(), record(id=0))),
         ]
     return pairs
 
@@ -162,7 +167,7 @@ def marks():
         Pair(3, 4, "an unknown mark, id 0", GOOD + b"XX" + record(id=0)[2:] + end(2), second(id=0)),
         Pair(3, 11, "an unknown mark, no chain", b"XX\0\0", b"EN\0\0"),
         Pair(3, 11, "16 chains, then an unknown mark", SIXTEEN + b"XX", SIXTEEN + b"CH"),
-        Pair(3, 11, "16 chains, then TK", SIXTEEN + b"TK" + record()[2:] + end(17), SIXTEEN + record(id=17) + end(17)),
+        Pair(3, 11, "16 chains, then TK", SIXTEEN + b"TK" + record()[2:] + end(17), SIXTEEN + SEVENTEENTH),
         Pair(2, 11, "16 chains, then nothing", SIXTEEN, SIXTEEN + b"CH"),
         Pair(2, 11, "16 chains, then C", SIXTEEN + b"C", SIXTEEN + b"CH"),
         Pair(11, 2, "a 17th chain, its mark alone", SIXTEEN + b"CH", FIFTEEN + b"CH"),
@@ -170,13 +175,13 @@ def marks():
         Pair(11, 2, "a 17th chain, cut in its tasks", SIXTEEN + record(id=17)[:-1], FIFTEEN + record(id=17)[:-1]),
         Pair(11, 4, "a 17th chain, id 0", SIXTEEN + record(id=0) + end(17), FIFTEEN + record(id=0) + end(16)),
         Pair(11, 5, "a 17th chain, kind 2", SIXTEEN + record(id=17, kind=2) + end(17), FIFTEEN + record(id=17, kind=2) + end(16)),
-        Pair(10, 11, "a priority 0 in the 16th chain, a 17th", FIFTEEN + record(id=16, tasks=[(0, 1)]) + record(id=17) + end(17),
-             SIXTEEN + record(id=17) + end(17)),
+        Pair(10, 11, "a priority 0 in the 16th chain, a 17th", FIFTEEN + record(id=16, tasks=[(0, 1)]) + SEVENTEENTH,
+             SIXTEEN + SEVENTEENTH),
     ]
 
 
-# A chain with each fault that decides late in its record, and what the next one may have.
 def records():
+    """A fault of one chain, and one of the next that is looked at earlier in a chain."""
     return [Pair(a, b, f"{one} in a chain, {other} in the next", stored(GOOD, record(**first), record(**{"id": 3, **later})),
                  stored(GOOD, record(), record(**{"id": 3, **later})))
             for a, one, first in FIXED[1:] + [(8, what, fields) for what, fields in LISTS]
@@ -200,7 +205,8 @@ def lengths():
     """A length of 0 or above 1,284, and what the bytes there have."""
     faults = [(3, "an unknown mark", b"XX"), (11, "bytes after the end", stored(GOOD)), (11, "no chain", b"EN\0\0")]
     faults += [(a, one, second(**first)) for a, one, first in FIXED]
-    faults += [(8, what, second(**fields)) for what, fields in LISTS] + [(10, what, second(tasks=[bad])) for what, bad in BAD_TASKS]
+    faults += [(8, what, second(**fields)) for what, fields in LISTS]
+    faults += [(10, what, second(tasks=[bad])) for what, bad in BAD_TASKS]
     return [Pair(1, 2, "no byte", b"", b"C")] + [
         Pair(1, a, f"1,285 bytes, {what}", padded(made, LONGEST + 1), padded(made, LONGEST)) for a, what, made in faults]
 
@@ -337,32 +343,43 @@ UNREADABLE = [
 ]
 
 
-def roomy(made):
-    return made + b"\xaa" * 200
+def tight(made, old, new):
+    """A save into a buffer that the table just fits."""
+    return made, len(made), old, new
+
+
+def roomy(made, old, new):
+    return made + b"\xaa" * 200, len(made), old, new
+
+
+def above(made, old, new):
+    """A used length above the buffer."""
+    return made, len(made) + 1, old, new
 
 
 def saves():
-    pairs = [Pair(a, 22, "the table, no such record", (roomy(made), len(made), STALE, record()), (roomy(TWO), len(TWO), STALE, record()))
+    first, longer = FULL[:80], record(tasks=LONGER)
+    pairs = [Pair(a, 22, "the table, no such record", roomy(made, STALE, record()), roomy(TWO, STALE, record()))
              for a, made in REFUSED.items()]
-    pairs += [Pair(1, a, "used above the buffer, the table", (made, len(made) + 1, STALE, record()), (made, len(made), STALE, record()))
+    pairs += [Pair(1, a, "used above the buffer, the table", above(made, STALE, record()), tight(made, STALE, record()))
               for a, made in REFUSED.items() if a != 1]
     pairs += [
-        Pair(1, 22, "used above the buffer, no such record", (TWO, len(TWO) + 1, STALE, record()), (TWO, len(TWO), STALE, record())),
-        Pair(22, 24, "no such record, no room", (TWO, len(TWO), STALE, record(tasks=LONGER)), (TWO, len(TWO), record(), record(tasks=LONGER))),
-        Pair(24, 1, "no room, 1,288 bytes", (FULL, len(FULL), FULL[:80], NINE), (roomy(FULL), len(FULL), FULL[:80], NINE)),
-        Pair(1, 8, "1,288 bytes, list length 9", (roomy(FULL), len(FULL), FULL[:80], NINE), (roomy(TWO), len(TWO), GOOD, NINE)),
-        Pair(23, 1, "another id, 1,288 bytes", (roomy(FULL), len(FULL), FULL[80:160], NINE), (roomy(FULL), len(FULL), FULL[:80], NINE)),
+        Pair(1, 22, "used above the buffer, no such record", above(TWO, STALE, record()), tight(TWO, STALE, record())),
+        Pair(22, 24, "no such record, no room", tight(TWO, STALE, longer), tight(TWO, record(), longer)),
+        Pair(24, 1, "no room, 1,288 bytes", tight(FULL, first, NINE), roomy(FULL, first, NINE)),
+        Pair(1, 8, "1,288 bytes, list length 9", roomy(FULL, first, NINE), roomy(TWO, GOOD, NINE)),
+        Pair(23, 1, "another id, 1,288 bytes", roomy(FULL, FULL[80:160], NINE), roomy(FULL, first, NINE)),
     ]
-    pairs += [Pair(22, 23, f"no such record, {what}", (roomy(TWO), len(TWO), STALE, new), (roomy(TWO), len(TWO), record(), new))
+    pairs += [Pair(22, 23, f"no such record, {what}", roomy(TWO, STALE, new), roomy(TWO, record(), new))
               for what, new in FORMLESS]
-    pairs += [Pair(23, 24, f"{what}, no room", (TWO, len(TWO), record(), new), (TWO, len(TWO), record(), record(tasks=LONGER)))
+    pairs += [Pair(23, 24, f"{what}, no room", tight(TWO, record(), new), tight(TWO, record(), longer))
               for what, new in LONGER_FORMLESS]
     for a, what, new in UNREADABLE:
-        accepted = (roomy(TWO), len(TWO), record(), new)
+        alone = roomy(TWO, record(), new)
         pairs += [
-            Pair(24, a, f"no room, {what}", (TWO, len(TWO), record(), new), accepted),
-            Pair(23, a, f"another id, {what}", (roomy(TWO), len(TWO), GOOD, new), accepted),
-            Pair(22, a, f"no such record, {what}", (roomy(TWO), len(TWO), STALE, new), accepted),
+            Pair(24, a, f"no room, {what}", tight(TWO, record(), new), alone),
+            Pair(23, a, f"another id, {what}", roomy(TWO, GOOD, new), alone),
+            Pair(22, a, f"no such record, {what}", roomy(TWO, STALE, new), alone),
         ]
     return pairs
 
@@ -392,3 +409,8 @@ def calls(pairs):
             if found.setdefault(call, (label, number))[1] != number:
                 raise SystemExit(f"{label}: another case expects {found[call]}")
     return [(label, call, number) for call, (label, number) in found.items()]
+
+
+if __name__ == "__main__":
+    for orders, pairs in (("table", READING), ("latency", LATENCY), ("misses", MISSES), ("segment", SEGMENT), ("save", SAVE)):
+        print(*(f"{orders}: {pair.first} before {pair.second}: {pair.what}" for pair in pairs), sep="\n")

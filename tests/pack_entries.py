@@ -78,7 +78,8 @@ def of_file(name, turn, case):
     entry, numbers = entry_of(case)
     table = bytes_of(case, "buffer" if entry == "save" else "table")
     return [packed(entry, name, numbers, case["rc"], table, bytes_of(case, "answer"), bytes_of(case, "after"),
-                   old=bytes_of(case, "old") or b"", new=bytes_of(case, "new") or b"", table_after=bytes_of(case, "buffer_after"))]
+                   old=bytes_of(case, "old") or b"", new=bytes_of(case, "new") or b"",
+                   table_after=bytes_of(case, "buffer_after"))]
 
 
 def accepted_report(name, table, told, text, answer):
