@@ -886,24 +886,25 @@ uint32_t plain_save(uint8_t *buffer, size_t buffer_len, uint64_t used, const uin
 
 /* ---- The report ---- */
 
-/* Text that keeps counting where its room has ended. */
+enum { LONGEST_LINE = 128 };
+
 struct text {
-    char *out;
-    size_t room, length;
+    char words[(1 + MOST_CHAINS) * LONGEST_LINE];
+    size_t length;
 };
 
-static void say(struct text *text, const char *words)
+static void say(struct text *text, const char *line)
 {
-    for (; *words; words++, text->length++)
-        if (text->length < text->room)
-            text->out[text->length] = *words;
+    size_t length = strlen(line);
+    memcpy(text->words + text->length, line, length);
+    text->length += length;
 }
 
 static void report_chain(struct text *text, const struct table *table, uint32_t id)
 {
     const struct chain *b;
     struct figures figures;
-    char line[128];
+    char line[LONGEST_LINE];
     uint32_t refusal = latency_of(table, id, &b, &figures);
     if (refusal) {
         snprintf(line, sizeof line, "%" PRIu32 " r%" PRIu32 "\n", id, refusal);
@@ -918,19 +919,32 @@ static void report_chain(struct text *text, const struct table *table, uint32_t 
     say(text, line);
 }
 
-size_t plain_report(const uint8_t *table, size_t table_len, char *out, size_t out_len)
+static void report_table(struct text *text, const uint8_t *table, size_t table_len)
 {
-    struct text text = {out, out_len, 0};
     struct table read;
     uint32_t refusal = read_table(table, table_len, &read);
     if (refusal) {
-        char line[32];
+        char line[LONGEST_LINE];
         snprintf(line, sizeof line, "refused %" PRIu32 "\n", refusal);
-        say(&text, line);
-        return text.length;
+        say(text, line);
+        return;
     }
-    say(&text, "chain K latency late margin miss10\n");
+    say(text, "chain K latency late margin miss10\n");
     for (unsigned i = 0; i < read.chains; i++)
-        report_chain(&text, &read, read.chain[i].id);
-    return text.length;
+        report_chain(text, &read, read.chain[i].id);
+}
+
+uint32_t plain_report(const uint8_t *table, size_t table_len, uint8_t *text, size_t text_len, uint8_t *answer,
+                      size_t answer_len)
+{
+    struct text report;
+    if (answer_len < 4)
+        return 27;
+    report.length = 0;
+    report_table(&report, table, table_len);
+    if (report.length > text_len)
+        return 24;
+    memcpy(text, report.words, report.length);
+    put32(answer, (uint32_t)report.length);
+    return 0;
 }

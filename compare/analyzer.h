@@ -6,7 +6,7 @@
 #include <stddef.h>
 #include <stdint.h>
 
-/* The four entries of mishtodran.h under other names: 0, or the refusal number. */
+/* The entries of mishtodran.h under other names: 0, or the refusal number. */
 uint32_t plain_latency(const uint8_t *table, size_t table_len, uint32_t id, uint8_t *answer, size_t answer_len);
 uint32_t plain_misses(const uint8_t *table, size_t table_len, uint32_t id, uint32_t k, uint8_t *answer,
                       size_t answer_len);
@@ -14,9 +14,7 @@ uint32_t plain_segment(const uint8_t *table, size_t table_len, uint32_t chain, u
                        uint8_t *answer, size_t answer_len);
 uint32_t plain_save(uint8_t *buffer, size_t buffer_len, uint64_t used, const uint8_t *old_record, size_t old_len,
                     const uint8_t *new_record, size_t new_len, uint8_t *answer, size_t answer_len);
-
-/* The report of a table: its whole length is returned, and as much of it as has room is written.
-   1,284 bytes of table never need more than 1,024 bytes of text. */
-size_t plain_report(const uint8_t *table, size_t table_len, char *out, size_t out_len);
+uint32_t plain_report(const uint8_t *table, size_t table_len, uint8_t *text, size_t text_len, uint8_t *answer,
+                      size_t answer_len);
 
 #endif

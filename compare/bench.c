@@ -14,11 +14,9 @@
 #include <string.h>
 #include <time.h>
 
-/* The report's text as the library has it, in libreport_entry.a: its length. */
-size_t mishtodran_report(const uint8_t *table, size_t table_len, uint8_t *out);
-
 enum { LATENCY, MISSES, SEGMENT, SAVE, REPORT };
-enum { MOST_CALLS = 512, MOST_TABLES = 32, ROUNDS = 5, ROOM = 1123 }; /* ROOM: of an answer, and the longest report */
+enum { MOST_CALLS = 512, MOST_TABLES = 32, ROUNDS = 5 };
+enum { ROOM = 16 + MISHTODRAN_LONGEST_REPORT }; /* of an answer, and of a report's text after it */
 
 static const double LEAST_SECONDS = 0.05; /* of one run */
 
@@ -46,17 +44,12 @@ struct side {
     uint32_t (*misses)(const uint8_t *, size_t, uint32_t, uint32_t, uint8_t *, size_t);
     uint32_t (*segment)(const uint8_t *, size_t, uint32_t, uint32_t, uint32_t, uint8_t *, size_t);
     uint32_t (*save)(uint8_t *, size_t, uint64_t, const uint8_t *, size_t, const uint8_t *, size_t, uint8_t *, size_t);
-    size_t (*report)(const uint8_t *, size_t, uint8_t *);
+    uint32_t (*report)(const uint8_t *, size_t, uint8_t *, size_t, uint8_t *, size_t);
 };
-
-static size_t plain_report_text(const uint8_t *table, size_t table_len, uint8_t *out)
-{
-    return plain_report(table, table_len, (char *)out, ROOM);
-}
 
 static const struct side proved = {mishtodran_latency, mishtodran_misses, mishtodran_segment, mishtodran_save,
                                    mishtodran_report};
-static const struct side plain = {plain_latency, plain_misses, plain_segment, plain_save, plain_report_text};
+static const struct side plain = {plain_latency, plain_misses, plain_segment, plain_save, plain_report};
 
 /* The deadline of a table's first chain becomes another, and then what it was. */
 static uint32_t save_and_back(const struct side *side, const struct call *call, uint8_t *answer)
@@ -83,7 +76,7 @@ static uint32_t run_call(const struct side *side, const struct call *call, uint8
     case SEGMENT:
         return side->segment(bytes, length, call->number[0], call->number[1], call->number[2], answer, 8);
     case REPORT:
-        return (uint32_t)side->report(bytes, length, answer);
+        return side->report(bytes, length, answer + 16, MISHTODRAN_LONGEST_REPORT, answer, 4);
     default:
         return save_and_back(side, call, answer);
     }

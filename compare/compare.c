@@ -13,10 +13,10 @@
 #include <stdlib.h>
 #include <string.h>
 
-enum { LATENCY, MISSES, SEGMENT, SAVE, ENTRIES };
-enum { LONGEST_RECORD = 4096, ANSWER_ROOM = 32, NUMBERS = 28 };
+enum { LATENCY, MISSES, SEGMENT, SAVE, REPORT, ENTRIES };
+enum { LONGEST_RECORD = 4096, ANSWER_ROOM = 32, TEXT_ROOM = MISHTODRAN_LONGEST_REPORT + 32, NUMBERS = 28 };
 
-static const char *const entry_name[] = {"latency", "misses", "segment", "save"};
+static const char *const entry_name[] = {"latency", "misses", "segment", "save", "report"};
 static const size_t answer_bytes[] = {16, 4, 8, 4};
 
 /* How often each entry has returned each number. */
@@ -191,17 +191,20 @@ static void ask_oddly(struct source *source, const struct generated *table, cons
     const uint32_t ids[] = {0, known, known + 65536, known ^ 1, 65535, UINT32_MAX};
     for (unsigned i = 0; i < 6; i++) {
         ask_whole(table, LATENCY, ids[i], 0, 0);
-        ask_whole(table, MISSES, ids[i], 1001, 0);
+        ask_whole(table, MISSES, ids[i], one_in(source, 2) ? 0 : 1001, 0);
         ask_whole(table, MISSES, ids[i], 1u << 16 | 10, 0);
-        ask_whole(table, SEGMENT, known, ids[i], 1);
-        ask_whole(table, SEGMENT, ids[i], known, 0);
+        ask_whole(table, SEGMENT, known, ids[i], (uint32_t)draw(source, 0, 1) * 99);
+        ask_whole(table, SEGMENT, ids[i], known, (uint32_t)draw(source, 0, 1) * 99);
         ask_whole(table, SEGMENT, ids[i], ids[draw(source, 0, 5)], 1);
+        ask_whole(table, SEGMENT, ids[i], ids[i], (uint32_t)draw(source, 0, 2));
     }
     for (unsigned entry = LATENCY; entry <= SEGMENT; entry++) {
         size_t whole = answer_bytes[entry];
         const size_t lengths[] = {0, whole - 1, whole + 1, ANSWER_ROOM};
-        for (unsigned i = 0; i < 4; i++)
+        for (unsigned i = 0; i < 4; i++) {
             ask(table, (struct query){entry, {known, 10, 1}, lengths[i]});
+            ask(table, (struct query){entry, {ids[draw(source, 0, 5)], 0, 0}, lengths[i]});
+        }
     }
 }
 
@@ -339,6 +342,38 @@ static void change_record(struct source *source, struct record *record)
     }
 }
 
+/* A new record that is longer than the stored one, of another id or without a chain's mark, or of which the result is
+   refused. */
+static void spoil_record(struct source *source, struct record *record)
+{
+    resize_record(source, record);
+    switch (draw(source, 0, 7)) {
+    case 0:
+        record->bytes[2 + draw(source, 0, 1)] ^= (uint8_t)draw(source, 1, 255);
+        break;
+    case 1:
+        record->bytes[draw(source, 0, 1)] ^= 1;
+        break;
+    case 2:
+        record->bytes[4 + draw(source, 0, 1)] = 2;
+        break;
+    case 3:
+        put32(record->bytes + 6, 0);
+        break;
+    case 4:
+        put32(record->bytes + 10, UINT32_MAX);
+        break;
+    case 5:
+        put32(record->bytes + 16, UINT32_MAX); /* a distance, a task's mark and priority, or a cost */
+        break;
+    case 6:
+        record->bytes[record->length - 8] ^= 1;
+        break;
+    default:
+        put32(record->bytes + record->length - 4, 0);
+    }
+}
+
 /* The old record as an editor could offer it. */
 static void make_stale(struct source *source, struct record *record)
 {
@@ -408,7 +443,10 @@ static void save_somehow(struct source *source, const struct generated *table, c
     static struct buffer buffer;
     struct record old = stored_record(source, table, places);
     struct record new = old;
-    change_record(source, &new);
+    if (one_in(source, 4))
+        spoil_record(source, &new);
+    else
+        change_record(source, &new);
     if (one_in(source, 6))
         make_stale(source, &old);
     fill_buffer(source, &buffer, table, table->length - old.length + new.length);
@@ -417,6 +455,56 @@ static void save_somehow(struct source *source, const struct generated *table, c
         return;
     save(&buffer, &old, &new, answer_len); /* stale now, unless nothing changed */
     save(&buffer, &new, &old, answer_len); /* back again */
+}
+
+/* ---- Reports ---- */
+
+struct told {
+    struct outcome outcome;
+    uint8_t text[TEXT_ROOM]; /* the lent buffer and what follows it */
+};
+
+static void stop_at_report(const struct generated *table, const struct told *proved, const struct told *plain,
+                           size_t text_len, size_t answer_len)
+{
+    printf("difference in report, or the table was written to; %zu bytes for the text, %zu for the answer\n", text_len,
+           answer_len);
+    printf("family: %s %s\n", table->family, table->damage);
+    print_hex("table", table->bytes, table->length);
+    print_outcome("mishtodran", &proved->outcome);
+    print_hex("its text and beyond", proved->text, TEXT_ROOM);
+    print_outcome("plain", &plain->outcome);
+    print_hex("its text and beyond", plain->text, TEXT_ROOM);
+    exit(1);
+}
+
+/* The text of both, and its length; 0 where it is refused. */
+static size_t report(const struct generated *table, size_t text_len, size_t answer_len)
+{
+    static struct generated lent;
+    struct told proved = {.outcome = nothing_yet()};
+    for (unsigned i = 0; i < TEXT_ROOM; i++)
+        proved.text[i] = (uint8_t)(0x21 + 3 * i);
+    struct told plain = proved;
+    lent = *table;
+    proved.outcome.returned =
+        mishtodran_report(lent.bytes, lent.length, proved.text, text_len, proved.outcome.answer, answer_len);
+    plain.outcome.returned =
+        plain_report(table->bytes, table->length, plain.text, text_len, plain.outcome.answer, answer_len);
+    if (!same(&proved.outcome, &plain.outcome) || memcmp(proved.text, plain.text, TEXT_ROOM) != 0 ||
+        memcmp(lent.bytes, table->bytes, sizeof lent.bytes) != 0)
+        stop_at_report(table, &proved, &plain, text_len, answer_len);
+    note(REPORT, plain.outcome.returned);
+    return plain.outcome.returned ? 0 : plain.outcome.answer[0] | (size_t)plain.outcome.answer[1] << 8;
+}
+
+/* Into a buffer of the longest text, of this one's length, and of less; an answer too short comes before that. */
+static void ask_reports(struct source *source, const struct generated *table)
+{
+    size_t length = report(table, MISHTODRAN_LONGEST_REPORT, 4);
+    report(table, length, draw(source, 4, ANSWER_ROOM));
+    report(table, draw(source, 0, 3) ? length - 1 : draw(source, 0, length - 1), 4);
+    report(table, length - draw(source, 0, 1), draw(source, 0, 3));
 }
 
 /* ---- All tables ---- */
@@ -429,6 +517,7 @@ static void compare_table(struct source *source, const struct generated *table)
     ask_oddly(source, table, &places);
     for (unsigned i = 0; i < 12; i++)
         save_somehow(source, table, &places);
+    ask_reports(source, table);
 }
 
 /* The first chain alone, and once. */

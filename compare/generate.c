@@ -59,6 +59,14 @@ static uint8_t *put(uint8_t *at, uint64_t value, unsigned width)
     return at;
 }
 
+static uint32_t get(const uint8_t *at, unsigned width)
+{
+    uint32_t value = 0;
+    for (unsigned i = 0; i < width; i++)
+        value |= (uint32_t)at[i] << 8 * i;
+    return value;
+}
+
 static uint8_t *put_mark(uint8_t *at, const char *mark)
 {
     at[0] = (uint8_t)mark[0];
@@ -425,6 +433,33 @@ static struct made_table horizon(struct source *source)
     return table;
 }
 
+/* One window that ends at the horizon or a tick past it, the first, the second, the third or the last: a deferred chain
+   comes once at whatever length. */
+static struct made_table exact_horizon(struct source *source)
+{
+    struct made_table table = {0};
+    static const uint32_t windows[] = {1, 2, 3, 1024};
+    uint32_t activations = pick(source, windows, 4);
+    uint64_t all = LATEST + draw(source, 0, 1);
+    uint64_t cost = (all - draw(source, 10, 600)) / activations;
+    struct made_chain *b = add_chain(&table, (uint32_t)draw(source, 1, LATEST), one_in(source, 2) ? LATEST : 0, LATEST);
+    split_cost(b, 4, cost);
+    b->asynchronous = one_in(source, 2);
+    b->listed = activations == 1024 ? 1 : activations;
+    for (unsigned i = 0; i < b->listed; i++)
+        b->distance[i] = i;
+    b->distance[b->listed - 1] = activations == 1024 ? (uint32_t)cost : LATEST;
+    struct made_chain *other = add_chain(&table, LATEST, 0, LATEST);
+    other->asynchronous = one_in(source, 2);
+    other->overload = one_in(source, 2);
+    if (other->asynchronous)
+        add_task(other, 1, 1);
+    split_cost(other, 6, all - cost * activations);
+    if (!other->asynchronous)
+        add_task(other, 1, 1);
+    return table;
+}
+
 /* Values at the limits, in tables of the least and of the greatest size. */
 static struct made_table at_limits(struct source *source)
 {
@@ -530,6 +565,29 @@ struct made_table packing_table(struct source *source, unsigned segments)
     return table;
 }
 
+/* A chain of cost 10 whose misses are refused for reasons that are drawn each apart, so that some hold together: 14 to
+   17, too many active segments, overload that starts again, a miss without overload, and for long runs the capacity. */
+static struct made_table refused_misses(struct source *source)
+{
+    struct made_table table = {0};
+    bool always_late = one_in(source, 2), late = !one_in(source, 4);
+    struct made_chain *b = add_chain(&table, always_late ? 9 : late ? 10 : 100, one_in(source, 8) ? 0 : 100, 100);
+    add_task(b, 1, 5);
+    add_task(b, 5, 5);
+    b->overload = one_in(source, 10);
+    if (one_in(source, 6))
+        b->distance[0] = 9; /* the windows never close */
+    bool starts_again = one_in(source, 2);
+    struct made_chain *overload = add_chain(&table, 1000, 0, starts_again ? 15 : one_in(source, 2) ? 1000 : LATEST);
+    overload->overload = true;
+    unsigned segments = (unsigned)draw(source, 5, 8);
+    for (unsigned i = 0; i < segments; i++)
+        add_task(overload, 2, 1);
+    if (one_in(source, 6))
+        split_cost(add_chain(&table, 1000, 0, LATEST), 9, LATEST); /* no window is within the horizon */
+    return table;
+}
+
 /* ---- Damage ---- */
 
 static void flip_bit(struct source *source, struct generated *table)
@@ -588,13 +646,19 @@ static struct field field_of_record(struct source *source, const uint8_t *bytes,
     return found;
 }
 
-/* A field of a table that was made without damage. */
-static struct field any_field(struct source *source, const struct generated *table, unsigned chains)
+/* Where a record of a table stands that was made without damage. */
+static size_t record_at(const struct generated *table, unsigned place)
 {
-    unsigned place = (unsigned)draw(source, 0, chains);
     size_t at = 0;
     for (unsigned i = 0; i < place; i++)
         at += 16 + 4u * table->bytes[at + 14] + 8u * table->bytes[at + 15];
+    return at;
+}
+
+static struct field any_field(struct source *source, const struct generated *table, unsigned chains)
+{
+    unsigned place = (unsigned)draw(source, 0, chains);
+    size_t at = record_at(table, place);
     if (place < chains)
         return field_of_record(source, table->bytes, at);
     return one_in(source, 2) ? (struct field){at, 2, 0} : (struct field){at + 2, 2, chains};
@@ -664,15 +728,211 @@ static void damage(struct source *source, struct generated *table, unsigned chai
     }
 }
 
-/* ---- Any table ---- */
+/* ---- Two faults, the one soon after the other in the order of reading ---- */
 
-static uint32_t get(const uint8_t *at, unsigned width)
+/* Where the parts of a chain record stand, with one of its tasks. */
+struct layout {
+    size_t at, list, task;
+    unsigned listed, tasks_before; /* of the chains before it */
+};
+
+static struct layout layout_of(struct source *source, const struct generated *table, unsigned place)
 {
-    uint32_t value = 0;
-    for (unsigned i = 0; i < width; i++)
-        value |= (uint32_t)at[i] << 8 * i;
-    return value;
+    struct layout found = {.at = record_at(table, place)};
+    for (unsigned i = 0; i < place; i++)
+        found.tasks_before += table->bytes[record_at(table, i) + 15];
+    found.listed = table->bytes[found.at + 14];
+    found.list = found.at + 16;
+    found.task = found.list + 4 * found.listed;
+    if (one_in(source, 2))
+        found.task += 8 * draw(source, 0, table->bytes[found.at + 15] - 1u);
+    return found;
 }
+
+/* What is looked at of a chain record, in this order: whether its parts are there, and their values. */
+enum {
+    MARK_THERE,
+    MARK,
+    FIXED_PART_THERE,
+    ID,
+    KIND,
+    DEADLINE,
+    GAP,
+    LIST_LENGTH,
+    TASK_COUNT,
+    LIST_THERE,
+    LIST,
+    TASK_MARK_THERE,
+    TASK_MARK,
+    TASK_THERE,
+    TASK,
+    NEXT_THERE,
+    NEXT_MARK,
+    STEPS
+};
+
+/* Where a table must end for something not to be there; what is looked at before it still is. */
+static size_t end_before(struct source *source, const struct layout *record, unsigned step)
+{
+    switch (step) {
+    case MARK_THERE:
+        return record->at + draw(source, 0, 1);
+    case FIXED_PART_THERE:
+        return record->at + draw(source, 2, 15);
+    case LIST_THERE:
+        return record->list + (record->listed > 1 ? draw(source, 4, 4 * record->listed - 1) : draw(source, 0, 3));
+    case TASK_MARK_THERE:
+        return record->task + draw(source, 0, 1);
+    case TASK_THERE:
+        return record->task + draw(source, 2, 7);
+    default:
+        return record->task + 8 + draw(source, 0, 1);
+    }
+}
+
+static uint8_t wrong_task_count(struct source *source, unsigned tasks_before)
+{
+    if (tasks_before > 48 && one_in(source, 2))
+        return 16;
+    return (uint8_t)(one_in(source, 2) ? 0 : draw(source, 17, 255));
+}
+
+static void spoil_list(struct source *source, struct generated *table, const struct layout *record)
+{
+    uint8_t *list = table->bytes + record->list;
+    switch (draw(source, 0, 2)) {
+    case 0:
+        put(list, LATEST + 1, 4);
+        break;
+    case 1:
+        put(list, one_in(source, 2) ? 0 : 7, 4); /* and then it falls or ends in 0 */
+        put(list + 4 * (record->listed > 1), 0, 4);
+        break;
+    default:
+        put(table->bytes + record->at + 10, 1, 4);
+        put(list, 2, 4);
+    }
+}
+
+static void spoil_task(struct source *source, uint8_t *task)
+{
+    if (one_in(source, 2))
+        put(task + 2, 0, 2);
+    else
+        put(task + 4, one_in(source, 2) ? 0 : DEAREST + 1, 4);
+}
+
+/* The mark after a task, or the count after the last one. */
+static void spoil_next(struct source *source, uint8_t *mark)
+{
+    if (mark[0] == 'E' && one_in(source, 2))
+        put(mark + 2, 0, 2);
+    else
+        put_mark(mark, "XX");
+}
+
+static void spoil_fixed_part(struct source *source, struct generated *table, const struct layout *record, unsigned step)
+{
+    uint8_t *bytes = table->bytes + record->at;
+    switch (step) {
+    case ID:
+        put(bytes + 2, record->at > 0 && one_in(source, 2) ? get(table->bytes + 2, 2) : 0, 2);
+        break;
+    case KIND:
+        bytes[4 + draw(source, 0, 1)] = (uint8_t)draw(source, 2, 255);
+        break;
+    case DEADLINE:
+        put(bytes + 6, one_in(source, 2) ? 0 : LATEST + 1, 4);
+        break;
+    case GAP:
+        put(bytes + 10, LATEST + 1, 4);
+        break;
+    case LIST_LENGTH:
+        bytes[14] = (uint8_t)(one_in(source, 2) ? 0 : draw(source, 9, 255));
+        break;
+    default:
+        bytes[15] = wrong_task_count(source, record->tasks_before);
+    }
+}
+
+/* Makes the value wrong that is looked at in this step. */
+static void spoil_value(struct source *source, struct generated *table, const struct layout *record, unsigned step)
+{
+    static const char *const marks[] = {"TK", "XX", "Ch"}, *const task_marks[] = {"CH", "EN", "XK", "TX"};
+    uint8_t *task = table->bytes + record->task;
+    switch (step) {
+    case MARK:
+        put_mark(table->bytes + record->at, marks[draw(source, 0, 2)]);
+        break;
+    case LIST:
+        spoil_list(source, table, record);
+        break;
+    case TASK_MARK:
+        put_mark(task, task_marks[draw(source, 0, 3)]);
+        break;
+    case TASK:
+        spoil_task(source, task);
+        break;
+    case NEXT_MARK:
+        spoil_next(source, task + 8);
+        break;
+    default:
+        spoil_fixed_part(source, table, record, step);
+    }
+}
+
+static void spoil(struct source *source, struct generated *table, const struct layout *record, unsigned step)
+{
+    static const bool there[STEPS] = {[MARK_THERE] = true,      [FIXED_PART_THERE] = true, [LIST_THERE] = true,
+                                      [TASK_MARK_THERE] = true, [TASK_THERE] = true,       [NEXT_THERE] = true};
+    if (there[step])
+        table->length = end_before(source, record, step);
+    else
+        spoil_value(source, table, record, step);
+}
+
+/* An end record that is cut and has a wrong count, or stands first; or one with something after it. */
+static void spoil_end(struct source *source, struct generated *table, size_t at)
+{
+    static const uint8_t chain_0[] = {'C', 'H', 0, 0};
+    if (one_in(source, 3))
+        at = 0;
+    put(put_mark(table->bytes + at, "EN"), draw(source, 0, 17), 2);
+    table->length = at + 2 + draw(source, 0, 1);
+    if (one_in(source, 3)) {
+        memcpy(table->bytes + at + 4, one_in(source, 2) ? chain_0 : (const uint8_t *)"XXXX", 4);
+        table->length = at + 4 + draw(source, 1, 4);
+    }
+}
+
+/* Two faults of one chain, or of one and the next; of a 17th chain only where it begins. */
+static void spoil_chains(struct source *source, struct generated *table, unsigned chains, unsigned place)
+{
+    struct layout record = layout_of(source, table, place);
+    unsigned first = (unsigned)draw(source, 0, chains == 17 ? FIXED_PART_THERE : STEPS - 2);
+    unsigned second = first + (unsigned)draw(source, 1, first + 2 < STEPS ? 2 : 1);
+    if (place + 1 < chains && one_in(source, 5))
+        put(table->bytes + record_at(table, place + 1) + 2, 0, 2); /* the next id */
+    else
+        spoil(source, table, &record, second);
+    spoil(source, table, &record, first);
+}
+
+/* Spoils a table that was made without damage; now and then it is too long as well. */
+static void spoil_twice(struct source *source, struct generated *table, unsigned chains)
+{
+    unsigned place = chains == 17 ? 16 : (unsigned)draw(source, 0, chains);
+    if (place < chains)
+        spoil_chains(source, table, chains, place);
+    else
+        spoil_end(source, table, record_at(table, chains));
+    if (one_in(source, 12))
+        while (table->length <= 1284)
+            table->bytes[table->length++] = 0;
+    table->damage = "two faults";
+}
+
+/* ---- Any table ---- */
 
 /* Whether damage has left a table that is accepted, is busy almost all the time and has close arrivals. */
 static bool takes_long(const struct generated *table)
@@ -723,11 +983,12 @@ struct family {
 };
 
 static const struct family families[] = {
-    {"of the documents", 2, documented}, {"light", 35, some_light},
+    {"of the documents", 2, documented}, {"light", 31, some_light},
     {"full", 4, full_table},             {"heavy", 5, heavy_table},
-    {"close to one", 5, close_to_one},   {"backlog", 8, backlog},
-    {"horizon", 7, horizon},             {"limits", 6, at_limits},
-    {"wrong count", 2, wrong_count},     {"packing", 26, some_packing},
+    {"close to one", 5, close_to_one},   {"backlog", 7, backlog},
+    {"horizon", 6, horizon},             {"exact horizon", 3, exact_horizon},
+    {"limits", 6, at_limits},            {"wrong count", 4, wrong_count},
+    {"packing", 22, some_packing},       {"refused misses", 5, refused_misses},
 };
 
 static const struct family *any_family(struct source *source)
@@ -744,7 +1005,9 @@ struct generated generate(struct source *source)
     struct generated found = {.family = family->name, .damage = ""};
     struct made_table table = family->make(source);
     found.length = encode(&table, found.bytes);
-    if (one_in(source, 3)) {
+    if (one_in(source, table.chains == 17 ? 2 : 4)) {
+        spoil_twice(source, &found, table.chains);
+    } else if (one_in(source, 3)) {
         damage(source, &found, table.chains);
         if (takes_long(&found))
             cut(source, &found);

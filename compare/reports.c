@@ -2,6 +2,7 @@
    Usage: reports SEED N FOLDER
 
    The tables are FOLDER/1.table and so on, their reports FOLDER/1.txt and so on. */
+#include "../include/mishtodran.h"
 #include "analyzer.h"
 #include "generate.h"
 
@@ -29,10 +30,13 @@ int main(int count, char **words)
     unsigned long tables = strtoul(words[2], NULL, 10);
     for (unsigned long i = 1; i <= tables; i++) {
         struct generated table = generate(&source);
-        char text[1024];
-        size_t length = plain_report(table.bytes, table.length, text, sizeof text);
+        uint8_t text[MISHTODRAN_LONGEST_REPORT], answer[MISHTODRAN_REPORT_BYTES];
+        if (plain_report(table.bytes, table.length, text, sizeof text, answer, sizeof answer) != 0) {
+            puts("a report is longer than any may be");
+            return 1;
+        }
         write_file(words[3], i, "table", table.bytes, table.length);
-        write_file(words[3], i, "txt", text, length);
+        write_file(words[3], i, "txt", text, answer[0] | (size_t)answer[1] << 8);
     }
     return 0;
 }

@@ -2,8 +2,7 @@
 # Holds a library with the entries of mishtodran.h against the plain analyzer, or measures both.
 # Usage: compare/run.sh LIBRARY compare SEED N [walked]
 #        compare/run.sh LIBRARY bench [SEED]
-# LIBRARY is an x86-64 archive (target/staticlib/libeditor.a). The benchmark also takes the report's text, from the archive
-# libreport_entry.a in target/staticlib.
+# LIBRARY is an x86-64 archive (target/staticlib/libeditor.a).
 set -u
 top=$(cd "$(dirname "${BASH_SOURCE[0]}")/.." && pwd) || exit 1
 
@@ -33,10 +32,7 @@ with=()
 if [ "$program" = bench ]; then
     # shellcheck source=compare/glpk.sh
     . "$here/glpk.sh"
-    report=$top/target/staticlib/libreport_entry.a
-    [ -f "$report" ] || fail "there is no library $report"
-    with=("$report")
-    glpk_get "$top/target/glpk" && with+=(-DWITH_GLPK "$here/packing_glpk.c" "${glpk_arguments[@]}")
+    glpk_get "$top/target/glpk" && with=(-DWITH_GLPK "$here/packing_glpk.c" "${glpk_arguments[@]}")
 fi
 c_build "$room/$program" "$here/$program.c" "$here/generate.c" "$here/analyzer.c" "$library" "${with[@]}" || fail "$program was not built"
 c_run "$room/$program" "$@"

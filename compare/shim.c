@@ -24,3 +24,9 @@ uint32_t mishtodran_save(uint8_t *buffer, size_t buffer_len, uint64_t used, cons
 {
     return plain_save(buffer, buffer_len, used, old_record, old_len, new_record, new_len, answer, answer_len);
 }
+
+uint32_t mishtodran_report(const uint8_t *table, size_t table_len, uint8_t *text, size_t text_len, uint8_t *answer,
+                           size_t answer_len)
+{
+    return plain_report(table, table_len, text, text_len, answer, answer_len);
+}

@@ -1,8 +1,8 @@
 /* A small editor of stored tables, to start from.
    Usage: editor TABLE ID
 
-   Shows the figures of chain ID, then gives it the deadline that it can just keep, in memory only, and shows them
-   again. Build it with the header's folder and the library: cc -I include editor.c libeditor.a */
+   Shows the figures of chain ID, then gives it the deadline that it can just keep, in memory only, shows them again, and
+   the report of the whole table. Build it with the header's folder and the library: cc -I include editor.c libeditor.a */
 #include "mishtodran.h"
 
 #include <stdio.h>
@@ -62,6 +62,17 @@ static void show_misses(const struct document *document, uint32_t id)
         printf("misses refused, %lu\n", (unsigned long)refusal);
     else
         printf("misses in %d activations: at most %lu\n", RUN, (unsigned long)get32(answer));
+}
+
+/* A text buffer that every report fits into, so that none is refused. */
+static void show_report(const struct document *document)
+{
+    uint8_t text[MISHTODRAN_LONGEST_REPORT], answer[MISHTODRAN_REPORT_BYTES];
+    uint32_t refusal = mishtodran_report(document->bytes, document->used, text, sizeof text, answer, sizeof answer);
+    if (refusal)
+        printf("report refused, %lu\n", (unsigned long)refusal);
+    else
+        printf("%.*s", (int)get32(answer), (const char *)text);
 }
 
 /* The chain record of an id in a table that has been accepted: 16 bytes, then 4 for each listed distance and 8 for each
@@ -124,5 +135,6 @@ int main(int count, char **words)
     /* Someone else who still holds the old record cannot overwrite the change. */
     puts("the same save once more");
     save(&document, seen, changed, length);
+    show_report(&document);
     return 0;
 }

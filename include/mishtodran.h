@@ -1,11 +1,12 @@
 /* Mishtodran: latency and deadline misses of task chains, from a stored table.
  *
  * Every entry returns 0 and writes its answer, or returns the number of a refusal (below) and writes nothing.
- * Answers are little-endian. Bytes of an answer buffer past the answer stay as they are.
+ * Answers are little-endian. Bytes of an answer buffer past the answer stay as they are, and so do those of a text buffer
+ * past the text.
  *
  * What the caller keeps:
  * - a pointer is good for the length that stands beside it; a null pointer with length 0 is fine;
- * - a slice that is written (answer, buffer) overlaps no other slice of the call.
+ * - a slice that is written (answer, buffer, text) overlaps no other slice of the call.
  * Nothing else: any bytes may stand in a table or a record, and any number is taken at its full width. Entries keep
  * nothing between calls.
  */
@@ -45,10 +46,10 @@ enum mishtodran_refusal {
     MISHTODRAN_STARTS_AGAIN = 19,      /* an overload chain may start more than once in the last window */
     MISHTODRAN_ALWAYS_LATE = 20,       /* a deadline is missed without any overload */
     MISHTODRAN_CAPACITY = 21,          /* an overload active segment's capacity is above 40 */
-    /* A save */
+    /* A save; 24 in a report too */
     MISHTODRAN_STALE_RECORD = 22,      /* the old record equals no stored chain record */
     MISHTODRAN_NEW_RECORD = 23,        /* the new record has not a chain record's form, or bears another id */
-    MISHTODRAN_BUFFER_TOO_SHORT = 24,  /* the result is longer than the buffer */
+    MISHTODRAN_BUFFER_TOO_SHORT = 24,  /* the result, or the report's text, is longer than its buffer */
     /* A segment */
     MISHTODRAN_AGAINST_ITSELF = 25,    /* a segment of a chain against itself */
     MISHTODRAN_NO_SUCH_SEGMENT = 26,   /* there is no active segment of that number */
@@ -61,8 +62,12 @@ enum {
     MISHTODRAN_LATENCY_BYTES = 16,
     MISHTODRAN_MISSES_BYTES = 4,
     MISHTODRAN_SEGMENT_BYTES = 8,
-    MISHTODRAN_SAVE_BYTES = 4
+    MISHTODRAN_SAVE_BYTES = 4,
+    MISHTODRAN_REPORT_BYTES = 4
 };
+
+/* Bytes of a text buffer that every report fits into. */
+enum { MISHTODRAN_LONGEST_REPORT = 1123 };
 
 /* The latency of chain `id`: 16 bytes of answer, four for each figure: K (how many activations were looked at), the
  * latency, how many of the K are late, and the margin (deadline minus latency, two's complement).
@@ -90,6 +95,14 @@ uint32_t mishtodran_save(uint8_t *buffer, size_t buffer_len, uint64_t used,
                          const uint8_t *old_record, size_t old_len,
                          const uint8_t *new_record, size_t new_len,
                          uint8_t *answer, size_t answer_len);
+
+/* The report of a table, as text: 4 bytes of answer, the text's length in bytes. The text is what `mishtodran report`
+ * prints, a header and a line for each chain; it stands at the start of the text buffer, and no byte of 0 ends it. A
+ * refused table has its text too, `refused` and the number.
+ * Refuses with 27, then 24. */
+uint32_t mishtodran_report(const uint8_t *table, size_t table_len,
+                           uint8_t *text, size_t text_len,
+                           uint8_t *answer, size_t answer_len);
 
 #ifdef __cplusplus
 }

@@ -22,8 +22,8 @@ enum {
     SAME = 65535 /* the packed length of bytes that do not change */
 };
 
-enum { LATENCY, MISSES, SEGMENT, SAVE };
-enum { TABLE, OLD, NEW, ANSWER, SLICES };
+enum { LATENCY, MISSES, SEGMENT, SAVE, REPORT };
+enum { TABLE, OLD, NEW, TEXT, ANSWER, SLICES };
 
 /* Bytes to lend, and what they must be afterwards. */
 struct slice {
@@ -89,6 +89,7 @@ static struct entry_case take_case(void)
     for (unsigned i = 0; i < SLICES; i++)
         take_before(&found.slice[i]);
     take_after(&found.slice[TABLE]);
+    take_after(&found.slice[TEXT]);
     take_after(&found.slice[ANSWER]);
     return found;
 }
@@ -132,8 +133,11 @@ static void protect(unsigned which, int how)
     }
 }
 
-/* An entry writes the answer, and save its buffer. */
-static bool is_written(unsigned entry, unsigned which) { return which == ANSWER || (entry == SAVE && which == TABLE); }
+/* An entry writes the answer, save its buffer, and report its text. */
+static bool is_written(unsigned entry, unsigned which)
+{
+    return which == ANSWER || (entry == SAVE && which == TABLE) || (entry == REPORT && which == TEXT);
+}
 
 /* Where a slice of this length stands: against the page after it, or against the page before it. */
 static uint8_t *place(unsigned which, size_t length, bool at_end)
@@ -206,6 +210,8 @@ static uint32_t call(const struct entry_case *given, bool at_end)
     case SEGMENT:
         return mishtodran_segment(table, table_len, (uint32_t)number[0], (uint32_t)number[1], (uint32_t)number[2],
                                   answer, answer_len);
+    case REPORT:
+        return mishtodran_report(table, table_len, lent(given, TEXT, at_end), slice[TEXT].length, answer, answer_len);
     default:
         return mishtodran_save(table, table_len, number[0], lent(given, OLD, at_end), slice[OLD].length,
                                lent(given, NEW, at_end), slice[NEW].length, answer, answer_len);
@@ -235,6 +241,8 @@ static bool run(const struct entry_case *given, bool at_end)
         return fails(given, "the answer buffer is not as expected");
     if (!is_as_expected(given, TABLE, at_end))
         return fails(given, "the table is not as expected");
+    if (!is_as_expected(given, TEXT, at_end))
+        return fails(given, "the text is not as expected");
     if (!is_as_expected(given, OLD, at_end) || !is_as_expected(given, NEW, at_end))
         return fails(given, "a record has changed");
     return true;

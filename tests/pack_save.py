@@ -6,7 +6,8 @@ Usage: tests/pack_save.py VECTORS OUT
 VECTORS is a file of one JSON object a line, with the keys buffer, used, old, new, rc, after and buffer_after: bytes in
 hex, `=` for 'no byte changed'. rc is 0 or the refusal number, and the first four bytes of after are the new used length.
 Cases of refusal 27 are left out: it belongs to the C entry, and a save knows no answer buffer. After them come the shapes
-made here: a record that stays as long, grows or shrinks, as the only, first, middle or last one, with and without room.
+made here: a record that stays as long, grows or shrinks, as the only, first, middle or last one, with and without room;
+then the cases that only an order decides (orders.py).
 
 A case in OUT, every number little-endian:
 
@@ -25,6 +26,9 @@ import json
 import struct
 import sys
 
+import orders
+from stored import chain, stored
+
 
 def packed(buffer, used, old, new, number, length, after):
     assert len(after) == len(buffer)
@@ -42,29 +46,24 @@ def from_vectors(path):
         yield packed(buffer, case["used"], bytes.fromhex(case["old"]), bytes.fromhex(case["new"]), case["rc"], length, after)
 
 
-def chain(ident, deadline, distances, tasks):
+def plain(ident, deadline, distances, tasks):
     """A chain record: synchronous, no overload, no gap known."""
-    head = b"CH" + struct.pack("<HBBIIBB", ident, 0, 0, deadline, 0, len(distances), len(tasks))
-    return head + b"".join(struct.pack("<I", d) for d in distances) + b"".join(b"TK" + struct.pack("<HI", p, c) for p, c in tasks)
-
-
-def table(records):
-    return b"".join(records) + b"EN" + struct.pack("<H", len(records))
+    return chain(ident, 0, 0, deadline, 0, distances, tasks)
 
 
 def shapes():
     """Every place of a record with every change of its length; the rest of the buffer is 0xAA, to see what stays."""
     for count in (1, 3):
-        stored = [chain(i + 1, 40 + i, [100], [(5, 10), (3, 10)]) for i in range(count)]
+        records = [plain(i + 1, 40 + i, [100], [(5, 10), (3, 10)]) for i in range(count)]
         for at in range(count):
             for new in (
-                chain(at + 1, 30, [100], [(5, 10), (3, 10)]),
-                chain(at + 1, 40, [100, 200], [(5, 10), (3, 10), (2, 1)]),
-                chain(at + 1, 40, [100], [(5, 10)]),
-                stored[at],
+                plain(at + 1, 30, [100], [(5, 10), (3, 10)]),
+                plain(at + 1, 40, [100, 200], [(5, 10), (3, 10), (2, 1)]),
+                plain(at + 1, 40, [100], [(5, 10)]),
+                records[at],
             ):
-                old, before = stored[at], table(stored)
-                result = table(stored[:at] + [new] + stored[at + 1:])
+                old, before = records[at], stored(*records)
+                result = stored(*records[:at], new, *records[at + 1:])
                 for room in (0, 5, 64):
                     buffer = before + b"\xaa" * room
                     if len(buffer) < len(result):
@@ -76,10 +75,15 @@ def shapes():
                 yield packed(before, len(before) + 2**32, old, new, 1, 0, before)
 
 
+def two_refusals():
+    for _, (buffer, used, old, new), number in orders.calls(orders.SAVE):
+        yield packed(buffer, used, old, new, number, 0, buffer)
+
+
 def main():
     if len(sys.argv) != 3:
         sys.exit(__doc__)
-    cases = list(from_vectors(sys.argv[1])) + list(shapes())
+    cases = [*from_vectors(sys.argv[1]), *shapes(), *two_refusals()]
     with open(sys.argv[2], "wb") as out:
         out.write(b"".join(cases))
     print(f"{len(cases)} cases")

@@ -25,6 +25,35 @@ fails() {
     [ -s "$room/err" ] || fail "$1: it says nothing on standard error"
 }
 
+# bytes NUMBER..: a byte for each number.
+bytes() {
+    printf '%b' "$(printf '\\x%02x' "$@")"
+}
+
+# A table of 1,284 bytes: 16 chains of 8 distances and 4 tasks of cost 1, each below the ones before it.
+full_table() {
+    local i n
+    for i in {1..16}; do
+        bytes 67 72 "$i" 0 0 0 232 3 0 0 232 3 0 0 8 4
+        for n in {1..8}; do bytes $((n * 1000 % 256)) $((n * 1000 / 256)) 0 0; done
+        for n in {1..4}; do bytes 84 75 $((17 - i)) 0 1 0 0 0; done
+    done
+    bytes 69 78 16 0
+}
+
+# in_pieces FILE LENGTH..: the file in pieces of these lengths and the rest, with a pause before each.
+in_pieces() {
+    local file=$1 at=1 length
+    shift
+    sleep 0.3
+    for length in "$@"; do
+        tail -c "+$at" "$file" | head -c "$length"
+        at=$((at + length))
+        sleep 0.1
+    done
+    tail -c "+$at" "$file"
+}
+
 header='chain K latency late margin miss10'
 sample="$header
 1 1 64 1 -24 3
@@ -46,6 +75,22 @@ prints "a cut table" "refused 2" < <(head -c 139 examples/sample.table)
 prints "a table in two parts" "$sample" < <(head -c 70 examples/sample.table && sleep 1 && tail -c +71 examples/sample.table)
 prints "too many bytes" "refused 1" < <(head -c 1285 /dev/zero)
 prints "far too many bytes" "refused 1" < <(head -c 100000 /dev/zero)
+
+# The longest table, and one byte more, as a pipe may bring them.
+full=$header$(for i in {1..16}; do printf '\n%d 1 %d 0 %d 0' "$i" $((4 * i)) $((1000 - 4 * i)); done)
+full_table >"$room/full"
+{ full_table && printf E; } >"$room/longer"
+[ "$(wc -c <"$room/full")" -eq 1284 ] || fail "the full table has not 1,284 bytes"
+prints "a full table" "$full" <"$room/full"
+prints "a byte more" "refused 1" <"$room/longer"
+for pieces in "1283" "1284" "1 1282" "7 7 1269" "1 1 1 1 1 7 1271"; do
+    # shellcheck disable=SC2086
+    prints "a full table in pieces of $pieces and the rest" "$full" < <(in_pieces "$room/full" $pieces)
+done
+for pieces in "1283" "1284" "1283 1" "1 1283" "7 1277" "1 7 1275 1"; do
+    # shellcheck disable=SC2086
+    prints "a byte more in pieces of $pieces and the rest" "refused 1" < <(in_pieces "$room/longer" $pieces)
+done
 
 ./mishtodran report "$room" >"$room/out" 2>"$room/err"
 status=$?
