@@ -1,6 +1,7 @@
 // The C editor's entries (document 01, 'The C editor and the report'): numbers and byte slices only. Each returns 0 or the
 // refusal's number; refused, every byte lent stays.
 use report_text::LONGEST;
+use report_text::magnitude;
 use saving::Saved;
 use table::put_u32;
 ghost use mathlib.Core.Path.{_≡_};
@@ -12,10 +13,11 @@ ghost use Rattle.editor.specs.Entry.{unsigned as unsignedOf, figureBytes
 fn unsigned(x: i32) -> u32
     ensures { λ r. ⌜ r ≡ unsignedOf x ⌝ }
 {
+    let size = magnitude(x);
     if x >= 0 {
-        x as u32
+        size
     } else {
-        4_294_967_295 - (-1 - x) as u32
+        4_294_967_295 - (size - 1)
     }
 }
 

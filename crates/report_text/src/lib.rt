@@ -7,6 +7,7 @@ use table::Table;
 use table::Verdict;
 use table::count;
 use table::judge;
+pub use text::magnitude;
 use text::put_byte;
 use text::put_decimal;
 use text::put_text;

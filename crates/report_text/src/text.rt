@@ -44,7 +44,7 @@ pub fn put_decimal(out: &mut [u8], at: usize, n: u32) -> usize
 }
 
 // A signed number without its sign.
-fn magnitude(x: i32) -> u32
+pub fn magnitude(x: i32) -> u32
     ensures { λ r. ⌜ r ≡ natAbs x ⌝ }
 {
     if x >= 0 {

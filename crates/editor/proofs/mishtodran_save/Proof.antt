@@ -11,6 +11,15 @@ use borrow.Author.Needs.{needs}
 use Rattle.editor.proofs.mishtodran_save.Statement.{statement}
 use Rattle.editor.proofs.mishtodran_save.Tie as tie
 
+same-length : tie.Need-same-length
+same-length c = search needs
+
+same-length-2 : tie.Need-same-length-2
+same-length-2 c = search needs
+
+same-length-3 : tie.Need-same-length-3
+same-length-3 c = search needs
+
 returns : tie.Need-returns
 returns c = let a = c .before .before .before .before .before .args in
     let table : List ℕ = now (a .buffer) in
@@ -36,12 +45,6 @@ put-figures-requires c κs = search needs
 enum-known-n-2 : tie.Need-enum-known-n-2
 enum-known-n-2 c = search needs
 
-same-length : tie.Need-same-length
-same-length c = search needs
-
-same-length-2 : tie.Need-same-length-2
-same-length-2 c = search needs
-
 returns-2 : tie.Need-returns-2
 returns-2 c = let a = c .before .before .before .before .before .before .before .before .before .before .before .before .before .before .before .before .before .args in
     let table : List ℕ = now (a .buffer) in
@@ -55,9 +58,6 @@ returns-2 c = let a = c .before .before .before .before .before .before .before 
       answers = rw e (answered-figures 1 0 (told .0 .0 ∷ []) (now (a .answer)) room (put .last .0) refl (put .ensures));
       leaves = save .leaves ∙ sym (when-no table later (le-ltb _ _ room));
     }
-
-same-length-3 : tie.Need-same-length-3
-same-length-3 c = search needs
 
 returns-3 : tie.Need-returns-3
 returns-3 c = let a = c .before .before .before .before .before .before .before .before .before .before .before .before .args in

@@ -1,37 +1,40 @@
 -- Each sign has its law.
-use mathlib.Core.Path.{ap, sym, _∙_}
-use Prim.Native.Nat.{_-_}
+use mathlib.Core.Path.{_≡_, ap, sym, _∙_}
+use Prim.Native.Nat.{_+_, _-_}
 use lib.IntN.{natAbs}
 use native.Mathlib.Omega.{arith}
-use Rattle.windows.proofs.Signs.{Upper, upper, Lower, lower}
+use mir.Facts.{toZ-ofZ}
+use Rattle.windows.proofs.Signs.{upper, Lower, lower}
 use Rattle.editor.specs.Entry.{unsigned as unsignedOf}
+use borrow.Author.Needs.{needs}
 use Rattle.editor.proofs.unsigned.Statement.{statement}
 use Rattle.editor.proofs.unsigned.Tie as tie
 
-up : (c : tie.Then1) → Upper (c .before .args .x)
-up c = upper (c .before .args .x) (c .before .fits .x) (c .if1 .taken)
+-- the magnitude of a number below 0 is one more than what it is -1 less
+below : (c : tie.Else1) (x : Lower (c .before .before .args .x)) → c .before .magnitude .result ≡ x .rest + 1
+below c x = c .before .magnitude .ensures ∙ ap natAbs (toZ-ofZ (c .before .before .fits .x) ∙ x .is) ∙ omega arith
 
-down : (c : tie.Else1) → Lower (c .before .args .x)
-down c = lower (c .before .args .x) (c .before .fits .x) (c .if1 .left)
+down : (c : tie.Else1) → Lower (c .before .before .args .x)
+down c = lower (c .before .before .args .x) (c .before .before .fits .x) (c .if1 .left)
 
-cast-result : tie.Need-cast-result
-cast-result c = up c .cast
+magnitude-requires : tie.Need-magnitude-requires
+magnitude-requires c κs = search needs
 
 sub-result : tie.Need-sub-result
-sub-result c = down c .less
-
-cast-result-2 : tie.Need-cast-result-2
-cast-result-2 c = rw (down c .held) (tt, record { fits = omega (arith, down c .small) })
+sub-result c = omega (arith, below c (down c))
 
 sub-result-2 : tie.Need-sub-result-2
-sub-result-2 c = rw (down c .held) (omega (arith, down c .small))
+sub-result-2 c = search needs
 
 returns : tie.Need-returns
-returns c = ap natAbs (up c .held) ∙ sym (ap unsignedOf (up c .is))
+returns c =
+    let x = upper (c .before .before .args .x) (c .before .before .fits .x) (c .if1 .taken) in
+    c .before .magnitude .ensures ∙ ap natAbs (x .held) ∙ sym (ap unsignedOf (x .is))
 
 returns-2 : tie.Need-returns-2
-returns-2 c = ap (λ x. 4294967295 - natAbs x) (down c .held) ∙ sym (ap unsignedOf (down c .is))
+returns-2 c =
+    let one : c .before .magnitude .result - 1 ≡ down c .rest = omega (arith, below c (down c)) in
+    ap (λ n. 4294967295 - n) one ∙ sym (ap unsignedOf (down c .is))
 
 pub unsigned-spec : {M : Type 1} → statement M
-unsigned-spec =
-    tie.close (tie.spec cast-result sub-result cast-result-2 sub-result-2 returns returns-2)
+unsigned-spec = tie.close (tie.spec magnitude-requires sub-result sub-result-2 returns returns-2)

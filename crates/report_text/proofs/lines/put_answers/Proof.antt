@@ -48,13 +48,15 @@ returns c =
     let margin = g .0 .1 .1 .1 .0 in
     let w1 = c .before .before .before .before .before .before .before .before .before .before .before .before .before .before .before .before .before .before .put-number .ensures in
     let w2 = c .before .before .before .before .before .before .before .before .before .before .before .before .before .before .put-number2 .ensures in
-    let w3 = c .before .before .before .before .before .before .before .before .before .before .put-number3 .ensures in
+    let third = c .before .before .before .before .before .before .before .before .before .before .put-number3 in
     let h4 = c .before .before .before .before .before .before .put-signed in
+    let told = c .before .before .before .before .before .before .before .before .before .before .before .before .before .before .before .before .before .before .before .before .known-told .given in
+    let whole = toZ-ofZ {w = w32} {z = margin} (record { sfits = told .1 .1 .1 .0 .1 }) in
     let w5 = c .before .before .put-missed .ensures in
     let end = c .before .before .put-missed in
-    let w4 = subst (λ x. Wrote (c .before .before .before .before .before .before .before .before .before .before .put-number3 .last .0) (c .before .before .before .before .before .before .before .before .before .before .put-number3 .result) (after (signed x)) (h4 .last .0) (h4 .result)) (toZ-ofZ {w = w32} {z = margin} (record { sfits = c .before .before .before .before .before .before .before .before .before .before .before .before .before .before .before .before .before .before .before .before .known-told .given .1 .1 .1 .0 .1 })) (h4 .ensures .0) in (
-      subst (λ a. Wrote (now (s .args .out)) (s .args .at) (answersText a (s .args .missed)) (end .last .0) (end .result)) (sym (g .1)) (wrote-on (wrote-on (wrote-on (wrote-on (w1 .0) (w2 .0)) (w3 .0)) w4) (w5 .0)),
-      omega (arith, w1 .1, w2 .1, w3 .1, h4 .ensures .1, w5 .1),
+    let w4 = subst (λ x. Wrote (third .last .0) (third .result) (after (signed x)) (h4 .last .0) (h4 .result)) whole (h4 .ensures .0) in (
+      subst (λ a. Wrote (now (s .args .out)) (s .args .at) (answersText a (s .args .missed)) (end .last .0) (end .result)) (sym (g .1)) (wrote-on (wrote-on (wrote-on (wrote-on (w1 .0) (w2 .0)) (third .ensures .0)) w4) (w5 .0)),
+      omega (arith, w1 .1, w2 .1, third .ensures .1, h4 .ensures .1, w5 .1),
     )
 
 same-length-2 : tie.Need-same-length-2
