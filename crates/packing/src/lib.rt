@@ -4,9 +4,9 @@ mod weights;
 
 ghost use mathlib.Core.Path.{_≡_};
 ghost use Prim.Native.Nat.{_+_, _≤_, _<_};
-ghost use Rattle.packing.specs.Packing.{sum, combinations};
+ghost use Rattle.packing.specs.Packing.{sumTo, combinations};
 ghost use Rattle.packing.specs.Most.{mostUses, flagged, capacity};
-ghost use Rattle.packing.specs.Engine.{HasRoom, Tells, Ceiling, Choices, maxRoom, maxChosen, maxWeight};
+ghost use Rattle.packing.specs.code.Engine.{HasRoom, Tells, Ceiling, Choices, maxRoom, maxChosen, maxWeight};
 ghost use Rattle.table.specs.Limits.{maxOverloads};
 use table::Table;
 
@@ -15,7 +15,7 @@ pub const COMBINATIONS: usize = 1 << Table::OVERLOADS;
 
 // All the room there is.
 fn total(room: &[u8; Table::OVERLOADS]) -> u32
-    ensures { λ r. ⌜ (r ≡ sum maxOverloads (capacity (now (room .entry)))) × (r ≤ maxRoom) ⌝ }
+    ensures { λ r. ⌜ (r ≡ sumTo maxOverloads (capacity (now (room .entry)))) × (r ≤ maxRoom) ⌝ }
 {
     let mut all: u32 = 0;
     let mut i: usize = 0;

@@ -8,7 +8,7 @@ ghost use Prim.Native.Nat.{ℕ, _<_, _≤_};
 ghost use lib.ListN.{getD};
 ghost use Rattle.packing.specs.Packing.{bit, combinations};
 ghost use Rattle.packing.specs.Most.{capacity};
-ghost use Rattle.packing.specs.Engine.{weight, weightings, maxChosen, maxWeight, Floor};
+ghost use Rattle.packing.specs.code.Engine.{weight, weightings, maxChosen, maxWeight, Floor};
 ghost use Rattle.table.specs.Limits.{maxOverloads};
 
 const WEIGHTINGS: usize = 975;
@@ -111,7 +111,7 @@ fn holds(kept: &[usize; COMBINATIONS], count: usize, all: usize, m: usize) -> bo
     if m & all != m {
         return false;
     }
-    masks::part_of(kept, count, m) < count
+    masks::kept_part(kept, count, m) < count
 }
 
 // How many combinations of active segments of `all` have i in them, and a kept one too.

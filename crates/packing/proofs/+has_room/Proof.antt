@@ -6,7 +6,7 @@ use borrow.Author.Needs.{needs}
 use borrow.Fn.Kinds.{In}
 use borrow.Fn.PlainCycle.{Measures, is, falls, and}
 use Rattle.packing.specs.Most.{capacity}
-use Rattle.packing.specs.Engine.{HasRoom, Choices}
+use Rattle.packing.specs.code.Engine.{HasRoom, Choices}
 use Rattle.packing.proofs.Tries.{none-fit, empty-fit, tells-so, tells-not, choices-tried, choices-end, choices-found}
 use Rattle.packing.proofs.has_room.Reads as has-room
 use Rattle.packing.proofs.has_room.Kinds as kinds

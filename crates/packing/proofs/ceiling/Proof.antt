@@ -2,7 +2,7 @@
 use borrow.Author.Needs.{needs}
 use Prim.Native.Nat.{_-_, _≤_}
 use Rattle.packing.specs.Most.{capacity}
-use Rattle.packing.specs.Engine.{Ceiling}
+use Rattle.packing.specs.code.Engine.{Ceiling}
 use Rattle.packing.proofs.ceiling.Statement.{statement}
 use Rattle.packing.proofs.ceiling.Tie as tie
 

@@ -3,7 +3,7 @@ use borrow.Author.Needs.{needs}
 use Prim.Native.Nat.{_-_, _≤_}
 use native.Mathlib.Omega.{arith}
 use Rattle.packing.specs.Most.{capacity}
-use Rattle.packing.specs.Engine.{Choices}
+use Rattle.packing.specs.code.Engine.{Choices}
 use Rattle.packing.proofs.Tries.{choices-start}
 use Rattle.packing.proofs.choices.Statement.{statement}
 use Rattle.packing.proofs.choices.Tie as tie

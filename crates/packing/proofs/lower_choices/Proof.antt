@@ -5,7 +5,7 @@ use mathlib.Core.Path.{_≡_, _∙_}
 use native.Mathlib.Omega.{arith}
 use native.Mathlib.Nat.{mul-le-mul, div-le-self}
 use Rattle.packing.specs.Packing.{bit}
-use Rattle.packing.specs.Engine.{nth, weight}
+use Rattle.packing.specs.code.Engine.{nth, weight}
 use Rattle.packing.proofs.Cut.{weight-ext, cut-none, cut-above}
 use Rattle.packing.proofs.Tries.{choices-less}
 use Rattle.packing.proofs.lower_choices.Statement.{statement}

@@ -3,7 +3,7 @@ use borrow.Author.Needs.{needs}
 use native.Mathlib.Omega.{arith}
 use borrow.Author.Tests.{not-true, not-false}
 use Rattle.packing.specs.Most.{capacity}
-use Rattle.packing.specs.Engine.{Ceiling}
+use Rattle.packing.specs.code.Engine.{Ceiling}
 use Rattle.packing.proofs.Tries.{some-fit, ceiling-fewer}
 use Rattle.packing.proofs.Kept.{kept-most, kept-room}
 use Rattle.packing.proofs.most_uses.Statement.{statement}

@@ -5,7 +5,7 @@ use mathlib.Core.Path.{ap₂}
 use native.Mathlib.Omega.{arith}
 use native.Mathlib.Nat.{mul-le-mul}
 use lib.ListN.{getD}
-use Rattle.packing.specs.Engine.{weight}
+use Rattle.packing.specs.code.Engine.{weight}
 use Rattle.packing.proofs.Loops.{Added, added-start, added-on, added-end}
 use Rattle.packing.proofs.weights.weigh.Statement.{statement}
 use Rattle.packing.proofs.weights.weigh.Tie as tie
