@@ -1,6 +1,6 @@
 -- Packings carried over: a function of masks that turns bad combinations into bad ones, and fits the room, turns a packing into
--- one with as many uses. From it come the laws that callers use: what the most uses hang on, when they cannot fall, when they
--- are 0, and that a renumbering of the active segments moves nothing. Assumes nothing.
+-- one with as many uses. From it come the laws that callers use: what the most uses hang on, when they cannot fall, and that a
+-- renumbering of the active segments moves nothing. Assumes nothing.
 use Prim.Native.Nat.{ℕ, _*_, _≤_, _<_}
 use mathlib.Core.Path.{_≡_, ap, subst, _∙_}
 use mathlib.Core.Bool.{Bool, true}

@@ -1,19 +1,17 @@
 -- What callers go by: the most uses hang only on which combinations are bad, the empty one apart, and on the capacities; they
--- never fall where more is bad or there is more room; they are 0 where nothing is bad; and renumbering the active segments moves
--- nothing. Assumes nothing.
+-- never fall where more is bad or there is more room; and renumbering the active segments moves nothing. Assumes nothing.
 use Prim.Native.Nat.{ℕ, zero, suc, _*_, _≤_, _<_}
 use mathlib.Core.Path.{_≡_, sym, _∙_}
-use mathlib.Core.Bool.{Bool, true, false}
+use mathlib.Core.Bool.{Bool, true}
 use mathlib.Core.Logic.{_⊎_, ⊎-elim}
 use native.Mathlib.Omega.{arith}
 use native.Mathlib.Nat.{mul-le-mul-left}
 use borrow.Author.Tests.{lt-ltb}
-use Rattle.search.proofs.Choice.{true-not-false, lt-or-le}
 use Rattle.packing.specs.Packing.{bit, sumTo, usable, Packing}
 use Rattle.packing.specs.Most.{mostUses}
-use Rattle.packing.proofs.Sums.{sumTo-mono, sumTo-zero, sumTo-bound, sumTo-some}
+use Rattle.packing.proofs.Sums.{sumTo-mono, sumTo-zero, sumTo-bound}
 use Rattle.packing.proofs.Linear.{usable-some}
-use Rattle.packing.proofs.Most.{most-greatest, most-room}
+use Rattle.packing.proofs.Most.{most-room}
 use Rattle.packing.proofs.Carry.{carries-most}
 
 pub usable-bad : (bad : ℕ → Bool) (m : ℕ) → usable bad m ≡ true → bad m ≡ true
@@ -51,17 +49,6 @@ most-same bad other room rest h e =
     let a : mostUses bad room ≤ mostUses other rest = most-rises bad other room rest (λ m s l b. sym (h m s l) ∙ b) (λ i l. omega (arith, e i l)) in
     let b : mostUses other rest ≤ mostUses bad room = most-rises other bad rest room (λ m s l b. h m s l ∙ b) (λ i l. omega (arith, e i l)) in
     omega arith
-
-pub most-none : (bad : ℕ → Bool) (room : ℕ → ℕ) → ((m : ℕ) → 0 < m → m < 64 → bad m ≡ false) → mostUses bad room ≡ 0
-most-none bad room h =
-    let r = most-greatest bad room .holds in
-    ⊎-elim
-    (λ l.
-    let s = sumTo-some 64 (r .uses) l in
-    let u = r .packing .only (s .0) (s .1) (s .2) in
-    absurd (true-not-false (usable-bad bad (s .0) u) (h (s .0) (usable-some bad (s .0) u) (s .1))))
-    (λ l. omega (arith, r .total))
-    (lt-or-le 0 (sumTo 64 (r .uses)))
 
 -- with capacities up to c
 pub most-bound : (bad : ℕ → Bool) (room : ℕ → ℕ) (c : ℕ) → ((i : ℕ) → i < 6 → room i ≤ c) → mostUses bad room ≤ 6 * c

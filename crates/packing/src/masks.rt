@@ -11,7 +11,7 @@ ghost use Rattle.packing.specs.code.Engine.{keptPart, Kept, Fitting, max
 ghost use Rattle.table.specs.Limits.{maxOverloads};
 
 // 1 if the active segment i is in the combination m, else 0.
-pub(crate) fn has(m: usize, i: usize) -> u8
+pub fn has(m: usize, i: usize) -> u8
     requires { ⌜ i < maxOverloads ⌝ }
     ensures { λ r. ⌜ r ≡ bit i m ⌝ }
 {
@@ -39,7 +39,7 @@ fn lesser(room: &[u8; Table::OVERLOADS], m: usize, i: usize, x: u32) -> u32
     if has(m, i) == 0 {
         return x;
     }
-    let most = weights::wide(room[i]);
+    let most = weights::u32_from_u8(room[i]);
     if most < x { most } else { x }
 }
 
@@ -64,7 +64,7 @@ pub(crate) fn spend(room: &[u8; Table::OVERLOADS], m: usize, x: u32) -> [u8; Tab
     let mut out = [0u8; Table::OVERLOADS];
     let mut i: usize = 0;
     while i < Table::OVERLOADS {
-        out[i] = (weights::wide(room[i]) - x * weights::wide(has(m, i))) as u8;
+        out[i] = (weights::u32_from_u8(room[i]) - x * weights::u32_from_u8(has(m, i))) as u8;
         i += 1;
     }
     out

@@ -3,13 +3,8 @@ use borrow.Author.Needs.{needs}
 use native.Mathlib.Omega.{arith}
 use borrow.Author.Tests.{eq-eqb, ne-eqb}
 use Rattle.packing.proofs.Kept.{kept-good, kept-held, kept-new}
-use native.Mathlib.Omega.{arith}
-use borrow.Author.Tests.{eq-eqb, ne-eqb}
-use Rattle.packing.proofs.Kept.{kept-good, kept-held, kept-new}
 use Rattle.packing.proofs.masks.keep.Statement.{statement}
 use Rattle.packing.proofs.masks.keep.Tie as tie
-
--- By the two tests.
 
 element-copy-out-if1 : tie.Need-element-copy-out-if1
 element-copy-out-if1 c = search needs
