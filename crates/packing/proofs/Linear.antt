@@ -22,7 +22,11 @@ module _ (n : ℕ) (mask u w : ℕ → ℕ) where
   packed =
       sumTo-ext n (λ j. u j * sumTo 6 (λ i. w i * bit i (mask j))) (λ j. sumTo 6 (λ i. u j * (w i * bit i (mask j)))) (λ j l. sym (sumTo-scale 6 (u j) (λ i. w i * bit i (mask j))))
       ∙ sumTo-swap n 6 (λ j i. u j * (w i * bit i (mask j)))
-      ∙ sumTo-ext 6 (λ i. sumTo n (λ j. u j * (w i * bit i (mask j)))) (λ i. w i * sumTo n (λ j. u j * bit i (mask j))) (λ i l. sumTo-ext n (λ j. u j * (w i * bit i (mask j))) (λ j. w i * (u j * bit i (mask j))) (λ j s. omega arith) ∙ sumTo-scale n (w i) (λ j. u j * bit i (mask j)))
+      ∙ sumTo-ext 6 (λ i. sumTo n (λ j. u j * (w i * bit i (mask j)))) (λ i. w i * sumTo n (λ j. u j * bit i (mask j))) (λ i l. of i)
+    where
+      -- of one active segment
+      of : (i : ℕ) → sumTo n (λ j. u j * (w i * bit i (mask j))) ≡ w i * sumTo n (λ j. u j * bit i (mask j))
+      of i = sumTo-ext n (λ j. u j * (w i * bit i (mask j))) (λ j. w i * (u j * bit i (mask j))) (λ j s. omega arith) ∙ sumTo-scale n (w i) (λ j. u j * bit i (mask j))
 
   pub all-weigh : (room : ℕ → ℕ) → ((i : ℕ) → i < 6 → sumTo n (λ j. u j * bit i (mask j)) ≤ room i)
       → sumTo n (λ j. u j * sumTo 6 (λ i. w i * bit i (mask j))) ≤ sumTo 6 (λ i. w i * room i)

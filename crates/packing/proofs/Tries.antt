@@ -104,7 +104,7 @@ module _ {kept : List ℕ} {last : ℕ} {room : ℕ → ℕ} {need : ℕ} where
       rw size record {
         uses = uses;
         packed = record {
-          within = λ i l. omega (arith, h .packed .within i l, e i l, enough i l, ap (λ z. z * bit i (nth kept last)) at-last, sumTo-ext last (λ j. uses j * bit i (nth kept j)) (λ j. h .uses j * bit i (nth kept j)) (λ j s. ap (λ z. z * bit i (nth kept j)) (before j s)));
+          within = λ i l. omega (arith, h .packed .within i l, e i l, enough i l, ap (λ z. z * bit i (nth kept last)) at-last, rest i);
         };
         total = omega (arith, h .total, at-last, sumTo-ext last uses (h .uses) before);
       }
@@ -117,3 +117,6 @@ module _ {kept : List ℕ} {last : ℕ} {room : ℕ → ℕ} {need : ℕ} where
 
       before : (j : ℕ) → j < last → uses j ≡ h .uses j
       before j s = when-no y (h .uses j) (ne-eqb last j (λ q. omega arith))
+
+      rest : (i : ℕ) → sumTo last (λ j. uses j * bit i (nth kept j)) ≡ sumTo last (λ j. h .uses j * bit i (nth kept j))
+      rest i = sumTo-ext last _ _ (λ j s. ap (λ z. z * bit i (nth kept j)) (before j s))

@@ -15,7 +15,7 @@ mod weights;
 
 pub use masks::has;
 ghost use mathlib.Core.Path.{_≡_};
-ghost use Prim.Native.Nat.{_+_, _≤_, _<_};
+ghost use Prim.Native.Nat.{_≤_, _<_};
 ghost use Rattle.packing.specs.Packing.{sumTo, combinations};
 ghost use Rattle.packing.specs.Most.{mostUses, flagged, capacity};
 ghost use Rattle.packing.specs.code.Engine.{HasRoom, Tells, Ceiling, Choices, maxRoom, maxChosen, maxWeight};

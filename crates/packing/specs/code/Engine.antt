@@ -55,11 +55,11 @@ pub record Kept (bad kept : List ℕ) (count m : ℕ) : Type 0 where
 pub record Packed (kept : List ℕ) (n : ℕ) (room uses : ℕ → ℕ) : Type 0 where
   pub within : (i : ℕ) → i < maxOverloads → sumTo n (λ j. uses j * bit i (nth kept j)) ≤ room i
 
--- k uses of the first n kept combinations have room
-pub record HasRoom (kept : List ℕ) (n : ℕ) (room : ℕ → ℕ) (k : ℕ) : Type 0 where
+-- `need` uses of the first n kept combinations have room
+pub record HasRoom (kept : List ℕ) (n : ℕ) (room : ℕ → ℕ) (need : ℕ) : Type 0 where
   pub uses : ℕ → ℕ
   pub packed : Packed kept n room uses
-  pub total : sumTo n uses ≡ k
+  pub total : sumTo n uses ≡ need
 
 -- b says whether P holds
 pub record Tells (b : Bool) (P : Type 0) : Type 0 where
@@ -69,7 +69,7 @@ pub record Tells (b : Bool) (P : Type 0) : Type 0 where
 -- no packing of kept combinations has more uses than r
 pub record Ceiling (kept : List ℕ) (count : ℕ) (room : ℕ → ℕ) (r : ℕ) : Type 0 where
   pub few : r ≤ maxRoom
-  pub bound : (k : ℕ) → HasRoom kept count room k → k ≤ r
+  pub bound : (need : ℕ) → HasRoom kept count room need → need ≤ r
 
 -- what `amount` of each active segment weighs by the weighting v
 unfoldable pub weight : List ℕ → ℕ → (ℕ → ℕ) → ℕ

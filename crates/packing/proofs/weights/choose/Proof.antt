@@ -45,7 +45,9 @@ loop-less : tie.Need-loop-less Inv-loop μ-loop
 loop-less c = search needs
 
 loop-again : tie.Need-loop-again Inv-loop μ-loop
-loop-again c = ⊎-elim (λ w. omega (arith, ltb-true (c .before .before .before .before .before .before .before .before .before .loop .used) maxChosen (c .before .before .before .before .before .before .before .if1 .taken))) (λ w. omega arith) (c .if2 .came)
+loop-again c =
+    let tested = c .before .before .before .before .before .before .before in
+    ⊎-elim (λ w. omega (arith, ltb-true (tested .before .before .loop .used) maxChosen (tested .if1 .taken))) (λ w. omega arith) (c .if2 .came)
 
 returns : tie.Need-returns Inv-loop μ-loop
 returns c = search needs
