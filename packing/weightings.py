@@ -83,7 +83,9 @@ def rank(masks):
 
 
 def candidates():
-    """All weights, in falling order, and d: the combinations of weight d have full rank over the weights above 0."""
+    """All weights, in falling order, and d: the combinations of weight d have full rank over the weights above 0.
+
+    So each of these weights stands in a combination of weight d, and none is above d."""
     for above in range(1, SEGMENTS + 1):
         for d in range(1, DETERMINANT + 1):
             for weights in combinations_with_replacement(range(d, 0, -1), above):

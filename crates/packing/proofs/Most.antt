@@ -3,9 +3,8 @@ use Prim.Native.Nat.{ℕ, zero, suc, _≤_}
 use mathlib.Core.Path.{_≡_, refl}
 use mathlib.Core.Bool.{Bool, true}
 use native.Mathlib.Omega.{arith}
-use Rattle.search.specs.Find.{Greatest}
 use Rattle.search.proofs.Find.{last-hit, last-max, greatest-unique}
-use Rattle.packing.specs.Packing.{sumTo, Packing, Reached}
+use Rattle.packing.specs.Packing.{sumTo, Packing, Reached, IsMost}
 use Rattle.packing.specs.Most.{mostUses}
 use Rattle.packing.specs.code.Plain.{reach}
 use Rattle.packing.proofs.Plain.{Below, reach-uses, uses-reach}
@@ -41,14 +40,14 @@ module _ (bad : ℕ → Bool) (capacity : ℕ → ℕ) where
   most-above zero l e = omega arith
   most-above (suc n) l e = last-max (λ k. reach bad 64 (suc k) capacity) (sumTo 6 capacity) n l e
 
-  pub most-greatest : Greatest (Reached bad capacity) (mostUses bad capacity)
+  pub most-greatest : IsMost bad capacity (mostUses bad capacity)
   most-greatest = record {
     holds = reached (most-reached (mostUses bad capacity) refl);
     above = λ n r. most-above n (reached-room r) (reaches r);
   }
 
   -- so whatever is the greatest is this number
-  pub most-is : {n : ℕ} → Greatest (Reached bad capacity) n → mostUses bad capacity ≡ n
+  pub most-is : {n : ℕ} → IsMost bad capacity n → mostUses bad capacity ≡ n
   most-is g = greatest-unique most-greatest g
 
   pub most-room : mostUses bad capacity ≤ sumTo 6 capacity

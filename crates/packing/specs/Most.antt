@@ -1,6 +1,6 @@
--- 'The most uses any packing has' as a number, so that contracts can be equalities with it. What it is says the law `most-greatest`
--- (proofs/Most.antt): `IsMost` holds of it, whatever is bad and whatever the capacities. How it is found (`reach`, code/Plain.antt)
--- is for the proofs alone.
+-- 'The most uses any packing has' as a number, so that contracts can be equalities with it. The law `most-greatest` of
+-- proofs/Most.antt says what it is: `IsMost` holds of it, whatever is bad and whatever the capacities. How it is found, by `reach` of
+-- code/Plain.antt, nobody has to believe.
 use Prim.Native.Nat.{ℕ, suc}
 use mathlib.Core.Bool.{Bool}
 use mathlib.Core.List.{List}

@@ -11,7 +11,7 @@ ghost use Rattle.packing.specs.Most.{capacity};
 ghost use Rattle.packing.specs.code.Engine.{weight, weightings, maxChosen, maxWeight, Floor};
 ghost use Rattle.table.specs.Limits.{maxOverloads};
 
-// How many weightings there are.
+// How many weightings there are: packing/weightings.py finds so many.
 const WEIGHTINGS: usize = 975;
 
 const DIGITS: usize = WEIGHTINGS * Table::OVERLOADS;
@@ -24,7 +24,7 @@ pub(crate) const SHARES: usize = CHOSEN * Table::OVERLOADS;
 // The bits of a digit's ASCII code that are its value; so no digit is above it, whatever stands in the table.
 const DIGIT: u8 = 15;
 
-// No combination weighs more.
+// No combination weighs more: it has each active segment once at most.
 pub(crate) const HEAVIEST: u32 = DIGIT as u32 * Table::OVERLOADS as u32;
 
 // The weightings, six digits each, one for each active segment. For any set of combinations, the weights by which each of them

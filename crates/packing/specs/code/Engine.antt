@@ -15,7 +15,7 @@ use Rattle.packing.specs.Most.{flagged}
 abbrev pub maxByte : ℕ
 maxByte = 255
 
--- so many weightings packing/weightings.py finds
+-- how many weightings there are: packing/weightings.py finds so many
 abbrev pub weightings : ℕ
 weightings = 975
 

@@ -1,4 +1,4 @@
--- The plain search by which `mostUses` is a number. Nobody has to believe it: the law `most-greatest` says what `mostUses` is.
+-- The plain search that finds `mostUses`. Nobody has to believe it: the law `most-greatest` says what `mostUses` is.
 use Prim.Native.Nat.{ℕ, zero, suc, _-_}
 use mathlib.Core.Bool.{Bool, true, false, _&&_, _||_}
 use lib.Dec.{ltb, eqb}
