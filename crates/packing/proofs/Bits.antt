@@ -1,17 +1,13 @@
 -- Laws of masks: their bits, and one inside another. Assumes nothing.
 use Prim.Native.Nat.{ℕ, zero, suc, min, _≤_, _<_, _/_, _%_, _^_}
-use mathlib.Core.Path.{_≡_, refl, sym, ap, _∙_}
+use mathlib.Core.Path.{_≡_, sym, ap, _∙_}
 use native.Mathlib.Omega.{arith}
 use native.Mathlib.Nat.{div-one}
 use native.Mathlib.Numerals.{one-add}
 use native.Mathlib.Decide.{decLt}
 use lib.Bits.{bitAnd, and-step, and-shr}
 use lib.Pow.{shr-shr}
-use Rattle.table.specs.Limits.{maxOverloads}
-use Rattle.packing.specs.Packing.{bit, combinations}
-
-pub all-masks : combinations ≡ 2 ^ maxOverloads
-all-masks = refl
+use Rattle.packing.specs.Packing.{bit}
 
 -- the bits of m / 2
 pub bit-suc : (i m : ℕ) → bit (suc i) m ≡ bit i (m / 2)

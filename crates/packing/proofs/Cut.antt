@@ -7,15 +7,15 @@ use mathlib.Core.Logic.{⊎-elim}
 use native.Mathlib.Omega.{arith}
 use native.Mathlib.Nat.{eq-or-lt-of-le, mul-le-mul-left, le-div-iff-mul-le}
 use lib.ListN.{getD}
-use Rattle.packing.specs.Packing.{bit, sum}
-use Rattle.packing.specs.Engine.{nth, weight, Floor, Packed, Ceiling}
-use Rattle.packing.proofs.Sums.{sum-ext}
+use Rattle.packing.specs.Packing.{bit, sumTo}
+use Rattle.packing.specs.code.Engine.{nth, weight, Floor, Packed, Ceiling}
+use Rattle.packing.proofs.Sums.{sumTo-ext}
 use Rattle.packing.proofs.Linear.{all-weigh, each-weighs}
 
 -- a weight goes by the amounts
 pub weight-ext : (shares : List ℕ) (v : ℕ) (a b : ℕ → ℕ) → ((i : ℕ) → i < 6 → a i ≡ b i) → weight shares v a ≡ weight shares v b
 unfolding weight
-weight-ext shares v a b e = sum-ext 6 _ _ (λ i l. ap (λ x. getD shares (v * 6 + i) 0 * x) (e i l))
+weight-ext shares v a b e = sumTo-ext 6 _ _ (λ i l. ap (λ x. getD shares (v * 6 + i) 0 * x) (e i l))
 
 module _ {kept shares : List ℕ} where
   -- of no combinations
@@ -37,7 +37,7 @@ module _ {kept shares : List ℕ} where
 
 -- what the room weighs, for uses u of the first n kept combinations, of which none weighs less than d
 module _ (kept shares : List ℕ) (n v d : ℕ) (f : Floor kept shares n v d) (room u : ℕ → ℕ) where
-  pub weighs-all : Packed kept n room u → d * sum n u ≤ weight shares v room
+  pub weighs-all : Packed kept n room u → d * sumTo n u ≤ weight shares v room
   unfolding weight
   weighs-all p =
       let a = each-weighs n (nth kept) u (λ i. getD shares (v * 6 + i) 0) d (λ j l s. f .least j l) in
@@ -45,8 +45,8 @@ module _ (kept shares : List ℕ) (n v d : ℕ) (f : Floor kept shares n v d) (r
       omega (arith, a, b)
 
   -- and of one more
-  pub weighs-more : Packed kept (suc n) room u → d * sum n u + u n * weight shares v (λ i. bit i (nth kept n)) ≤ weight shares v room
-  unfolding weight sum
+  pub weighs-more : Packed kept (suc n) room u → d * sumTo n u + u n * weight shares v (λ i. bit i (nth kept n)) ≤ weight shares v room
+  unfolding weight sumTo
   weighs-more p =
       let a = each-weighs n (nth kept) u (λ i. getD shares (v * 6 + i) 0) d (λ j l s. f .least j l) in
       let b = all-weigh (suc n) (nth kept) u (λ i. getD shares (v * 6 + i) 0) room (p .within) in
@@ -66,13 +66,13 @@ ceiling-low {kept} {shares} {n} {v} {d} {r} {s} {all} {room} f e some q l c = re
 -- uses of the kept combination `last` that the weight of the room rules out, where the first last + 1 have `need` uses in all
 module _ {kept shares : List ℕ} {last v d w all need : ℕ} {room : ℕ → ℕ} (f : Floor kept shares last v d)
     (e : w ≡ weight shares v (λ i. bit i (nth kept last))) (g : all ≡ weight shares v room) (u : ℕ → ℕ)
-    (p : Packed kept (suc last) room u) (t : sum (suc last) u ≡ need) where
+    (p : Packed kept (suc last) room u) (t : sumTo (suc last) u ≡ need) where
   -- those that come before weigh d each at least
-  weighed : d * sum last u + u last * w ≤ all
+  weighed : d * sumTo last u + u last * w ≤ all
   weighed = rw (e, g) (weighs-more kept shares last v d f room u p)
 
-  together : (sum last u + u last) * d ≡ need * d
-  unfolding sum
+  together : (sumTo last u + u last) * d ≡ need * d
+  unfolding sumTo
   together = ap (λ y. y * d) t
 
   pub cut-none : d ≤ w → all < need * d → ⊥

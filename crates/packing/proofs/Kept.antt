@@ -13,9 +13,9 @@ use lib.Bits.{bitAnd, and-self}
 use borrow.Author.Tests.{eqb-true, eq-eqb}
 use Rattle.search.proofs.Choice.{true-not-false, lt-or-le}
 use Rattle.search.proofs.Find.{first-miss, first-hit}
-use Rattle.packing.specs.Packing.{bit, sum, usable, Reached}
+use Rattle.packing.specs.Packing.{bit, sumTo, usable, Reached}
 use Rattle.packing.specs.Most.{mostUses, flagged}
-use Rattle.packing.specs.Engine.{nth, part, partOf, Kept, HasRoom, Ceiling}
+use Rattle.packing.specs.code.Engine.{nth, keptInside, keptPart, Kept, HasRoom, Ceiling}
 use Rattle.packing.proofs.Bits.{inside-bits}
 use Rattle.packing.proofs.Linear.{usable-some}
 use Rattle.packing.proofs.Most.{most-is, reached-room}
@@ -23,18 +23,18 @@ use Rattle.packing.proofs.Carry.{turned, turned-some, turned-sum, turne
 use Rattle.packing.proofs.Laws.{usable-bad, bad-usable, used-mono}
 
 -- a kept part is found
-part-found : (kept : List ℕ) (count x j : ℕ) → j < count → part kept x j ≡ true → partOf kept count x < count
+part-found : (kept : List ℕ) (count x j : ℕ) → j < count → keptInside kept x j ≡ true → keptPart kept count x < count
 part-found kept count x j l e = ⊎-elim
     (λ h. h)
-    (λ h. absurd (true-not-false e (first-miss (part kept x) 0 count j (omega arith) (omega arith))))
-    (lt-or-le (partOf kept count x) count)
+    (λ h. absurd (true-not-false e (first-miss (keptInside kept x) 0 count j (omega arith) (omega arith))))
+    (lt-or-le (keptPart kept count x) count)
 
 -- the kept part that is found
-part-is : (kept : List ℕ) (count x : ℕ) → partOf kept count x < count → part kept x (partOf kept count x) ≡ true
-part-is kept count x h = first-hit (part kept x) 0 count (omega arith)
+part-is : (kept : List ℕ) (count x : ℕ) → keptPart kept count x < count → keptInside kept x (keptPart kept count x) ≡ true
+part-is kept count x h = first-hit (keptInside kept x) 0 count (omega arith)
 
-part-inside : (kept : List ℕ) (count x : ℕ) → partOf kept count x < count → (i : ℕ) → bit i (nth kept (partOf kept count x)) ≤ bit i x
-part-inside kept count x h = inside-bits (nth kept (partOf kept count x)) x (eqb-true _ _ (part-is kept count x h))
+part-inside : (kept : List ℕ) (count x : ℕ) → keptPart kept count x < count → (i : ℕ) → bit i (nth kept (keptPart kept count x)) ≤ bit i x
+part-inside kept count x h = inside-bits (nth kept (keptPart kept count x)) x (eqb-true _ _ (part-is kept count x h))
 
 pub kept-start : (bad kept : List ℕ) → length kept ≡ 64 → Kept bad kept 0 1
 kept-start bad kept size = record {
@@ -47,14 +47,14 @@ kept-start bad kept size = record {
 
 module _ {bad kept : List ℕ} {count m : ℕ} (k : Kept bad kept count m) (l : m < 64) where
   -- m is not kept: it is not bad, or it has a kept part
-  kept-on : (usable (flagged bad) m ≡ true → partOf kept count m < count) → Kept bad kept count (m + 1)
+  kept-on : (usable (flagged bad) m ≡ true → keptPart kept count m < count) → Kept bad kept count (m + 1)
   kept-on h = record {
     few = omega (arith, k .few);
     below = omega arith;
     size = k .size;
     bads = k .bads;
     parts = λ x s u. ⊎-elim
-        (λ e. subst (λ y. partOf kept count y < count) (sym e) (h (ap (usable (flagged bad)) (sym e) ∙ u)))
+        (λ e. subst (λ y. keptPart kept count y < count) (sym e) (h (ap (usable (flagged bad)) (sym e) ∙ u)))
         (λ t. k .parts x t u)
         (eq-or-lt-of-le (let t : x ≤ m = omega arith in t));
   }
@@ -62,7 +62,7 @@ module _ {bad kept : List ℕ} {count m : ℕ} (k : Kept bad kept count m) (l : 
   pub kept-good : flagged bad m ≡ false → Kept bad kept count (m + 1)
   kept-good e = kept-on (λ u. absurd (true-not-false (usable-bad (flagged bad) m u) e))
 
-  pub kept-held : partOf kept count m < count → Kept bad kept count (m + 1)
+  pub kept-held : keptPart kept count m < count → Kept bad kept count (m + 1)
   kept-held h = kept-on (λ u. h)
 
   -- m is kept
@@ -82,10 +82,10 @@ module _ {bad kept : List ℕ} {count m : ℕ} (k : Kept bad kept count m) (l : 
             (λ q. subst (λ y. (y < 64) × (usable (flagged bad) y ≡ true)) (sym (other j q)) (k .bads j q))
             (eq-or-lt-of-le (let t : j ≤ count = omega arith in t));
         parts = λ x s u. ⊎-elim
-            (λ q. subst (λ y. partOf (set kept count m) (count + 1) y < count + 1) (sym q) (part-found (set kept count m) (count + 1) m count (omega arith) (rw at-count (eq-eqb (bitAnd m m) m (and-self m)))))
+            (λ q. subst (λ y. keptPart (set kept count m) (count + 1) y < count + 1) (sym q) (part-found (set kept count m) (count + 1) m count (omega arith) (rw at-count (eq-eqb (bitAnd m m) m (and-self m)))))
             (λ q.
             let p = k .parts x q u in
-            let j = partOf kept count x in
+            let j = keptPart kept count x in
             part-found (set kept count m) (count + 1) x j (omega arith) (rw (other j p) (part-is kept count x p)))
             (eq-or-lt-of-le (let t : x ≤ m = omega arith in t));
       }
@@ -110,7 +110,7 @@ module _ {bad kept : List ℕ} {count : ℕ} (k : Kept bad kept count 64) {room 
   pub reached-kept : Reached (flagged bad) room n → HasRoom kept count room n
   reached-kept r =
       let u = r .uses in
-      let p = partOf kept count in
+      let p = keptPart kept count in
       let inside : (x : ℕ) → x < 64 → 0 < u x → p x < count = λ x l s. k .parts x l (r .packing .only x l s) in
       record {
         uses = turned 64 p u;
@@ -125,5 +125,5 @@ module _ {bad kept : List ℕ} {count : ℕ} (k : Kept bad kept count 64) {room 
   pub kept-most : Ceiling kept count room n → HasRoom kept count room n → n ≡ mostUses (flagged bad) room
   kept-most c h = sym (most-is (flagged bad) room record { holds = kept-reached k h; above = λ m r. c .bound m (reached-kept k r) })
 
-  pub kept-room : HasRoom kept count room n → n ≤ sum 6 room
+  pub kept-room : HasRoom kept count room n → n ≤ sumTo 6 room
   kept-room h = reached-room (flagged bad) room (kept-reached k h)

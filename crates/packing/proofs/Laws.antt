@@ -1,19 +1,17 @@
 -- What callers go by: the most uses hang only on which combinations are bad, the empty one apart, and on the capacities; they
--- never fall where more is bad or there is more room; they are 0 where nothing is bad; and renumbering the active segments moves
--- nothing. Assumes nothing.
+-- never fall where more is bad or there is more room; and renumbering the active segments moves nothing. Assumes nothing.
 use Prim.Native.Nat.{ℕ, zero, suc, _*_, _≤_, _<_}
 use mathlib.Core.Path.{_≡_, sym, _∙_}
-use mathlib.Core.Bool.{Bool, true, false}
+use mathlib.Core.Bool.{Bool, true}
 use mathlib.Core.Logic.{_⊎_, ⊎-elim}
 use native.Mathlib.Omega.{arith}
 use native.Mathlib.Nat.{mul-le-mul-left}
 use borrow.Author.Tests.{lt-ltb}
-use Rattle.search.proofs.Choice.{true-not-false, lt-or-le}
-use Rattle.packing.specs.Packing.{bit, sum, usable, Packing}
+use Rattle.packing.specs.Packing.{bit, sumTo, usable, Packing}
 use Rattle.packing.specs.Most.{mostUses}
-use Rattle.packing.proofs.Sums.{sum-mono, sum-zero, sum-bound, sum-some}
+use Rattle.packing.proofs.Sums.{sumTo-mono, sumTo-zero, sumTo-bound}
 use Rattle.packing.proofs.Linear.{usable-some}
-use Rattle.packing.proofs.Most.{most-greatest, most-room}
+use Rattle.packing.proofs.Most.{most-room}
 use Rattle.packing.proofs.Carry.{carries-most}
 
 pub usable-bad : (bad : ℕ → Bool) (m : ℕ) → usable bad m ≡ true → bad m ≡ true
@@ -23,8 +21,8 @@ pub bad-usable : (bad : ℕ → Bool) (m : ℕ) → 0 < m → bad m ≡ true →
 bad-usable bad m h e = rw (lt-ltb 0 m h) e
 
 -- what no use takes more of, no packing does
-pub used-mono : (u f g : ℕ → ℕ) → ((m : ℕ) → m < 64 → 0 < u m → f m ≤ g m) → sum 64 (λ m. u m * f m) ≤ sum 64 (λ m. u m * g m)
-used-mono u f g h = sum-mono 64 (λ m. u m * f m) (λ m. u m * g m) (λ m l. times (u m) (f m) (g m) (h m l))
+pub used-mono : (u f g : ℕ → ℕ) → ((m : ℕ) → m < 64 → 0 < u m → f m ≤ g m) → sumTo 64 (λ m. u m * f m) ≤ sumTo 64 (λ m. u m * g m)
+used-mono u f g h = sumTo-mono 64 (λ m. u m * f m) (λ m. u m * g m) (λ m l. times (u m) (f m) (g m) (h m l))
   where
     times : (v x y : ℕ) → (0 < v → x ≤ y) → v * x ≤ v * y
     times zero x y h = omega arith
@@ -32,7 +30,7 @@ used-mono u f g h = sum-mono 64 (λ m. u m * f m) (λ m. u m * g m) (λ m l. tim
 
 -- uses that are turned into uses of parts need no more room
 parts-room : (bad : ℕ → Bool) (room more turn : ℕ → ℕ) → ((m : ℕ) → m < 64 → usable bad m ≡ true → (i : ℕ) → bit i (turn m) ≤ bit i m)
-    → ((i : ℕ) → i < 6 → room i ≤ more i) → (u : ℕ → ℕ) → Packing bad room u → (i : ℕ) → i < 6 → sum 64 (λ m. u m * bit i (turn m)) ≤ more i
+    → ((i : ℕ) → i < 6 → room i ≤ more i) → (u : ℕ → ℕ) → Packing bad room u → (i : ℕ) → i < 6 → sumTo 64 (λ m. u m * bit i (turn m)) ≤ more i
 parts-room bad room more turn parts wider u p i l =
     omega (arith, used-mono u (λ m. bit i (turn m)) (bit i) (λ m s h. parts m s (p .only m s h) i), p .within i l, wider i l)
 
@@ -52,20 +50,9 @@ most-same bad other room rest h e =
     let b : mostUses other rest ≤ mostUses bad room = most-rises other bad rest room (λ m s l b. h m s l ∙ b) (λ i l. omega (arith, e i l)) in
     omega arith
 
-pub most-none : (bad : ℕ → Bool) (room : ℕ → ℕ) → ((m : ℕ) → 0 < m → m < 64 → bad m ≡ false) → mostUses bad room ≡ 0
-most-none bad room h =
-    let r = most-greatest bad room .holds in
-    ⊎-elim
-    (λ l.
-    let s = sum-some 64 (r .uses) l in
-    let u = r .packing .only (s .0) (s .1) (s .2) in
-    absurd (true-not-false (usable-bad bad (s .0) u) (h (s .0) (usable-some bad (s .0) u) (s .1))))
-    (λ l. omega (arith, r .total))
-    (lt-or-le 0 (sum 64 (r .uses)))
-
 -- with capacities up to c
 pub most-bound : (bad : ℕ → Bool) (room : ℕ → ℕ) (c : ℕ) → ((i : ℕ) → i < 6 → room i ≤ c) → mostUses bad room ≤ 6 * c
-most-bound bad room c h = omega (arith, most-room bad room, sum-bound 6 c room h)
+most-bound bad room c h = omega (arith, most-room bad room, sumTo-bound 6 c room h)
 
 -- the active segment i after a renumbering: it was the active segment j, whose capacity is no more, or no combination has it
 abbrev pub Renumbered : (bad : ℕ → Bool) (room rest turn : ℕ → ℕ) → ℕ → Type 0
@@ -87,7 +74,7 @@ renumbers-most {bad} {other} {room} {rest} r = carries-most record {
   bads = r .bads;
   within = λ u p i l. ⊎-elim
       (λ s. omega (arith, used-mono u (λ m. bit i (r .turn m)) (bit (s .0)) (λ m k h. s .3 m k (p .only m k h)), p .within (s .0) (s .1), s .2))
-      (λ z. omega (arith, used-mono u (λ m. bit i (r .turn m)) (λ m. 0) (λ m k h. omega (arith, z m k (p .only m k h))), sum-zero 64 (λ m. u m * 0) (λ m k. omega arith)))
+      (λ z. omega (arith, used-mono u (λ m. bit i (r .turn m)) (λ m. 0) (λ m k h. omega (arith, z m k (p .only m k h))), sumTo-zero 64 (λ m. u m * 0) (λ m k. omega arith)))
       (r .segments i l);
 }
 

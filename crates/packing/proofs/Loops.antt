@@ -1,5 +1,5 @@
 -- Three kinds of loop, each with its invariant: a search for the first number that passes, a list filled from the front, and a
--- sum. Assumes nothing.
+-- sumTo. Assumes nothing.
 use Prim.Native.Nat.{ℕ, _+_, _*_, _≤_, _<_}
 use mathlib.Core.Path.{_≡_, refl, sym, _∙_}
 use mathlib.Core.Bool.{Bool, true, false}
@@ -11,8 +11,8 @@ use lib.Seq.{getD-set-same, getD-set-other}
 use Rattle.search.specs.Find.{first}
 use Rattle.search.proofs.Choice.{true-not-false}
 use Rattle.search.proofs.Find.{first-is, first-none}
-use Rattle.packing.specs.Packing.{sum}
-use Rattle.packing.proofs.Sums.{sum-more}
+use Rattle.packing.specs.Packing.{sumTo}
+use Rattle.packing.proofs.Sums.{sumTo-more}
 
 -- none of s, s + 1, .., i - 1 passes
 pub record Passed (p : ℕ → Bool) (s n i : ℕ) : Type 0 where
@@ -55,16 +55,16 @@ filled-on {P} {n} {i} {v} {out} f l h =
 -- the terms before i are added up, none above `most`
 pub record Added (f : ℕ → ℕ) (most n i s : ℕ) : Type 0 where
   pub to : i ≤ n
-  pub is : s ≡ sum i f
+  pub is : s ≡ sumTo i f
   pub small : s ≤ i * most
 
 pub added-start : (f : ℕ → ℕ) (most n : ℕ) → Added f most n 0 0
-unfolding sum
+unfolding sumTo
 added-start f most n = record { to = omega arith; is = refl; small = omega arith }
 
 module _ {f : ℕ → ℕ} {most n i s : ℕ} (a : Added f most n i s) where
   pub added-on : {x : ℕ} → i < n → x ≡ f i → x ≤ most → Added f most n (i + 1) (s + x)
-  added-on {x} l e h = record { to = omega arith; is = sum-more f i s x (a .is) e; small = omega (arith, a .small) }
+  added-on {x} l e h = record { to = omega arith; is = sumTo-more f i s x (a .is) e; small = omega (arith, a .small) }
 
-  pub added-end : n ≤ i → (s ≡ sum n f) × (s ≤ n * most)
+  pub added-end : n ≤ i → (s ≡ sumTo n f) × (s ≤ n * most)
   added-end l = let e : i ≡ n = omega (arith, a .to) in (rw (← e) (a .is), rw (← e) (a .small))

@@ -12,19 +12,19 @@ use Rattle.search.proofs.Choice.{true-not-false, lt-or-le, when-yes, when-no, w
 use Rattle.search.specs.Find.{first}
 use Rattle.search.specs.Choice.{_when_else_}
 use Rattle.search.proofs.Find.{first-miss, first-none}
-use Rattle.packing.specs.Packing.{bit, sum, usable}
-use Rattle.packing.specs.Most.{lacks, fits, less, reach}
-use Rattle.packing.proofs.Sums.{is, is-other, sum-add, sum-is, sum-ext, sum-zero}
+use Rattle.packing.specs.Packing.{bit, sumTo, usable}
+use Rattle.packing.specs.code.Plain.{lacks, fits, less, reach}
+use Rattle.packing.proofs.Sums.{is, is-other, sumTo-add, sumTo-is, sumTo-ext, sumTo-zero}
 
 -- a packing of the bad combinations below n
 pub record Below (bad : ℕ → Bool) (n : ℕ) (room uses : ℕ → ℕ) : Type 0 where
   pub only : (m : ℕ) → m < n → 0 < uses m → usable bad m ≡ true
-  pub within : (i : ℕ) → i < 6 → sum n (λ m. uses m * bit i m) ≤ room i
+  pub within : (i : ℕ) → i < 6 → sumTo n (λ m. uses m * bit i m) ≤ room i
 
 pub record Uses (bad : ℕ → Bool) (n : ℕ) (room : ℕ → ℕ) (k : ℕ) : Type 0 where
   pub uses : ℕ → ℕ
   pub packing : Below bad n room uses
-  pub total : sum n uses ≡ k
+  pub total : sumTo n uses ≡ k
 
 -- each active segment of m has room
 pub fits-room : (m : ℕ) (room : ℕ → ℕ) → fits m room ≡ true → (i : ℕ) → i < 6 → bit i m ≤ room i
@@ -39,15 +39,15 @@ room-fits m room h = eq-eqb _ 6 (first-none (lacks m room) 0 6 (λ i a b e. omeg
 abbrev more : ℕ → (ℕ → ℕ) → ℕ → ℕ
 more m u x = is m x + u x
 
-more-sum : (n m : ℕ) (u g : ℕ → ℕ) → m < n → sum n (λ x. more m u x * g x) ≡ g m + sum n (λ x. u x * g x)
+more-sum : (n m : ℕ) (u g : ℕ → ℕ) → m < n → sumTo n (λ x. more m u x * g x) ≡ g m + sumTo n (λ x. u x * g x)
 more-sum n m u g h =
-    sum-ext n (λ x. more m u x * g x) (λ x. is m x * g x + u x * g x) (λ x l. omega arith)
-    ∙ sum-add n (λ x. is m x * g x) (λ x. u x * g x) ∙ ap (λ s. s + sum n (λ x. u x * g x)) (sum-is n m g h)
+    sumTo-ext n (λ x. more m u x * g x) (λ x. is m x * g x + u x * g x) (λ x l. omega arith)
+    ∙ sumTo-add n (λ x. is m x * g x) (λ x. u x * g x) ∙ ap (λ s. s + sumTo n (λ x. u x * g x)) (sumTo-is n m g h)
 
-by-one : (n : ℕ) (u : ℕ → ℕ) → sum n u ≡ sum n (λ x. u x * 1)
-by-one n u = sum-ext n u (λ x. u x * 1) (λ x l. omega arith)
+by-one : (n : ℕ) (u : ℕ → ℕ) → sumTo n u ≡ sumTo n (λ x. u x * 1)
+by-one n u = sumTo-ext n u (λ x. u x * 1) (λ x l. omega arith)
 
-more-total : (n m : ℕ) (u : ℕ → ℕ) → m < n → sum n (more m u) ≡ suc (sum n u)
+more-total : (n m : ℕ) (u : ℕ → ℕ) → m < n → sumTo n (more m u) ≡ suc (sumTo n u)
 more-total n m u h = omega (arith, by-one n (more m u), more-sum n m u (λ x. 1) h, by-one n u)
 
 or-cases : (a b : Bool) → (a || b) ≡ true → (a ≡ true) ⊎ (b ≡ true)
@@ -86,7 +86,7 @@ without-other m u x l = when-no 0 (u x) (ne-eqb m x (λ e. omega arith))
 module _ (bad : ℕ → Bool) (m : ℕ) (room : ℕ → ℕ) where
   -- a packing of the combinations below m is one of those below m + 1 that does not use m
   idle : {k : ℕ} → Uses bad m room k → Uses bad (suc m) room k
-  unfolding sum
+  unfolding sumTo
   idle p =
       let u = p .uses in
       let z = without-at m u in
@@ -94,9 +94,9 @@ module _ (bad : ℕ → Bool) (m : ℕ) (room : ℕ → ℕ) where
         uses = without m u;
         packing = record {
           only = λ x l h. ⊎-elim (λ e. absurd (omega (arith, h, ap (without m u) e))) (λ s. p .packing .only x s (omega (arith, h, without-other m u x s))) (eq-or-lt-of-le (le-of-suc-le-suc l));
-          within = λ i l. rw z (omega (arith, p .packing .within i l, sum-ext m (λ x. without m u x * bit i x) (λ x. u x * bit i x) (λ x s. ap (λ y. y * bit i x) (without-other m u x s))));
+          within = λ i l. rw z (omega (arith, p .packing .within i l, sumTo-ext m (λ x. without m u x * bit i x) (λ x. u x * bit i x) (λ x s. ap (λ y. y * bit i x) (without-other m u x s))));
         };
-        total = omega (arith, p .total, sum-ext m (without m u) u (without-other m u));
+        total = omega (arith, p .total, sumTo-ext m (without m u) u (without-other m u));
       }
 
   -- one use more of m, where it has room
@@ -121,8 +121,8 @@ module _ (bad : ℕ → Bool) (m : ℕ) (room : ℕ → ℕ) where
 pub reach-uses : (bad : ℕ → Bool) (n k : ℕ) (room : ℕ → ℕ) → reach bad n k room ≡ true → Uses bad n room k
 reach-uses bad n zero room e = record {
   uses = λ m. 0;
-  packing = record { only = λ m l h. absurd (omega arith); within = λ i l. omega (arith, sum-zero n (λ m. 0 * bit i m) (λ m s. omega arith)) };
-  total = sum-zero n (λ m. 0) (λ m s. refl);
+  packing = record { only = λ m l h. absurd (omega arith); within = λ i l. omega (arith, sumTo-zero n (λ m. 0 * bit i m) (λ m s. omega arith)) };
+  total = sumTo-zero n (λ m. 0) (λ m s. refl);
 }
 reach-uses bad zero (suc k) room e = absurd (true-not-false e (reach-end bad k room))
 reach-uses bad (suc m) (suc k) room e =
@@ -135,13 +135,13 @@ fewer m u x = u x - is m x
 restored : (m : ℕ) (u : ℕ → ℕ) → 0 < u m → (x : ℕ) → more m (fewer m u) x ≡ u x
 restored m u h x = when-cases (λ r. r + (u x - r) ≡ u x) (eqb m x) (λ e. omega (arith, ap u (eqb-true m x e))) (λ e. omega arith)
 
-restored-sum : (n m : ℕ) (u g : ℕ → ℕ) → m < n → 0 < u m → sum n (λ x. u x * g x) ≡ g m + sum n (λ x. fewer m u x * g x)
+restored-sum : (n m : ℕ) (u g : ℕ → ℕ) → m < n → 0 < u m → sumTo n (λ x. u x * g x) ≡ g m + sumTo n (λ x. fewer m u x * g x)
 restored-sum n m u g l h =
-    sum-ext n (λ x. u x * g x) (λ x. more m (fewer m u) x * g x) (λ x s. ap (λ y. y * g x) (sym (restored m u h x))) ∙ more-sum n m (fewer m u) g l
+    sumTo-ext n (λ x. u x * g x) (λ x. more m (fewer m u) x * g x) (λ x s. ap (λ y. y * g x) (sym (restored m u h x))) ∙ more-sum n m (fewer m u) g l
 
 module _ (bad : ℕ → Bool) (m : ℕ) (room u : ℕ → ℕ) (p : Below bad (suc m) room u) where
   lower : Below bad m room u
-  unfolding sum
+  unfolding sumTo
   lower = record { only = λ x l. p .only x (omega arith); within = λ i l. omega (arith, p .within i l) }
 
   -- a combination that is used has room
@@ -154,7 +154,7 @@ module _ (bad : ℕ → Bool) (m : ℕ) (room u : ℕ → ℕ) (p : Below bad (s
     within = λ i l. omega (arith, p .within i l, restored-sum (suc m) m u (bit i) (omega arith) h);
   }
 
-  taken-total : (k : ℕ) → 0 < u m → sum (suc m) u ≡ suc k → sum (suc m) (fewer m u) ≡ k
+  taken-total : (k : ℕ) → 0 < u m → sumTo (suc m) u ≡ suc k → sumTo (suc m) (fewer m u) ≡ k
   taken-total k h e = omega (arith, by-one (suc m) u, restored-sum (suc m) m u (λ x. 1) (omega arith) h, by-one (suc m) (fewer m u))
 
   step-reach : (k : ℕ) → (reach bad m (suc k) room ≡ true) ⊎ ((usable bad m ≡ true) × (fits m room ≡ true) × (reach bad (suc m) k (less m room) ≡ true))
@@ -164,8 +164,8 @@ module _ (bad : ℕ → Bool) (m : ℕ) (room u : ℕ → ℕ) (p : Below bad (s
   step-reach k (inl h) true g true e = reach-use bad m k room g e ∙ rw (h, or-true (reach bad (suc m) k (less m room)))
   step-reach k (inr h) v g f e = reach-use bad m k room (h .0) (h .1) ∙ rw (h .2)
 
-pub uses-reach : (bad : ℕ → Bool) (n k : ℕ) (room u : ℕ → ℕ) → Below bad n room u → sum n u ≡ k → reach bad n k room ≡ true
-unfolding reach sum
+pub uses-reach : (bad : ℕ → Bool) (n k : ℕ) (room u : ℕ → ℕ) → Below bad n room u → sumTo n u ≡ k → reach bad n k room ≡ true
+unfolding reach sumTo
 uses-reach bad n zero room u p e = refl
 uses-reach bad zero (suc k) room u p e = absurd (omega arith)
 uses-reach bad (suc m) (suc k) room u p e =

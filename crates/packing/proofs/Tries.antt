@@ -10,16 +10,16 @@ use lib.Dec.{eqb}
 use borrow.Author.Tests.{eq-eqb, ne-eqb}
 use Rattle.search.specs.Choice.{_when_else_}
 use Rattle.search.proofs.Choice.{when-yes, when-no, true-not-false}
-use Rattle.packing.specs.Packing.{bit, sum}
-use Rattle.packing.specs.Engine.{nth, Fitting, Packed, HasRoom, Tells, Ceiling, Choices}
-use Rattle.packing.proofs.Sums.{sum-ext, sum-zero, sum-at}
+use Rattle.packing.specs.Packing.{bit, sumTo}
+use Rattle.packing.specs.code.Engine.{nth, Fitting, Packed, HasRoom, Tells, Ceiling, Choices}
+use Rattle.packing.proofs.Sums.{sumTo-ext, sumTo-zero, sumTo-at}
 
 -- no use always has room
 pub none-fit : (kept : List ℕ) (n : ℕ) (room : ℕ → ℕ) → HasRoom kept n room 0
 none-fit kept n room = record {
   uses = λ j. 0;
-  packed = record { within = λ i l. omega (arith, sum-zero n (λ j. 0 * bit i (nth kept j)) (λ j s. omega arith)) };
-  total = sum-zero n (λ j. 0) (λ j s. refl);
+  packed = record { within = λ i l. omega (arith, sumTo-zero n (λ j. 0 * bit i (nth kept j)) (λ j s. omega arith)) };
+  total = sumTo-zero n (λ j. 0) (λ j s. refl);
 }
 
 -- so what has no room is some use
@@ -29,7 +29,7 @@ some-fit (suc k) h = omega arith
 
 -- no combination has no use
 pub empty-fit : {kept : List ℕ} {n k : ℕ} {room : ℕ → ℕ} → n ≡ 0 → HasRoom kept n room k → k ≡ 0
-unfolding sum
+unfolding sumTo
 empty-fit e g = let h = rw e at g in omega (arith, h .total)
 
 pub tells-so : {P : Type 0} → P → Tells true P
@@ -62,25 +62,25 @@ module _ {m : ℕ} {room : ℕ → ℕ} {need : ℕ} where
 
 -- what a packing uses of a kept combination has room
 own-room : {kept : List ℕ} {n : ℕ} {room : ℕ → ℕ} (j : ℕ) (u : ℕ → ℕ) → Packed kept n room u → j < n → (i : ℕ) → i < 6 → u j * bit i (nth kept j) ≤ room i
-own-room {kept} {n} j u p s i l = omega (arith, p .within i l, sum-at n (λ x. u x * bit i (nth kept x)) j s)
+own-room {kept} {n} j u p s i l = omega (arith, p .within i l, sumTo-at n (λ x. u x * bit i (nth kept x)) j s)
 
 module _ {kept : List ℕ} {last : ℕ} {room : ℕ → ℕ} {need : ℕ} where
   pub choices-start : {r : ℕ} → Fitting (nth kept last) room need 6 r → Choices kept last room need (r + 1)
   choices-start {r} f = record {
     few = omega (arith, f .few);
     enough = λ y s i l. let h : y ≤ r = omega arith in omega (arith, f .enough i l, mul-le-mul-right (bit i (nth kept last)) h);
-    fewer = λ u p t. omega (arith, f .most (u last) (omega (arith, t, sum-at (suc last) u last (omega arith))) (own-room last u p (omega arith)));
+    fewer = λ u p t. omega (arith, f .most (u last) (omega (arith, t, sumTo-at (suc last) u last (omega arith))) (own-room last u p (omega arith)));
   }
 
   -- fewer come into question
-  pub choices-less : {x r : ℕ} → r ≤ x → ((u : ℕ → ℕ) → Packed kept (suc last) room u → sum (suc last) u ≡ need → u last < r)
+  pub choices-less : {x r : ℕ} → r ≤ x → ((u : ℕ → ℕ) → Packed kept (suc last) room u → sumTo (suc last) u ≡ need → u last < r)
       → Choices kept last room need x → Choices kept last room need r
   choices-less l h c = record { few = omega (arith, c .few); enough = λ y s. c .enough y (omega arith); fewer = h }
 
   -- x - 1 uses were tried, and there is no room for the rest: r is one less at most
   pub choices-tried : {x r : ℕ} (left : ℕ → ℕ) → r ≤ x → x ≤ r + 1 → ((i : ℕ) → i < 6 → left i ≡ room i - (x - 1) * bit i (nth kept last))
       → (HasRoom kept last left (need - (x - 1)) → ⊥) → Choices kept last room need x → Choices kept last room need r
-  unfolding sum
+  unfolding sumTo
   choices-tried {x} {r} left less one e none c = choices-less less
       (λ u p t. ⊎-elim
       (λ q. absurd (none record {
@@ -99,14 +99,14 @@ module _ {kept : List ℕ} {last : ℕ} {room : ℕ → ℕ} {need : ℕ} where
   -- there is room for the rest
   pub choices-found : {n : ℕ} (y : ℕ) (left : ℕ → ℕ) → n ≡ suc last → y ≤ need → ((i : ℕ) → i < 6 → y * bit i (nth kept last) ≤ room i)
       → ((i : ℕ) → i < 6 → left i ≡ room i - y * bit i (nth kept last)) → HasRoom kept last left (need - y) → HasRoom kept n room need
-  unfolding sum
+  unfolding sumTo
   choices-found y left size few enough e h =
       rw size record {
         uses = uses;
         packed = record {
-          within = λ i l. omega (arith, h .packed .within i l, e i l, enough i l, ap (λ z. z * bit i (nth kept last)) at-last, sum-ext last (λ j. uses j * bit i (nth kept j)) (λ j. h .uses j * bit i (nth kept j)) (λ j s. ap (λ z. z * bit i (nth kept j)) (before j s)));
+          within = λ i l. omega (arith, h .packed .within i l, e i l, enough i l, ap (λ z. z * bit i (nth kept last)) at-last, rest i);
         };
-        total = omega (arith, h .total, at-last, sum-ext last uses (h .uses) before);
+        total = omega (arith, h .total, at-last, sumTo-ext last uses (h .uses) before);
       }
     where
       uses : ℕ → ℕ
@@ -117,3 +117,6 @@ module _ {kept : List ℕ} {last : ℕ} {room : ℕ → ℕ} {need : ℕ} where
 
       before : (j : ℕ) → j < last → uses j ≡ h .uses j
       before j s = when-no y (h .uses j) (ne-eqb last j (λ q. omega arith))
+
+      rest : (i : ℕ) → sumTo last (λ j. uses j * bit i (nth kept j)) ≡ sumTo last (λ j. h .uses j * bit i (nth kept j))
+      rest i = sumTo-ext last _ _ (λ j s. ap (λ z. z * bit i (nth kept j)) (before j s))

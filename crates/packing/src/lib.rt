@@ -1,32 +1,50 @@
 // Packings (document 01, 'Misses'): how often bad combinations can be used at most, no active segment beyond its capacity.
+//
+// How it is found:
+// 1. Only the smallest bad combinations are kept, those with no other bad one in them: wherever a larger one is used, the smaller one
+//    can be used in its place, and takes less room.
+// 2. Weights give a bound. Let each active segment weigh something. What is used weighs no more than all the room there is; so where
+//    each kept combination weighs d at least, there are no more uses than the room's weight divided by d. Some weights bound well for
+//    some combinations: a table has them, and those that may be the best ones here are chosen from it once (`weights`).
+// 3. The least of these bounds is tried first, then one use less, and so on: the first number of uses that have room is the answer.
+// 4. Whether so many uses have room: the last kept combination is used as often as nothing rules out, then once less, and so on, and
+//    the rest of the uses is left to the combinations before it. Its own room and the weights rule uses out.
+// Weights are sound whatever they are: a wrong digit in the table, or a bad choice, costs time and never changes the answer.
 mod masks;
 mod weights;
 
+pub use masks::has;
 ghost use mathlib.Core.Path.{_≡_};
-ghost use Prim.Native.Nat.{_+_, _≤_, _<_};
-ghost use Rattle.packing.specs.Packing.{sum, combinations};
+ghost use Prim.Native.Nat.{_≤_, _<_};
+ghost use Rattle.packing.specs.Packing.{sumTo, combinations};
 ghost use Rattle.packing.specs.Most.{mostUses, flagged, capacity};
-ghost use Rattle.packing.specs.Engine.{HasRoom, Tells, Ceiling, Choices, maxRoom, maxChosen, maxWeight};
+ghost use Rattle.packing.specs.code.Engine.{HasRoom, Tells, Ceiling, Choices, maxRoom, maxChosen, maxWeight};
 ghost use Rattle.table.specs.Limits.{maxOverloads};
 use table::Table;
 
 // The masks of as many bits as there may be active segments.
 pub const COMBINATIONS: usize = 1 << Table::OVERLOADS;
 
+// `need` uses of the kept combinations up to the one at `last`.
+struct Wanted {
+    last: usize,
+    need: u32,
+}
+
 // All the room there is.
 fn total(room: &[u8; Table::OVERLOADS]) -> u32
-    ensures { λ r. ⌜ (r ≡ sum maxOverloads (capacity (now (room .entry)))) × (r ≤ maxRoom) ⌝ }
+    ensures { λ r. ⌜ (r ≡ sumTo maxOverloads (capacity (now (room .entry)))) × (r ≤ maxRoom) ⌝ }
 {
     let mut all: u32 = 0;
     let mut i: usize = 0;
     while i < Table::OVERLOADS {
-        all += weights::wide(room[i]);
+        all += weights::u32_from_u8(room[i]);
         i += 1;
     }
     all
 }
 
-// What the weighting v leaves of the bound r.
+// What the weighting v leaves of the bound r: still a bound.
 fn lower_ceiling(
     kept: &[usize; COMBINATIONS],
     count: usize,
@@ -35,14 +53,14 @@ fn lower_ceiling(
     room: &[u8; Table::OVERLOADS],
     r: u32,
 ) -> u32
-    requires { ⌜ (count ≤ combinations) × (v < maxChosen) ⌝ }
-    ensures { λ s. ⌜ (Ceiling (now (kept .entry)) count (capacity (now (room .entry))) r → Ceiling (now (kept .entry)) count (capacity (now (room .entry))) s) ⌝ }
+    requires { ⌜ (count ≤ combinations) × (v < maxChosen) × Ceiling (now kept) count (capacity (now room)) r ⌝ }
+    ensures { λ s. ⌜ Ceiling (now (kept .entry)) count (capacity (now (room .entry))) s ⌝ }
 {
     if r == 0 {
         return r;
     }
     let all = weights::weigh(shares, v, room);
-    let d = weights::floor(kept, count, shares, v, 255, all / r);
+    let d = weights::floor(kept, count, shares, v, weights::HEAVIEST, all / r);
     if d == 0 {
         return r;
     }
@@ -50,7 +68,7 @@ fn lower_ceiling(
     if most < r { most } else { r }
 }
 
-// The linear bound, no more than `all`: no packing of the kept combinations has more uses, if none has more than `all`.
+// The linear bound: no packing of the kept combinations has more uses, where none has more than `all`.
 fn ceiling(
     kept: &[usize; COMBINATIONS],
     count: usize,
@@ -59,8 +77,8 @@ fn ceiling(
     room: &[u8; Table::OVERLOADS],
     all: u32,
 ) -> u32
-    requires { ⌜ (count ≤ combinations) × (used ≤ maxChosen) ⌝ }
-    ensures { λ r. ⌜ (Ceiling (now (kept .entry)) count (capacity (now (room .entry))) all → Ceiling (now (kept .entry)) count (capacity (now (room .entry))) r) ⌝ }
+    requires { ⌜ (count ≤ combinations) × (used ≤ maxChosen) × Ceiling (now kept) count (capacity (now room)) all ⌝ }
+    ensures { λ r. ⌜ Ceiling (now (kept .entry)) count (capacity (now (room .entry))) r ⌝ }
 {
     let mut r = all;
     let mut v: usize = 0;
@@ -86,23 +104,24 @@ fn idle(all: u32, w: u32, need: u32, x: u32) -> u32
     (all - spent) / (need - x)
 }
 
-// What the weighting v leaves of the choices x: with y uses of the kept combination `last`, what the room weighs must be enough for
+// What the weighting v leaves of the choices x for what is wanted: with y uses of the kept combination `last`, what the room weighs must be enough for
 // these, and for d times the uses of those before it.
 fn lower_choices(
     kept: &[usize; COMBINATIONS],
     shares: &[u8; weights::SHARES],
     v: usize,
-    last: usize,
+    wanted: Wanted,
     room: &[u8; Table::OVERLOADS],
-    need: u32,
     x: u32,
 ) -> u32
-    requires { ⌜ (v < maxChosen) × (last < combinations) × (need ≤ maxRoom) × (x ≤ need + 1) ⌝ }
-    ensures { λ r. ⌜ (Choices (now (kept .entry)) last (capacity (now (room .entry))) need x → Choices (now (kept .entry)) last (capacity (now (room .entry))) need r) ⌝ }
+    requires { ⌜ (v < maxChosen) × (wanted .last < combinations) × (wanted .need ≤ maxRoom) × Choices (now kept) (wanted .last) (capacity (now room)) (wanted .need) x ⌝ }
+    ensures { λ r. ⌜ Choices (now (kept .entry)) (wanted .last) (capacity (now (room .entry))) (wanted .need) r ⌝ }
 {
     if x == 0 {
         return x;
     }
+    let last = wanted.last;
+    let need = wanted.need;
     let w = weights::weigh(shares, v, &masks::bits(kept[last]));
     let all = weights::weigh(shares, v, room);
     let d = weights::floor(kept, last, shares, v, w, idle(all, w, need, x - 1));
@@ -119,23 +138,23 @@ fn lower_choices(
     if y < x { y } else { x }
 }
 
-// For `need` uses of the kept combinations up to `last`: one more than the most uses of `last` that nothing rules out, 0 if there is
-// no room for `need` uses.
+// For what is wanted: one more than the most uses of the kept combination `last` that nothing rules out, 0 if there is no room for
+// `need` uses.
 fn choices(
     kept: &[usize; COMBINATIONS],
     shares: &[u8; weights::SHARES],
     used: usize,
-    last: usize,
+    wanted: Wanted,
     room: &[u8; Table::OVERLOADS],
-    need: u32,
 ) -> u32
-    requires { ⌜ (used ≤ maxChosen) × (last < combinations) × (need ≤ maxRoom) ⌝ }
-    ensures { λ r. ⌜ Choices (now (kept .entry)) last (capacity (now (room .entry))) need r ⌝ }
+    requires { ⌜ (used ≤ maxChosen) × (wanted .last < combinations) × (wanted .need ≤ maxRoom) ⌝ }
+    ensures { λ r. ⌜ Choices (now (kept .entry)) (wanted .last) (capacity (now (room .entry))) (wanted .need) r ⌝ }
 {
-    let mut x = masks::fitting(room, kept[last], need) + 1;
+    let last = wanted.last;
+    let mut x = masks::fitting(room, kept[last], wanted.need) + 1;
     let mut v: usize = 0;
     while v < used {
-        x = lower_choices(kept, shares, v, last, room, need, x);
+        x = lower_choices(kept, shares, v, wanted, room, x);
         v += 1;
     }
     x
@@ -161,7 +180,16 @@ fn has_room(
         return false;
     }
     let last = n - 1;
-    let mut x = choices(kept, shares, used, last, &room, need);
+    let mut x = choices(
+        kept,
+        shares,
+        used,
+        Wanted {
+            last: last,
+            need: need,
+        },
+        &room,
+    );
     while 0 < x {
         let uses = x - 1;
         if has_room(

@@ -7,11 +7,11 @@ ghost use Prim.Native.Nat.{ℕ, _+_, _*_, _<_, _≤_, _-_};
 ghost use lib.ListN.{length, getD};
 ghost use Rattle.packing.specs.Packing.{bit, combinations};
 ghost use Rattle.packing.specs.Most.{capacity};
-ghost use Rattle.packing.specs.Engine.{partOf, Kept, Fitting, maxRoom};
+ghost use Rattle.packing.specs.code.Engine.{keptPart, Kept, Fitting, maxRoom};
 ghost use Rattle.table.specs.Limits.{maxOverloads};
 
 // 1 if the active segment i is in the combination m, else 0.
-pub(crate) fn has(m: usize, i: usize) -> u8
+pub fn has(m: usize, i: usize) -> u8
     requires { ⌜ i < maxOverloads ⌝ }
     ensures { λ r. ⌜ r ≡ bit i m ⌝ }
 {
@@ -39,7 +39,7 @@ fn lesser(room: &[u8; Table::OVERLOADS], m: usize, i: usize, x: u32) -> u32
     if has(m, i) == 0 {
         return x;
     }
-    let most = weights::wide(room[i]);
+    let most = weights::u32_from_u8(room[i]);
     if most < x { most } else { x }
 }
 
@@ -64,16 +64,16 @@ pub(crate) fn spend(room: &[u8; Table::OVERLOADS], m: usize, x: u32) -> [u8; Tab
     let mut out = [0u8; Table::OVERLOADS];
     let mut i: usize = 0;
     while i < Table::OVERLOADS {
-        out[i] = (weights::wide(room[i]) - x * weights::wide(has(m, i))) as u8;
+        out[i] = (weights::u32_from_u8(room[i]) - x * weights::u32_from_u8(has(m, i))) as u8;
         i += 1;
     }
     out
 }
 
 // The first of the kept combinations that is a part of m, `count` if there is none.
-pub(crate) fn part_of(kept: &[usize; COMBINATIONS], count: usize, m: usize) -> usize
+pub(crate) fn kept_part(kept: &[usize; COMBINATIONS], count: usize, m: usize) -> usize
     requires { ⌜ count ≤ combinations ⌝ }
-    ensures { λ r. ⌜ r ≡ partOf (now (kept .entry)) count m ⌝ }
+    ensures { λ r. ⌜ r ≡ keptPart (now (kept .entry)) count m ⌝ }
 {
     let mut j: usize = 0;
     while j < count {
@@ -94,7 +94,7 @@ fn keep(bad: &[u8; COMBINATIONS], kept: &mut [usize; COMBINATIONS], count: usize
     if bad[m] != 1 {
         return count;
     }
-    if part_of(kept, count, m) < count {
+    if kept_part(kept, count, m) < count {
         return count;
     }
     kept[count] = m;

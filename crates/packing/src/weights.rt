@@ -8,22 +8,30 @@ ghost use Prim.Native.Nat.{ℕ, _<_, _≤_};
 ghost use lib.ListN.{getD};
 ghost use Rattle.packing.specs.Packing.{bit, combinations};
 ghost use Rattle.packing.specs.Most.{capacity};
-ghost use Rattle.packing.specs.Engine.{weight, weightings, maxChosen, maxWeight, Floor};
+ghost use Rattle.packing.specs.code.Engine.{weight, weightings, maxChosen, maxWeight, Floor};
 ghost use Rattle.table.specs.Limits.{maxOverloads};
 
+// How many weightings there are: packing/weightings.py finds so many.
 const WEIGHTINGS: usize = 975;
+
+const DIGITS: usize = WEIGHTINGS * Table::OVERLOADS;
 
 // How many of them are chosen at most.
 pub(crate) const CHOSEN: usize = 160;
 
 pub(crate) const SHARES: usize = CHOSEN * Table::OVERLOADS;
 
-const DIGITS: usize = WEIGHTINGS * Table::OVERLOADS;
+// The bits of a digit's ASCII code that are its value; so no digit is above it, whatever stands in the table.
+const DIGIT: u8 = 15;
+
+// No combination weighs more: it has each active segment once at most.
+pub(crate) const HEAVIEST: u32 = DIGIT as u32 * Table::OVERLOADS as u32;
 
 // The weightings, six digits each, one for each active segment. For any set of combinations, the weights by which each of them
 // weighs at least 1 make a polyhedron, and the best bound that any weights give comes from one of its corners. These are the
 // corners, as whole numbers, for all sets of combinations of six active segments, these in falling order of `holders`, equal ones
-// in any order. Those whose last digits are 0 come first. A wrong digit would cost time, and nothing else.
+// in any order. Those whose last digits are 0 come first. packing/weightings.py makes the table anew, and says how. A wrong digit
+// would cost time, and nothing else.
 const WEIGHTS: [u8; DIGITS] =
     *b"100000010000110000001000011000101000111000000100001100010100100100011100101100110100111100111200112100\
     121100211100000010000110001010010010100010001110010110011010100110101010110010011110101110110110111010\
@@ -85,13 +93,16 @@ const WEIGHTS: [u8; DIGITS] =
     534122534212534221543122543212543221";
 
 // A byte as a wider number.
-pub(crate) fn wide(x: u8) -> u32
+pub(crate) fn u32_from_u8(x: u8) -> u32
     ensures { λ r. ⌜ (r ≡ x) × (r < 256) ⌝ }
 {
     x as u32
 }
 
-// The active segments that stand in kept combinations, as a combination.
+// From here to `choose`: which weightings are used. A wrong choice costs time, and nothing else, so no contract says more of these
+// functions than that their numbers are in range.
+
+// The active segments that stand in kept combinations, as a combination. A wrong answer would cost time only.
 fn together(kept: &[usize; COMBINATIONS], count: usize) -> usize
     requires { ⌜ count ≤ combinations ⌝ }
 {
@@ -104,17 +115,17 @@ fn together(kept: &[usize; COMBINATIONS], count: usize) -> usize
     all
 }
 
-// Whether m is a combination of active segments of `all`, and has a kept one in it.
+// Whether m is a combination of active segments of `all`, and has a kept one in it. A wrong answer would cost time only.
 fn holds(kept: &[usize; COMBINATIONS], count: usize, all: usize, m: usize) -> bool
     requires { ⌜ count ≤ combinations ⌝ }
 {
     if m & all != m {
         return false;
     }
-    masks::part_of(kept, count, m) < count
+    masks::kept_part(kept, count, m) < count
 }
 
-// How many combinations of active segments of `all` have i in them, and a kept one too.
+// How many combinations of active segments of `all` have i in them, and a kept one too. A wrong number would cost time only.
 fn holders(kept: &[usize; COMBINATIONS], count: usize, all: usize, i: usize) -> u8
     requires { ⌜ (count ≤ combinations) × (i < maxOverloads) ⌝ }
 {
@@ -129,7 +140,7 @@ fn holders(kept: &[usize; COMBINATIONS], count: usize, all: usize, i: usize) -> 
     held
 }
 
-// The `holders` of each active segment.
+// The `holders` of each active segment. Wrong numbers would cost time only.
 fn all_holders(kept: &[usize; COMBINATIONS], count: usize, all: usize) -> [u8; Table::OVERLOADS]
     requires { ⌜ count ≤ combinations ⌝ }
 {
@@ -161,6 +172,7 @@ fn rank(held: &[u8; Table::OVERLOADS], i: usize) -> usize
     before
 }
 
+// The `rank` of each active segment.
 fn ranks(held: &[u8; Table::OVERLOADS]) -> [usize; Table::OVERLOADS]
     ensures { λ r. ⌜ ((i : ℕ) → i < maxOverloads → getD r i 0 < maxOverloads) ⌝ }
 {
@@ -188,26 +200,27 @@ fn first_rows(segments: u32) -> usize
     }
 }
 
-// The row v of the table as the weighting `at` of `shares`, its digits where the active segments stand.
+// The row v of the table as the weighting `place` of `shares`, its digits where the active segments stand. Wrong digits would cost
+// time only.
 fn share(
     table: &[u8; DIGITS],
     rank: &[usize; Table::OVERLOADS],
     v: usize,
     shares: &mut [u8; SHARES],
-    at: usize,
+    place: usize,
 )
-    requires { ⌜ (v < weightings) × (at < maxChosen) × ((i : ℕ) → i < maxOverloads → getD (now rank) i 0 < maxOverloads) ⌝ }
+    requires { ⌜ (v < weightings) × (place < maxChosen) × ((i : ℕ) → i < maxOverloads → getD (now rank) i 0 < maxOverloads) ⌝ }
 {
     let row = v * Table::OVERLOADS;
-    let base = at * Table::OVERLOADS;
+    let base = place * Table::OVERLOADS;
     let mut i: usize = 0;
     while i < Table::OVERLOADS {
-        shares[base + i] = table[row + rank[i]] & 15;
+        shares[base + i] = table[row + rank[i]] & DIGIT;
         i += 1;
     }
 }
 
-// How many digits of the weighting v are above 0.
+// How many digits of the weighting v are above 0. A wrong number would cost time only.
 fn digits(shares: &[u8; SHARES], v: usize) -> usize
     requires { ⌜ v < maxChosen ⌝ }
 {
@@ -224,12 +237,12 @@ fn digits(shares: &[u8; SHARES], v: usize) -> usize
 }
 
 // Whether the weighting v may be a corner for the first n kept combinations, for some n: as many of these weigh least as there are
-// digits above 0. Other weightings are no use.
+// digits above 0. Other weightings are no use. A wrong answer would cost time only.
 fn worth(kept: &[usize; COMBINATIONS], count: usize, shares: &[u8; SHARES], v: usize) -> bool
     requires { ⌜ (count ≤ combinations) × (v < maxChosen) ⌝ }
 {
     let some = digits(shares, v);
-    let mut least: u32 = 255;
+    let mut least = HEAVIEST;
     let mut equal: usize = 0;
     let mut j: usize = 0;
     while j < count {
@@ -281,7 +294,7 @@ pub(crate) fn weigh(shares: &[u8; SHARES], v: usize, amount: &[u8; Table::OVERLO
     let mut sum: u32 = 0;
     let mut i: usize = 0;
     while i < Table::OVERLOADS {
-        sum += wide(shares[base + i]) * wide(amount[i]);
+        sum += u32_from_u8(shares[base + i]) * u32_from_u8(amount[i]);
         i += 1;
     }
     sum

@@ -6,7 +6,7 @@ use borrow.Author.Needs.{needs}
 use borrow.Fn.Kinds.{In}
 use borrow.Fn.PlainCycle.{Measures, is, falls, and}
 use Rattle.packing.specs.Most.{capacity}
-use Rattle.packing.specs.Engine.{HasRoom, Choices}
+use Rattle.packing.specs.code.Engine.{HasRoom, Choices}
 use Rattle.packing.proofs.Tries.{none-fit, empty-fit, tells-so, tells-not, choices-tried, choices-end, choices-found}
 use Rattle.packing.proofs.has_room.Reads as has-room
 use Rattle.packing.proofs.has_room.Kinds as kinds
@@ -81,10 +81,16 @@ has-room-requires t c κs =
 
 returns-3 : (t : ℕ) → lts.Need-returns-3 (known t) (has-room-at t) has-room.Post Inv-loop μ-loop
 returns-3 t c =
-    let l = c .before .before .before .before .before .before .loop in
-    let x = l .x in
-    let some = c .before .before .before .before .before .loop-test .taken in
-    tells-so (choices-found (x - 1) _ (omega (arith, c .before .before .before .before .before .before .before .before .before .if2 .left)) (omega (arith, l .inv .few, some)) (l .inv .enough (x - 1) (omega (arith, some))) (c .before .before .spend .ensures) (c .before .has-room .ensures .so (c .if3 .taken)))
+    let s = c .before .before in
+    let tested = s .before .before .before in
+    let l = tested .before .loop in
+    let some = tested .loop-test .taken in
+    tells-so (choices-found (l .x - 1) _
+    (omega (arith, tested .before .before .before .before .if2 .left))
+    (omega (arith, l .inv .few, some))
+    (l .inv .enough (l .x - 1) (omega (arith, some)))
+    (s .spend .ensures)
+    (c .before .has-room .ensures .so (c .if3 .taken)))
 
 sub-x : (t : ℕ) → lts.Need-sub-x (known t) (has-room-at t) has-room.Post Inv-loop μ-loop
 sub-x t c = search needs
@@ -93,7 +99,10 @@ loop-less : (t : ℕ) → lts.Need-loop-less (known t) (has-room-at t) has-room.
 loop-less t c = omega (arith, c .before .before .before .before .before .loop-test .taken)
 
 loop-again : (t : ℕ) → lts.Need-loop-again (known t) (has-room-at t) has-room.Post Inv-loop μ-loop
-loop-again t c = choices-tried _ (omega arith) (omega (arith, c .before .before .before .before .before .loop-test .taken)) (c .before .before .spend .ensures) (c .before .has-room .ensures .not (c .if3 .left)) (c .before .before .before .before .before .before .loop .inv)
+loop-again t c =
+    let s = c .before .before in
+    let tested = s .before .before .before in
+    choices-tried _ (omega arith) (omega (arith, tested .loop-test .taken)) (s .spend .ensures) (c .before .has-room .ensures .not (c .if3 .left)) (tested .before .loop .inv)
 
 returns-4 : (t : ℕ) → lts.Need-returns-4 (known t) (has-room-at t) has-room.Post Inv-loop μ-loop
 returns-4 t c = tells-not (choices-end (omega (arith, c .before .before .before .before .if2 .left)) (c .loop-test .left) (c .before .loop .inv))

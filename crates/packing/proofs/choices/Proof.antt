@@ -3,16 +3,16 @@ use borrow.Author.Needs.{needs}
 use Prim.Native.Nat.{_-_, _≤_}
 use native.Mathlib.Omega.{arith}
 use Rattle.packing.specs.Most.{capacity}
-use Rattle.packing.specs.Engine.{Choices}
+use Rattle.packing.specs.code.Engine.{Choices}
 use Rattle.packing.proofs.Tries.{choices-start}
 use Rattle.packing.proofs.choices.Statement.{statement}
 use Rattle.packing.proofs.choices.Tie as tie
 
 abbrev Inv-loop : tie.InvT-loop
-Inv-loop kept shares used last room need x₀ v₀ x v = (v ≤ used) × Choices kept last (capacity room) need x
+Inv-loop kept shares used wanted room last x₀ v₀ x v = (v ≤ used) × Choices kept (wanted .last) (capacity room) (wanted .need) x
 
 abbrev μ-loop : tie.MeasureT-loop
-μ-loop kept shares used last room need x₀ v₀ x v = used - v
+μ-loop kept shares used wanted room last x₀ v₀ x v = used - v
 
 mul-fitting : tie.Need-mul-fitting Inv-loop μ-loop
 mul-fitting c = search needs
@@ -39,7 +39,7 @@ loop-less : tie.Need-loop-less Inv-loop μ-loop
 loop-less c = search needs
 
 loop-again : tie.Need-loop-again Inv-loop μ-loop
-loop-again c = (search needs, c .lower-choices .ensures (c .before .before .loop .inv .1))
+loop-again c = (search needs, c .lower-choices .ensures)
 
 returns : tie.Need-returns Inv-loop μ-loop
 returns c = c .before .loop .inv .1

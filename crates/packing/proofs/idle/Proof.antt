@@ -3,6 +3,7 @@ use borrow.Author.Needs.{needs}
 use Prim.Native.Nat.{_*_, _≤_}
 use native.Mathlib.Omega.{arith}
 use native.Mathlib.Nat.{mul-le-mul}
+use Rattle.packing.specs.code.Engine.{maxRoom, maxWeight}
 use Rattle.packing.proofs.idle.Statement.{statement}
 use Rattle.packing.proofs.idle.Tie as tie
 
@@ -12,7 +13,7 @@ returns c = search needs
 mul-spent : tie.Need-mul-spent
 mul-spent c =
     let s = c .before in
-    let p : s .args .w * s .args .x ≤ 596929500 = mul-le-mul (s .pre .0) (s .pre .1) in
+    let p : s .args .w * s .args .x ≤ maxWeight * maxRoom = mul-le-mul (s .pre .0) (s .pre .1) in
     omega arith
 
 returns-2 : tie.Need-returns-2

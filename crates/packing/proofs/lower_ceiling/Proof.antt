@@ -25,7 +25,7 @@ div-most : tie.Need-div-most
 div-most c = search needs
 
 returns-3 : tie.Need-returns-3
-returns-3 c = λ h. ceiling-low (c .before .before .floor .ensures .0) (c .before .before .before .weigh .ensures .0) (omega (arith, c .before .if2 .left)) refl (omega arith) h
+returns-3 c = ceiling-low (c .before .before .floor .ensures .0) (c .before .before .before .weigh .ensures .0) (omega (arith, c .before .if2 .left)) refl (omega arith) (c .before .before .before .before .before .pre .2)
 
 returns-4 : tie.Need-returns-4
 returns-4 c = search needs

@@ -5,22 +5,28 @@ use mathlib.Core.Path.{_≡_, _∙_}
 use native.Mathlib.Omega.{arith}
 use native.Mathlib.Nat.{mul-le-mul, div-le-self}
 use Rattle.packing.specs.Packing.{bit}
-use Rattle.packing.specs.Engine.{nth, weight}
+use Rattle.packing.specs.code.Engine.{nth, weight, maxRoom, maxWeight}
 use Rattle.packing.proofs.Cut.{weight-ext, cut-none, cut-above}
 use Rattle.packing.proofs.Tries.{choices-less}
 use Rattle.packing.proofs.lower_choices.Statement.{statement}
 use Rattle.packing.proofs.lower_choices.Tie as tie
 
+-- the start and the weighing of the room, seen from where d is known
+abbrev start : tie.After-floor → tie.Start
+start c = c .before .before .before .before .before .before .before .before
+
+abbrev weighed : tie.After-floor → tie.After-weigh2
+weighed c = c .before .before
+
 -- what the kept combination `last` weighs, by its bits
-weighs : (c : tie.After-weigh) → c .weigh .result ≡ weight (c .before .before .before .before .before .args .shares .now) (c .before .before .before .before .before .args .v) (λ i. bit i (nth (c .before .before .before .before .before .args .kept .now) (c .before .before .before .before .before .args .last)))
-weighs c = c .weigh .ensures .0 ∙ weight-ext _ _ _ _ (c .before .before .bits .ensures)
+weighs : (c : tie.After-floor) → weighed c .before .weigh .result ≡ weight (start c .args .shares .now) (start c .args .v) (λ i. bit i (nth (start c .args .kept .now) (start c .args .wanted .last)))
+weighs c = weighed c .before .weigh .ensures .0 ∙ weight-ext _ _ _ _ (weighed c .before .before .before .bits .ensures)
 
 -- `need` times d is small
-few : (c : tie.After-floor) → c .before .before .before .before .before .before .before .before .args .need * c .floor .result ≤ 596929500
+few : (c : tie.After-floor) → start c .args .wanted .need * c .floor .result ≤ maxRoom * maxWeight
 few c =
-    let s = c .before .before .before .before .before .before .before .before in
-    let d : c .floor .result ≤ 390150 = omega (arith, c .floor .ensures .1, c .before .before .before .weigh .ensures .1) in
-    mul-le-mul (s .pre .2) d
+    let d : c .floor .result ≤ maxWeight = omega (arith, c .floor .ensures .1, weighed c .before .weigh .ensures .1) in
+    mul-le-mul (start c .pre .2) d
 
 returns : tie.Need-returns
 returns c = search needs
@@ -57,9 +63,10 @@ mul-if3 c = omega (arith, few (c .before))
 
 returns-3 : tie.Need-returns-3
 returns-3 c =
-    λ h. choices-less (omega arith)
-    (λ u p t. absurd (cut-none (c .before .before .floor .ensures .0) (weighs (c .before .before .before .before .before)) (c .before .before .before .before .weigh2 .ensures .0) u p t (omega (arith, c .before .before .floor .ensures .1)) (omega (arith, c .if3 .taken))))
-    h
+    let f = c .before .before in
+    choices-less (omega arith)
+    (λ u p t. absurd (cut-none (f .floor .ensures .0) (weighs f) (weighed f .weigh2 .ensures .0) u p t (omega (arith, f .floor .ensures .1)) (omega (arith, c .if3 .taken))))
+    (start f .pre .3)
 
 returns-4 : tie.Need-returns-4
 returns-4 c = search needs
@@ -79,15 +86,16 @@ div-y c = search needs
 add-y : tie.Need-add-y
 add-y c =
     let f = c .before .before .before in
-    let s = c .before .before .before .before .before .before .before .before .before .before .before in
-    let q = div-le-self (c .before .before .before .before .before .weigh2 .result - s .args .need * f .floor .result) (c .before .before .before .before .before .before .weigh .result - f .floor .result) in
-    omega (arith, q, c .before .before .before .before .before .weigh2 .ensures .1)
+    let room = weighed f .weigh2 in
+    let q = div-le-self (room .result - start f .args .wanted .need * f .floor .result) (weighed f .before .weigh .result - f .floor .result) in
+    omega (arith, q, room .ensures .1)
 
 returns-5 : tie.Need-returns-5
 returns-5 c =
-    λ h. choices-less (omega arith)
-    (λ u p t. cut-above (c .before .before .before .before .floor .ensures .0) (weighs (c .before .before .before .before .before .before .before)) (c .before .before .before .before .before .before .weigh2 .ensures .0) u p t (omega (arith, c .before .before .before .before .floor .ensures .1, c .before .if4 .left)) (c .before .before .if3 .left))
-    h
+    let f = c .before .before .before .before in
+    choices-less (omega arith)
+    (λ u p t. cut-above (f .floor .ensures .0) (weighs f) (weighed f .weigh2 .ensures .0) u p t (omega (arith, f .floor .ensures .1, c .before .if4 .left)) (c .before .before .if3 .left))
+    (start f .pre .3)
 
 returns-6 : tie.Need-returns-6
 returns-6 c = search needs

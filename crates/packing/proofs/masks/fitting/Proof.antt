@@ -4,7 +4,7 @@ use Prim.Native.Nat.{_-_, _≤_}
 use mathlib.Core.Path.{_≡_}
 use native.Mathlib.Omega.{arith}
 use Rattle.packing.specs.Most.{capacity}
-use Rattle.packing.specs.Engine.{Fitting}
+use Rattle.packing.specs.code.Engine.{Fitting}
 use Rattle.packing.proofs.Tries.{fitting-start}
 use Rattle.packing.proofs.masks.fitting.Statement.{statement}
 use Rattle.packing.proofs.masks.fitting.Tie as tie

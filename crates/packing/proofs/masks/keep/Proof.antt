@@ -3,13 +3,8 @@ use borrow.Author.Needs.{needs}
 use native.Mathlib.Omega.{arith}
 use borrow.Author.Tests.{eq-eqb, ne-eqb}
 use Rattle.packing.proofs.Kept.{kept-good, kept-held, kept-new}
-use native.Mathlib.Omega.{arith}
-use borrow.Author.Tests.{eq-eqb, ne-eqb}
-use Rattle.packing.proofs.Kept.{kept-good, kept-held, kept-new}
 use Rattle.packing.proofs.masks.keep.Statement.{statement}
 use Rattle.packing.proofs.masks.keep.Tie as tie
-
--- By the two tests.
 
 element-copy-out-if1 : tie.Need-element-copy-out-if1
 element-copy-out-if1 c = search needs
@@ -17,11 +12,11 @@ element-copy-out-if1 c = search needs
 returns : tie.Need-returns
 returns c = let s = c .before .before in kept-good (s .pre .2) (s .pre .1) (ne-eqb _ 1 (c .if1 .taken))
 
-part-of-requires : tie.Need-part-of-requires
-part-of-requires c κs = search needs
+kept-part-requires : tie.Need-kept-part-requires
+kept-part-requires c κs = search needs
 
 returns-2 : tie.Need-returns-2
-returns-2 c = let s = c .before .before .before .before .before in kept-held (s .pre .2) (s .pre .1) (omega (arith, c .before .part-of .ensures))
+returns-2 c = let s = c .before .before .before .before .before in kept-held (s .pre .2) (s .pre .1) (omega (arith, c .before .kept-part .ensures))
 
 mul-kept : tie.Need-mul-kept
 mul-kept c = search needs
@@ -41,7 +36,7 @@ keep-spec =
     (tie.spec
     element-copy-out-if1
     returns
-    part-of-requires
+    kept-part-requires
     returns-2
     mul-kept
     element-write-kept

@@ -3,7 +3,7 @@ use borrow.Author.Needs.{needs}
 use Prim.Native.Nat.{_-_, _<_}
 use mathlib.Core.Path.{_≡_}
 use native.Mathlib.Omega.{arith}
-use Rattle.packing.specs.Engine.{Kept}
+use Rattle.packing.specs.code.Engine.{Kept}
 use Rattle.packing.proofs.Kept.{kept-start}
 use Rattle.packing.proofs.masks.minimal.Statement.{statement}
 use Rattle.packing.proofs.masks.minimal.Tie as tie

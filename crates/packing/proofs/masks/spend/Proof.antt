@@ -18,32 +18,32 @@ abbrev μ-loop : tie.MeasureT-loop
 loop-holds : tie.Need-loop-holds Inv-loop μ-loop
 loop-holds c = search needs
 
-element-copy-out-wide : tie.Need-element-copy-out-wide Inv-loop μ-loop
-element-copy-out-wide c = search needs
+element-copy-out-u32-from-u8 : tie.Need-element-copy-out-u32-from-u8 Inv-loop μ-loop
+element-copy-out-u32-from-u8 c = search needs
 
-wide-requires : tie.Need-wide-requires Inv-loop μ-loop
-wide-requires c κs = search needs
+u32-from-u8-requires : tie.Need-u32-from-u8-requires Inv-loop μ-loop
+u32-from-u8-requires c κs = search needs
 
 has-requires : tie.Need-has-requires Inv-loop μ-loop
 has-requires c κs = search needs
 
-wide-requires-2 : tie.Need-wide-requires-2 Inv-loop μ-loop
-wide-requires-2 c κs = search needs
+u32-from-u8-requires-2 : tie.Need-u32-from-u8-requires-2 Inv-loop μ-loop
+u32-from-u8-requires-2 c κs = search needs
 
 -- what is spent is there
-spent : (c : tie.After-wide2 Inv-loop μ-loop) → c .before .before .before .before .before .before .args .x * c .wide2 .result ≤ c .before .before .wide .result
+spent : (c : tie.After-u32-from-u82 Inv-loop μ-loop) → c .before .before .before .before .before .before .args .x * c .u32-from-u82 .result ≤ c .before .before .u32-from-u8 .result
 spent c =
-    rw (c .wide2 .ensures .0, c .before .has .ensures, c .before .before .wide .ensures .0)
+    rw (c .u32-from-u82 .ensures .0, c .before .has .ensures, c .before .before .u32-from-u8 .ensures .0)
     (c .before .before .before .before .before .before .pre .1 (c .before .before .before .before .before .loop .i) (search needs))
 
 mul-out : tie.Need-mul-out Inv-loop μ-loop
-mul-out c = omega (arith, spent c, c .before .before .wide .ensures .1)
+mul-out c = omega (arith, spent c, c .before .before .u32-from-u8 .ensures .1)
 
 sub-out : tie.Need-sub-out Inv-loop μ-loop
 sub-out c = spent c
 
 cast-out : tie.Need-cast-out Inv-loop μ-loop
-cast-out c = omega (arith, c .before .before .wide .ensures .1)
+cast-out c = omega (arith, c .before .before .u32-from-u8 .ensures .1)
 
 array-write-out : tie.Need-array-write-out Inv-loop μ-loop
 array-write-out c = search needs
@@ -57,7 +57,7 @@ loop-less c = search needs
 loop-again : tie.Need-loop-again Inv-loop μ-loop
 loop-again c =
     filled-on (c .before .before .before .before .before .loop .inv) (search needs)
-    (rw (c .wide2 .ensures .0, c .before .has .ensures, c .before .before .wide .ensures .0))
+    (rw (c .u32-from-u82 .ensures .0, c .before .has .ensures, c .before .before .u32-from-u8 .ensures .0))
 
 returns : tie.Need-returns Inv-loop μ-loop
 returns c = λ i l. c .before .loop .inv .done i (search needs)
@@ -69,10 +69,10 @@ spend-spec =
     Inv-loop
     μ-loop
     loop-holds
-    element-copy-out-wide
-    wide-requires
+    element-copy-out-u32-from-u8
+    u32-from-u8-requires
     has-requires
-    wide-requires-2
+    u32-from-u8-requires-2
     mul-out
     sub-out
     cast-out

@@ -3,7 +3,7 @@ use borrow.Author.Needs.{needs}
 use Prim.Native.Nat.{_-_, _≤_}
 use mathlib.Core.Path.{_≡_}
 use native.Mathlib.Omega.{arith}
-use Rattle.packing.specs.Engine.{Floor}
+use Rattle.packing.specs.code.Engine.{Floor}
 use Rattle.packing.proofs.Cut.{floor-start, floor-none, floor-on}
 use Rattle.packing.proofs.weights.floor.Statement.{statement}
 use Rattle.packing.proofs.weights.floor.Tie as tie

@@ -8,10 +8,10 @@ use Rattle.packing.proofs.weights.share.Statement.{statement}
 use Rattle.packing.proofs.weights.share.Tie as tie
 
 abbrev Inv-loop : tie.InvT-loop
-Inv-loop table rank v shares₀ at row base i₀ shares i = (i ≤ 6) × (length shares ≡ length shares₀)
+Inv-loop table rank v shares₀ place row base i₀ shares i = (i ≤ 6) × (length shares ≡ length shares₀)
 
 abbrev μ-loop : tie.MeasureT-loop
-μ-loop table rank v shares₀ at row base i₀ shares i = 6 - i
+μ-loop table rank v shares₀ place row base i₀ shares i = 6 - i
 
 mul-row : tie.Need-mul-row Inv-loop μ-loop
 mul-row c = search needs

@@ -1,4 +1,4 @@
--- What the parts of the search that cuts say of their results. The contract of `most_uses` needs none of it.
+-- What the parts of the engine (src/) say of their results. The contract of `most_uses` needs none of it.
 use Prim.Native.Nat.{ℕ, suc, _+_, _*_, _≤_, _<_}
 use mathlib.Core.Path.{_≡_}
 use mathlib.Core.Bool.{Bool, true, false}
@@ -8,35 +8,40 @@ use lib.Dec.{eqb}
 use lib.Bits.{bitAnd}
 use Rattle.search.specs.Find.{first}
 use Rattle.table.specs.Limits.{maxOverloads}
-use Rattle.packing.specs.Packing.{bit, sum, usable, combinations}
+use Rattle.packing.specs.Packing.{bit, sumTo, usable, combinations}
 use Rattle.packing.specs.Most.{flagged}
 
--- how many weightings there are, and how many are chosen at most
+-- a byte's greatest value
+abbrev pub maxByte : ℕ
+maxByte = 255
+
+-- how many weightings there are: packing/weightings.py finds so many
 abbrev pub weightings : ℕ
 weightings = 975
 
+-- so many are chosen at most
 abbrev pub maxChosen : ℕ
 maxChosen = 160
 
--- six bytes hold no more room
+-- a byte of room for each active segment
 abbrev pub maxRoom : ℕ
-maxRoom = 1530
+maxRoom = maxOverloads * maxByte
 
--- no room weighs more, by any bytes as weights
+-- that room weighed with bytes
 abbrev pub maxWeight : ℕ
-maxWeight = 390150
+maxWeight = maxRoom * maxByte
 
 -- the kept combination j
 abbrev pub nth : List ℕ → ℕ → ℕ
 nth kept j = getD kept j 0
 
 -- each active segment of the kept combination j is in m
-abbrev pub part : List ℕ → ℕ → ℕ → Bool
-part kept m j = eqb (bitAnd (nth kept j) m) (nth kept j)
+abbrev pub keptInside : List ℕ → ℕ → ℕ → Bool
+keptInside kept m j = eqb (bitAnd (nth kept j) m) (nth kept j)
 
 -- the first of `count` kept combinations that is a part of m, `count` if there is none
-abbrev pub partOf : List ℕ → ℕ → ℕ → ℕ
-partOf kept count m = first (part kept m) 0 count
+abbrev pub keptPart : List ℕ → ℕ → ℕ → ℕ
+keptPart kept count m = first (keptInside kept m) 0 count
 
 -- of the combinations below m: only bad ones are kept, and each bad one has a kept part
 pub record Kept (bad kept : List ℕ) (count m : ℕ) : Type 0 where
@@ -44,17 +49,17 @@ pub record Kept (bad kept : List ℕ) (count m : ℕ) : Type 0 where
   pub below : m ≤ combinations
   pub size : length kept ≡ combinations
   pub bads : (j : ℕ) → j < count → (nth kept j < combinations) × (usable (flagged bad) (nth kept j) ≡ true)
-  pub parts : (x : ℕ) → x < m → usable (flagged bad) x ≡ true → partOf kept count x < count
+  pub parts : (x : ℕ) → x < m → usable (flagged bad) x ≡ true → keptPart kept count x < count
 
 -- `uses` of the first n kept combinations, no active segment beyond its room
 pub record Packed (kept : List ℕ) (n : ℕ) (room uses : ℕ → ℕ) : Type 0 where
-  pub within : (i : ℕ) → i < maxOverloads → sum n (λ j. uses j * bit i (nth kept j)) ≤ room i
+  pub within : (i : ℕ) → i < maxOverloads → sumTo n (λ j. uses j * bit i (nth kept j)) ≤ room i
 
--- k uses of the first n kept combinations have room
-pub record HasRoom (kept : List ℕ) (n : ℕ) (room : ℕ → ℕ) (k : ℕ) : Type 0 where
+-- `need` uses of the first n kept combinations have room
+pub record HasRoom (kept : List ℕ) (n : ℕ) (room : ℕ → ℕ) (need : ℕ) : Type 0 where
   pub uses : ℕ → ℕ
   pub packed : Packed kept n room uses
-  pub total : sum n uses ≡ k
+  pub total : sumTo n uses ≡ need
 
 -- b says whether P holds
 pub record Tells (b : Bool) (P : Type 0) : Type 0 where
@@ -64,11 +69,11 @@ pub record Tells (b : Bool) (P : Type 0) : Type 0 where
 -- no packing of kept combinations has more uses than r
 pub record Ceiling (kept : List ℕ) (count : ℕ) (room : ℕ → ℕ) (r : ℕ) : Type 0 where
   pub few : r ≤ maxRoom
-  pub bound : (k : ℕ) → HasRoom kept count room k → k ≤ r
+  pub bound : (need : ℕ) → HasRoom kept count room need → need ≤ r
 
 -- what `amount` of each active segment weighs by the weighting v
 unfoldable pub weight : List ℕ → ℕ → (ℕ → ℕ) → ℕ
-weight shares v amount = sum maxOverloads (λ i. getD shares (v * maxOverloads + i) 0 * amount i)
+weight shares v amount = sumTo maxOverloads (λ i. getD shares (v * maxOverloads + i) 0 * amount i)
 
 -- none of the first n kept combinations weighs less than d by the weighting v
 pub record Floor (kept shares : List ℕ) (n v d : ℕ) : Type 0 where
@@ -85,4 +90,4 @@ pub record Fitting (m : ℕ) (room : ℕ → ℕ) (need n r : ℕ) : Type 0 wher
 pub record Choices (kept : List ℕ) (last : ℕ) (room : ℕ → ℕ) (need x : ℕ) : Type 0 where
   pub few : x ≤ need + 1
   pub enough : (y : ℕ) → y < x → (i : ℕ) → i < maxOverloads → y * bit i (nth kept last) ≤ room i
-  pub fewer : (uses : ℕ → ℕ) → Packed kept (suc last) room uses → sum (suc last) uses ≡ need → uses last < x
+  pub fewer : (uses : ℕ → ℕ) → Packed kept (suc last) room uses → sumTo (suc last) uses ≡ need → uses last < x

@@ -4,13 +4,13 @@ use native.Mathlib.Omega.{arith}
 use borrow.Author.Needs.{needs}
 use borrow.Author.Tests.{eq-eqb, ne-eqb}
 use lib.Bits.{bitAnd}
-use Rattle.packing.specs.Engine.{nth, part}
+use Rattle.packing.specs.code.Engine.{nth, keptInside}
 use Rattle.packing.proofs.Loops.{Passed, passed-start, passed-on, passed-hit, passed-end}
-use Rattle.packing.proofs.masks.part_of.Statement.{statement}
-use Rattle.packing.proofs.masks.part_of.Tie as tie
+use Rattle.packing.proofs.masks.kept_part.Statement.{statement}
+use Rattle.packing.proofs.masks.kept_part.Tie as tie
 
 abbrev Inv-loop : tie.InvT-loop
-Inv-loop kept count m j₀ j = Passed (part kept m) 0 count j
+Inv-loop kept count m j₀ j = Passed (keptInside kept m) 0 count j
 
 abbrev μ-loop : tie.MeasureT-loop
 μ-loop kept count m j₀ j = count - j
@@ -46,8 +46,8 @@ loop-again c = passed-on (c .before .before .before .loop .inv) (search needs) (
 returns-2 : tie.Need-returns-2 Inv-loop μ-loop
 returns-2 c = passed-end (c .before .loop .inv) (search needs)
 
-pub part-of-spec : {M : Type 1} → statement M
-part-of-spec =
+pub kept-part-spec : {M : Type 1} → statement M
+kept-part-spec =
     tie.close
     (tie.spec
     Inv-loop
