@@ -9,7 +9,7 @@ use lib.ListN.{length, getD}
 use Rattle.search.proofs.Choice.{lt-or-le}
 use Rattle.table.specs.Limits.{maxDistance}
 use Rattle.arrivals.specs.Arrivals.{asListed, δ}
-use Rattle.arrivals.specs.code.Bounds.{GoodDistances}
+use Rattle.table.specs.code.Good.{GoodDistances}
 use Rattle.arrivals.proofs.Turns.{listed-rises, listed-near, last-above, δ-turns, δ-first, δ-step}
 
 module _ {ds : List ℕ} (good : GoodDistances ds) where

@@ -13,7 +13,8 @@ use Rattle.search.proofs.Pairing.{paired-set}
 use Rattle.table.specs.Limits.{maxDistances, maxTasks}
 use Rattle.table.specs.Bytes.{word, Bytes}
 use Rattle.table.specs.Record.{idAt, listedAt, tasksAt, priorityAt, costAt, distancesAt, prioritiesAt, costsAt, pad, rowAt}
-use Rattle.table.specs.Find.{none, rows}
+use Rattle.table.specs.Record.{blank}
+use Rattle.table.specs.Find.{rows}
 use Rattle.table.specs.declared.Reading.{Reading}
 use Rattle.saving.specs.Save.{numberOf, seenOf}
 use Rattle.table.specs.Read.{tableOf}
@@ -89,13 +90,13 @@ saved-deadline-or-gap x e bytes new-bytes ok h id n = paired-unmoved id one two 
       accepted = ap (λ (r : Reading). r .verdict) (read-accepted (stored (after x e)) (o .holding .right));
     }
 
-    replaced : getD (rows (tableOf (stored x))) (seenOf (stored x) (e .old)) none ≡ rowIn (e .old)
+    replaced : getD (rows (tableOf (stored x))) (seenOf (stored x) (e .old)) blank ≡ rowIn (e .old)
     replaced =
         let t = tableOf (stored x) in
-        getD-take (t .count) (t .row) (seenOf (stored x) (e .old)) none (o .place)
+        getD-take (t .count) (t .row) (seenOf (stored x) (e .old)) blank (o .place)
         ∙ sym (record-row (stored x) t (table-read one) (one .bytes) (seenOf (stored x) (e .old)) (o .place)) ∙ ap rowIn (o .seen)
 
     pairs : Paired (Beside id) (rows (tableOf (stored x))) (rows (tableOf (stored (after x e))))
     pairs =
         rw (o .replaced)
-        (paired-set (beside-own id) (rows (tableOf (stored x))) (seenOf (stored x) (e .old)) none (rowIn (e .new)) (rw replaced (beside h id n)))
+        (paired-set (beside-own id) (rows (tableOf (stored x))) (seenOf (stored x) (e .old)) blank (rowIn (e .new)) (rw replaced (beside h id n)))

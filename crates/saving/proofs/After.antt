@@ -11,31 +11,23 @@ use Rattle.search.specs.Choice.{_when_else_}
 use Rattle.table.specs.Bytes.{Bytes}
 use Rattle.table.specs.Find.{rowOf}
 use Rattle.table.specs.Place.{lengthOf, placeOf}
-use Rattle.table.specs.Read.{tableOf}
+use Rattle.table.specs.Read.{unless, tableOf}
 use Rattle.search.proofs.Choice.{when-yes, when-no}
 use Rattle.table.proofs.Firsts.{when-zero}
-use Rattle.saving.specs.Save.{numberOf, figuresOf, seenOf, resultOf, saveFault, answerOf, written, savedOf}
+use Rattle.saving.specs.Save.{numberOf, figuresOf, seenOf, resultOf, saveFault, written, savedOf}
 use Rattle.saving.specs.Later.{State, stored, Holding, Edit, usedAfter, answer, after}
-use Rattle.saving.specs.declared.Saved.the-variants.{Used}
+use Rattle.saving.specs.declared.Saved.the-variants.{Used, Refused}
 use Rattle.saving.proofs.Faults.{Passed, passed, change-none, save-within, accepts}
 
 -- the answer in the paper's terms: the fault's number, and the new used length where there is none
 module _ (buffer : List ℕ) (used : ℕ) (old new : List ℕ) where
   pub saved-number : numberOf (savedOf buffer used old new) ≡ saveFault buffer used old new
-  unfolding savedOf answerOf
+  unfolding savedOf unless
   saved-number = by (saveFault buffer used old new)
     where
-      by : (f : ℕ) → numberOf (answerOf f (length (resultOf (take used buffer) old new))) ≡ f
+      by : (f : ℕ) → numberOf (unless Refused f (Used (length (resultOf (take used buffer) old new)))) ≡ f
       by zero = refl
       by (suc f) = refl
-
-  pub saved-figures : figuresOf (savedOf buffer used old new) ≡ (length (resultOf (take used buffer) old new) ∷ [] when eqb (saveFault buffer used old new) 0 else [])
-  unfolding savedOf answerOf
-  saved-figures = by (saveFault buffer used old new)
-    where
-      by : (f : ℕ) → figuresOf (answerOf f (length (resultOf (take used buffer) old new))) ≡ (length (resultOf (take used buffer) old new) ∷ [] when eqb f 0 else [])
-      by zero = sym (when-yes _ [] refl)
-      by (suc f) = sym (when-no _ [] (ne-eqb (suc f) 0 (λ z. omega (arith, z))))
 
 -- bytes
 pub bytes-append : (a b : List ℕ) → Bytes a → Bytes b → Bytes (a ++ b)

@@ -7,14 +7,14 @@ use lib.ListN.{getD}
 use lib.Seq.{ext-getD}
 use Rattle.table.specs.Bytes.{word}
 use Rattle.table.specs.Record.{idAt, kindAt, overloadAt, deadlineAt, gapAt, listedAt, tasksAt, firstTask, lengthAt, priorityAt, costAt, distancesAt, prioritiesAt, costsAt, spaced, rowAt}
-use Rattle.table.proofs.Lists.{length-every, every-at}
+use Rattle.table.proofs.Lists.{length-spaced, spaced-at}
 
 -- numbers read one every so many bytes, from two places that give the same ones
 pub every-alike : (f g : ℕ → ℕ) (step n at to : ℕ) → ((k : ℕ) → k < n → f (at + step * k) ≡ g (to + step * k)) → spaced f step n at ≡ spaced g step n to
 every-alike f g step n at to e =
-    let a = length-every f step n at in
-    ext-getD 0 (spaced f step n at) (spaced g step n to) (a ∙ sym (length-every g step n to))
-    (λ k h. let l : k < n = omega (arith, h, a) in every-at f step n k at l ∙ e k l ∙ sym (every-at g step n k to l))
+    let a = length-spaced f step n at in
+    ext-getD 0 (spaced f step n at) (spaced g step n to) (a ∙ sym (length-spaced g step n to))
+    (λ k h. let l : k < n = omega (arith, h, a) in spaced-at f step n k at l ∙ e k l ∙ sym (spaced-at g step n k to l))
 
 module _ (s r : List ℕ) where
   -- the n bytes of s from `at` on are those of r from `to` on

@@ -9,7 +9,6 @@ use mathlib.Core.Logic.{⊎-elim}
 use lib.ListN.{length, drop, length-append, length-drop, length-set, List·getD-append}
 use lib.Seq.{getD-drop, drop-drop, drop-at, take-suc-set}
 use lib.Dec.{eqb, ltb}
-use borrow.Author.Tests.{ltb-false}
 use Rattle.search.specs.Lists.{All}
 use Rattle.search.proofs.Choice.{when-cases, lt-or-le}
 use Rattle.table.specs.Limits.{maxChains, maxBytes}
@@ -21,9 +20,9 @@ use Rattle.table.specs.Read.{empty, plus, refusal, accepted, unless, byMark, re
 use Rattle.table.specs.declared.Reading.{Reading}
 use Rattle.table.specs.declared.Table.{Table}
 use Rattle.table.specs.declared.Mark.{Mark}
-use Rattle.table.specs.declared.Mark.the-variants.{Chain, Task, End, Other}
+use Rattle.table.specs.declared.Mark.the-variants.{Chain, Task, End, Refused as Unknown}
 use Rattle.table.specs.declared.Verdict.the-variants.{Accepted}
-use Rattle.table.proofs.Firsts.{when-zero}
+use Rattle.table.proofs.Faultless.{chain-right}
 use Rattle.table.proofs.Steps.{records-mark, records-full, records-chain}
 use Rattle.saving.proofs.Alike.{Alike, length-alike, mark-alike, row-alike}
 use Rattle.saving.proofs.Splits.{Whole, Split, rowIn}
@@ -73,18 +72,15 @@ module _ (s : List ℕ) where
         by Chain e = absurd (c e)
         by Task e = absurd (not-refused 3 (passes (refusal 3) (marked Task e)))
         by End e = ap (λ (r : Reading). r .table) (marked End e ∙ unless-passed (endFault s at t) (accepted t) (passes _ (marked End e)) .1)
-        by Other e = absurd (not-refused 3 (passes (refusal 3) (marked Other e)))
+        by (Unknown n) e = absurd (not-refused n (passes (refusal n) (marked (Unknown n) e)))
 
   -- four bytes are no chain
   ended : (at : ℕ) (t : Table) → length s ≡ at + 4 → t .count ≤ maxChains → go at t .verdict ≡ Accepted → go at t .table ≡ t
-  unfolding chainFault
   ended at t n few a =
       let there : at + 2 ≤ length s = omega arith in
       end-read at t few there a
       (λ m. let f = chain-read at t few there a m .1 in
-      let g = when-zero 1 _ _ f .0 in
-      let h : at + 16 ≤ length s = ltb-false _ _ g in
-      omega arith)
+      omega (arith, chain-right s at t f .head .there))
 
   -- each record adds its row
   grown : (rs : List (List ℕ)) (at : ℕ) (t : Table) (e : List ℕ) → drop at s ≡ flatten rs ++ e → All Whole rs → length e ≡ 4

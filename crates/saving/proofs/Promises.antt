@@ -14,8 +14,8 @@ use Rattle.table.specs.Limits.{maxBytes}
 use Rattle.table.specs.Bytes.{Bytes}
 use Rattle.table.specs.Record.{idAt}
 use Rattle.table.specs.Find.{rowOf, rows}
-use Rattle.table.specs.Read.{accepted, readTable, tableOf}
-use Rattle.saving.specs.Save.{numberOf, saveFault, recordOf, seenOf, resultOf, changeFault, answerOf, written, savedOf, Saves}
+use Rattle.table.specs.Read.{unless, accepted, readTable, tableOf}
+use Rattle.saving.specs.Save.{numberOf, saveFault, recordOf, seenOf, resultOf, changeFault, written, savedOf, Saves}
 use Rattle.saving.specs.Later.{State, stored, Holding, Edit, answer, after, afterAll, Never}
 use Rattle.saving.specs.declared.Saved.{Saved}
 use Rattle.saving.specs.declared.Saved.the-variants.{Used, Refused}
@@ -23,7 +23,7 @@ use Rattle.saving.proofs.Same.{same-true}
 use Rattle.saving.proofs.Splices.{written-same}
 use Rattle.saving.proofs.Verdicts.{read-accepted, read-out}
 use Rattle.saving.proofs.Seen.{seen-none}
-use Rattle.saving.proofs.Faults.{Passed, change-unread, change-unseen, save-beyond, save-within, refuses}
+use Rattle.saving.proofs.Faults.{Passed, change-unread, change-read, replace-unseen, save-beyond, save-within, refuses}
 use Rattle.saving.proofs.Splits.{rowIn}
 use Rattle.saving.proofs.Records.{record-id, record-alone}
 use Rattle.saving.proofs.After.{saved-number, bytes-take, passed-accepted, used-within, all-passed, after-answer, after-buffer, after-used, after-stored, after-length, after-holding}
@@ -97,7 +97,7 @@ module _ (x : State) (h : Holding x) where
   pub unseen-refused : (e : Edit) → ((k : ℕ) → k < tableOf s .count → recordOf s k ≡ e .old → ⊥) → answer x e ≡ Refused 22
   unseen-refused e n =
       let none = seen-none s (e .old) (λ j l z. n j l (same-true _ _ z)) in
-      let f = save-within (x .buffer) (x .used) (e .old) (e .new) (h .within) ∙ change-unseen (length (x .buffer)) s (e .old) (e .new) (h .right) none in
+      let f = save-within (x .buffer) (x .used) (e .old) (e .new) (h .within) ∙ change-read (length (x .buffer)) s (e .old) (e .new) (h .right) ∙ replace-unseen (length (x .buffer)) s (e .old) (e .new) none in
       sym (refuses (x .buffer) (x .used) (e .old) (e .new) 22 f (λ z. omega (arith, z)) .answers)
 
   -- so it is where the old record differs from the stored one of that id
@@ -165,9 +165,9 @@ stale-until-back x e bytes new-bytes ok n es b never new =
 
 -- a record changed away and changed back counts as the one seen
 answer-is : (x : State) (e : Edit) → x .used ≤ length (x .buffer)
-    → answer x e ≡ answerOf (changeFault (length (x .buffer)) (stored x) (e .old) (e .new)) (length (resultOf (stored x) (e .old) (e .new)))
+    → answer x e ≡ unless Refused (changeFault (length (x .buffer)) (stored x) (e .old) (e .new)) (Used (length (resultOf (stored x) (e .old) (e .new))))
 unfolding savedOf
-answer-is x e h = ap (λ (f : ℕ). answerOf f (length (resultOf (stored x) (e .old) (e .new)))) (save-within (x .buffer) (x .used) (e .old) (e .new) h)
+answer-is x e h = ap (λ (f : ℕ). unless Refused f (Used (length (resultOf (stored x) (e .old) (e .new))))) (save-within (x .buffer) (x .used) (e .old) (e .new) h)
 
 pub record ChangedBack (x : State) (e : Edit) (back : Edit) : Type 0 where
   pub taken : numberOf (answer (after x e) back) ≡ 0
@@ -195,6 +195,6 @@ changed-back x e bytes new-bytes ok =
       used = same-used;
       seen = λ new.
           answer-is (after y back) (record { old = e .old; new = new }) (omega (arith, same-used, same-room, used-within x e ok))
-          ∙ ap₂ (λ (m : ℕ) (q : List ℕ). answerOf (changeFault m q (e .old) new) (length (resultOf q (e .old) new))) same-room same-table
+          ∙ ap₂ (λ (m : ℕ) (q : List ℕ). unless Refused (changeFault m q (e .old) new) (Used (length (resultOf q (e .old) new)))) same-room same-table
           ∙ sym (answer-is x (record { old = e .old; new = new }) (used-within x e ok));
     }

@@ -8,7 +8,8 @@ use lib.Seq.{getD-take, getD-drop, take-take, drop-drop}
 use Rattle.search.specs.Lists.{sumOf, All}
 use Rattle.table.specs.Bytes.{Bytes}
 use Rattle.table.specs.Record.{idAt, lengthAt, rowAt}
-use Rattle.table.specs.Find.{none, rowOf}
+use Rattle.table.specs.Record.{blank}
+use Rattle.table.specs.Find.{rowOf}
 use Rattle.table.specs.Fault.{markOf}
 use Rattle.table.specs.Read.{accepted, readTable}
 use Rattle.table.specs.Place.{lengthOf, placeOf}
@@ -105,7 +106,7 @@ module _ (s : List ℕ) (t : Table) (read : readTable s ≡ accepted t) (bytes :
     within = omega (arith, split-count)
 
     row-there : rowOf t k ≡ rowIn (getD rs k [])
-    row-there = sym (getD-take (t .count) (t .row) k none h) ∙ ap (λ (l : List Row). getD l k none) (split-rows s t read rs e p) ∙ map-at rowIn rs k [] none within
+    row-there = sym (getD-take (t .count) (t .row) k blank h) ∙ ap (λ (l : List Row). getD l k blank) (split-rows s t read rs e p) ∙ map-at rowIn rs k [] blank within
 
     place-there : placeOf t k ≡ length (flatten (take k rs))
     unfolding placeOf

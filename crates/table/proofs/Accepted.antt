@@ -16,10 +16,10 @@ use Rattle.search.proofs.Find.{first-miss}
 use Rattle.search.proofs.Lists.{sum-append}
 use Rattle.table.specs.Limits.{maxChains, maxAllTasks, maxBytes}
 use Rattle.table.specs.Bytes.{word, Bytes}
-use Rattle.table.specs.Record.{idAt, lengthAt, rowAt}
-use Rattle.table.specs.Find.{none, rowOf, rows, findOf, used}
+use Rattle.table.specs.Record.{blank, idAt, lengthAt, rowAt}
+use Rattle.table.specs.Find.{rowOf, rows, findOf, used}
 use Rattle.table.specs.Fault.{markOf, chainFault, endFault}
-use Rattle.table.specs.Read.{blank, empty, plus, refusal, accepted, unless, byMark, start, records, readTable}
+use Rattle.table.specs.Read.{empty, plus, refusal, accepted, unless, byMark, start, records, readTable}
 use Rattle.table.specs.Place.{lengthOf, placeOf}
 use Rattle.table.specs.code.Good.{GoodRow, GoodTable}
 use Rattle.table.specs.code.Taken.{Taken, Holds}
@@ -27,7 +27,7 @@ use Rattle.table.specs.declared.Row.{Row}
 use Rattle.table.specs.declared.Table.{Table}
 use Rattle.table.specs.declared.Reading.{Reading}
 use Rattle.table.specs.declared.Mark.{Mark}
-use Rattle.table.specs.declared.Mark.the-variants.{Chain, Task, End, Other}
+use Rattle.table.specs.declared.Mark.the-variants.{Chain, Task, End, Refused as Unknown}
 use Rattle.table.specs.declared.Verdict.the-variants.{Accepted}
 use Rattle.table.proofs.Firsts.{when-zero}
 use Rattle.table.proofs.Faultless.{chain-right}
@@ -55,7 +55,7 @@ kept-empty s = record {
   long = length-replicate maxChains blank;
   row = λ k h. absurd (omega (arith, h));
   ids = λ j k h g e. absurd (omega (arith, h));
-  past = λ k h g. getD-replicate maxChains k blank none g;
+  past = λ k h g. getD-replicate maxChains k blank blank g;
   tasks = refl;
   tasks-max = omega arith;
   place = place-none empty;
@@ -78,10 +78,10 @@ module _ (s : List ℕ) (at : ℕ) (t : Table) (g : Kept s at t) (bytes : Bytes 
   r = rowAt s at
 
   old : (k : ℕ) → k < t .count → rowOf (plus t r) k ≡ rowOf t k
-  old k h = getD-set-other (t .row) (t .count) k r none (λ e. omega (arith, e))
+  old k h = getD-set-other (t .row) (t .count) k r blank (λ e. omega (arith, e))
 
   new : rowOf (plus t r) (t .count) ≡ r
-  new = getD-set-same (t .row) (t .count) r none (omega (arith, g .long))
+  new = getD-set-same (t .row) (t .count) r blank (omega (arith, g .long))
 
   before : (k : ℕ) → k ≤ t .count → placeOf (plus t r) k ≡ placeOf t k
   unfolding placeOf
@@ -107,7 +107,7 @@ module _ (s : List ℕ) (at : ℕ) (t : Table) (g : Kept s at t) (bytes : Bytes 
         long = simp length-set (g .long);
         row = more (λ k. GoodRow (rowOf (plus t r) k)) (λ k h. rw (old k h) (g .row k h)) (rw new (row-good s at t bytes right));
         ids = ids;
-        past = λ k h l. getD-set-other (t .row) (t .count) k r none (λ e. omega (arith, e, h)) ∙ g .past k (omega (arith, h)) l;
+        past = λ k h l. getD-set-other (t .row) (t .count) k r blank (λ e. omega (arith, e, h)) ∙ g .past k (omega (arith, h)) l;
         tasks = tasks;
         tasks-max = c .head .all;
         place = place;
@@ -178,7 +178,7 @@ start-sound s at t chain g f =
     by Chain e = f e
     by Task e = refused s 3
     by End e = unless-sound s (endFault s at t) (accepted t) (end-sound s at t g)
-    by Other e = refused s 3
+    by (Unknown n) e = refused s n
 
 records-sound : (left : ℕ) (s : List ℕ) (at : ℕ) (t : Table) → Bytes s → Kept s at t → t .count + left ≤ maxChains → Sound s (records left s at t)
 unfolding records

@@ -12,7 +12,7 @@ use Rattle.table.specs.Place.{lengthOf, placeOf}
 use Rattle.table.specs.code.Good.{GoodRow}
 use Rattle.table.specs.code.Taken.{Taken, Stands}
 use Rattle.table.specs.Read.{tableOf}
-use Rattle.table.proofs.Lists.{every-at}
+use Rattle.table.proofs.Lists.{spaced-at}
 use Rattle.table.proofs.Goods.{pad-at}
 use Rattle.table.proofs.Standing.{place-on}
 
@@ -20,15 +20,15 @@ use Rattle.table.proofs.Standing.{place-on}
 module _ (s : List ℕ) (at : ℕ) where
   pub list-at : (j : ℕ) → j < listedAt s at → getD (rowAt s at .list) j 0 ≡ word 4 s (at + 16 + 4 * j)
   unfolding rowAt
-  list-at j h = pad-at maxDistances (distancesAt s at) j ∙ every-at (word 4 s) 4 (listedAt s at) j (at + 16) h
+  list-at j h = pad-at maxDistances (distancesAt s at) j ∙ spaced-at (word 4 s) 4 (listedAt s at) j (at + 16) h
 
   pub priority-at : (k : ℕ) → k < tasksAt s at → getD (rowAt s at .priority) k 0 ≡ priorityAt s (firstTask s at + 8 * k)
   unfolding rowAt
-  priority-at k h = pad-at maxTasks (prioritiesAt s at) k ∙ every-at (priorityAt s) 8 (tasksAt s at) k (firstTask s at) h
+  priority-at k h = pad-at maxTasks (prioritiesAt s at) k ∙ spaced-at (priorityAt s) 8 (tasksAt s at) k (firstTask s at) h
 
   pub cost-at : (k : ℕ) → k < tasksAt s at → getD (rowAt s at .cost) k 0 ≡ costAt s (firstTask s at + 8 * k)
   unfolding rowAt
-  cost-at k h = pad-at maxTasks (costsAt s at) k ∙ every-at (costAt s) 8 (tasksAt s at) k (firstTask s at) h
+  cost-at k h = pad-at maxTasks (costsAt s at) k ∙ spaced-at (costAt s) 8 (tasksAt s at) k (firstTask s at) h
 
   -- a record is as long as its row's counts say
   pub length-at : lengthAt s at ≡ lengthOf (rowAt s at)
