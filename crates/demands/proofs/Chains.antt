@@ -29,7 +29,7 @@ use Rattle.misses.specs.Misses.{missesBeside, missesAt, missesOf}
 use Rattle.misses.specs.declared.Answer.the-variants.{Refused as Unanswered}
 use Rattle.misses.proofs.Answers as misses
 use Rattle.saving.proofs.Verdicts.{read-accepted}
-use Rattle.saving.proofs.Splits.{rowIn}
+use Rattle.saving.proofs.Parts.{rowIn}
 use Rattle.saving.proofs.Records.{record-row}
 use Rattle.demands.specs.Stored.{IsTable, Has, at, chainOf, bytesOf}
 use Rattle.demands.specs.Stored as stored

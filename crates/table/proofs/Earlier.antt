@@ -1,9 +1,8 @@
 -- What the code keeps of the chains before a record. Assumes nothing.
-use Prim.Native.Nat.{ℕ, zero, suc, _+_, _<_}
-use native.Mathlib.Omega.{arith}
-use mathlib.Core.Path.{_≡_, refl, ap, sym, _∙_}
+use Prim.Native.Nat.{ℕ, zero, suc, _+_}
+use mathlib.Core.Path.{_≡_, refl, ap, sym}
 use mathlib.Core.List.{List, [], _∷_, map}
-use lib.ListN.{length, getD, set, List·getD-map}
+use lib.ListN.{getD, set, List·getD-map}
 use lib.Dec.{eqb, ltb}
 use Rattle.search.specs.Find.{first}
 use Rattle.search.proofs.Find.{first-same}

@@ -14,33 +14,33 @@ use Rattle.table.specs.Fault.{_then_, outside, falls, gapShort, taskFaul
 use Rattle.table.specs.Record.{spaced, pad}
 
 module _ (f : ℕ → ℕ) (step : ℕ) where
-  next : (at k : ℕ) → at + step * k + step ≡ at + step * (k + 1)
-  next at k = rw add-one (omega (arith, mul-suc step k))
+  next : (at i : ℕ) → at + step * i + step ≡ at + step * (i + 1)
+  next at i = rw add-one (omega (arith, mul-suc step i))
 
-  -- what is left after k, of n
-  pub spaced-on : (n k at : ℕ) → k < n
-      → spaced f step (n - k) (at + step * k) ≡ f (at + step * k) ∷ spaced f step (n - (k + 1)) (at + step * (k + 1))
+  -- what is left after i, of n
+  pub spaced-on : (n i at : ℕ) → i < n
+      → spaced f step (n - i) (at + step * i) ≡ f (at + step * i) ∷ spaced f step (n - (i + 1)) (at + step * (i + 1))
   unfolding spaced
-  spaced-on n k at h =
-      let e : n - k ≡ suc (n - (k + 1)) = omega arith in
-      rw (e, ← next at k)
+  spaced-on n i at h =
+      let e : n - i ≡ suc (n - (i + 1)) = omega arith in
+      rw (e, ← next at i)
 
-  pub spaced-end : (n k at : ℕ) → n ≤ k → spaced f step (n - k) at ≡ []
+  pub spaced-end : (n i at : ℕ) → n ≤ i → spaced f step (n - i) at ≡ []
   unfolding spaced
-  spaced-end n k at h = let e : n - k ≡ 0 = omega arith in rw e
+  spaced-end n i at h = let e : n - i ≡ 0 = omega arith in rw e
 
   pub length-spaced : (n at : ℕ) → length (spaced f step n at) ≡ n
   unfolding spaced
   length-spaced zero at = refl
   length-spaced (suc n) at = ap suc (length-spaced n (at + step))
 
-  pub spaced-at : (n k at : ℕ) → k < n → getD (spaced f step n at) k 0 ≡ f (at + step * k)
+  pub spaced-at : (n i at : ℕ) → i < n → getD (spaced f step n at) i 0 ≡ f (at + step * i)
   unfolding spaced
-  spaced-at zero k at h = absurd (omega arith)
+  spaced-at zero i at h = absurd (omega arith)
   spaced-at (suc n) zero at h = simp (mul-zero, add-zero)
-  spaced-at (suc n) (suc k) at h =
-      let e : at + step + step * k ≡ at + step * suc k = omega (arith, mul-suc step k) in
-      rw (← e) (spaced-at n k (at + step) (omega arith))
+  spaced-at (suc n) (suc i) at h =
+      let e : at + step + step * i ≡ at + step * suc i = omega (arith, mul-suc step i) in
+      rw (← e) (spaced-at n i (at + step) (omega arith))
 
   -- one more at the end
   spaced-more : (n at : ℕ) → spaced f step (suc n) at ≡ spaced f step n at ++ (f (at + step * n) ∷ [])
@@ -51,11 +51,11 @@ module _ (f : ℕ → ℕ) (step : ℕ) where
       rw (← e) (ap (λ (l : List ℕ). f at ∷ l) (spaced-more n (at + step)))
 
   -- a store of the next number into what is filled up with 0
-  pub pad-on : (m k at : ℕ) → k < m
-      → set (pad m (spaced f step k at)) k (f (at + step * k)) ≡ pad m (spaced f step (k + 1) at)
-  pad-on m k at h =
-      let e : m - k ≡ suc (m - (k + 1)) = omega arith in
-      rw (add-one, spaced-more, length-append, length-spaced, e, set-at (spaced f step k at) 0 (replicate (m - (k + 1)) 0) (f (at + step * k)) k (length-spaced k at), append-assoc)
+  pub pad-on : (m i at : ℕ) → i < m
+      → set (pad m (spaced f step i at)) i (f (at + step * i)) ≡ pad m (spaced f step (i + 1) at)
+  pad-on m i at h =
+      let e : m - i ≡ suc (m - (i + 1)) = omega arith in
+      rw (add-one, spaced-more, length-append, length-spaced, e, set-at (spaced f step i at) 0 (replicate (m - (i + 1)) 0) (f (at + step * i)) i (length-spaced i at), append-assoc)
       refl
 
   -- from nothing
@@ -101,14 +101,14 @@ unfolding gapShort
 gap-end gap n = refl
 
 -- the tasks judged, one at a time
-pub tasks-on : (s : List ℕ) (n k at : ℕ) → k < n
-    → tasksFault s (n - k) (at + 8 * k) ≡ (taskFault s (at + 8 * k) then tasksFault s (n - (k + 1)) (at + 8 * (k + 1)))
+pub tasks-on : (s : List ℕ) (n i at : ℕ) → i < n
+    → tasksFault s (n - i) (at + 8 * i) ≡ (taskFault s (at + 8 * i) then tasksFault s (n - (i + 1)) (at + 8 * (i + 1)))
 unfolding tasksFault
-tasks-on s n k at h =
-    let e : n - k ≡ suc (n - (k + 1)) = omega arith in
-    let f : at + 8 * k + 8 ≡ at + 8 * (k + 1) = omega arith in
+tasks-on s n i at h =
+    let e : n - i ≡ suc (n - (i + 1)) = omega arith in
+    let f : at + 8 * i + 8 ≡ at + 8 * (i + 1) = omega arith in
     rw (e, ← f)
 
-pub tasks-end : (s : List ℕ) (n k at : ℕ) → n ≤ k → tasksFault s (n - k) at ≡ 0
+pub tasks-end : (s : List ℕ) (n i at : ℕ) → n ≤ i → tasksFault s (n - i) at ≡ 0
 unfolding tasksFault
-tasks-end s n k at h = let e : n - k ≡ 0 = omega arith in rw e
+tasks-end s n i at h = let e : n - i ≡ 0 = omega arith in rw e

@@ -33,8 +33,8 @@ pub record Decoded (all t : Table) : Type 0 where
   pub size : length (t .row) ≡ maxChains
   pub total : t .tasks ≡ sumOf (λ r. r .tasks) (take (t .count) (all .row))
   pub small : t .tasks ≤ maxTasks * t .count
-  pub row : (k : ℕ) → k < t .count → rowOf t k ≡ rowOf all k
-  pub rest : (k : ℕ) → t .count ≤ k → k < maxChains → rowOf t k ≡ blank
+  pub row : (chain : ℕ) → chain < t .count → rowOf t chain ≡ rowOf all chain
+  pub rest : (chain : ℕ) → t .count ≤ chain → chain < maxChains → rowOf t chain ≡ blank
 
 module _ {all : Table} (good : GoodTable all) where
   pub decoded-none : Decoded all empty
@@ -44,8 +44,8 @@ module _ {all : Table} (good : GoodTable all) where
     size = length-replicate maxChains blank;
     total = refl;
     small = omega arith;
-    row = λ k h. absurd (omega (arith, h));
-    rest = λ k h l. getD-replicate maxChains k blank blank l;
+    row = λ chain h. absurd (omega (arith, h));
+    rest = λ chain h l. getD-replicate maxChains chain blank blank l;
   }
 
   module _ {t : Table} (d : Decoded all t) where
@@ -61,17 +61,17 @@ module _ {all : Table} (good : GoodTable all) where
           size = length-set (t .row) (t .count) r ∙ d .size;
           total = omega (arith, d .total, sums, ap (λ (x : Row). x .tasks) e);
           small = omega (arith, d .small, few);
-          row = below-more (λ k. rowOf (plus t r) k ≡ rowOf all k) (t .count)
-              (λ k l. getD-set-other (t .row) (t .count) k r blank (λ q. omega (arith, l, q)) ∙ d .row k l)
+          row = below-more (λ chain. rowOf (plus t r) chain ≡ rowOf all chain) (t .count)
+              (λ chain l. getD-set-other (t .row) (t .count) chain r blank (λ q. omega (arith, l, q)) ∙ d .row chain l)
               (getD-set-same (t .row) (t .count) r blank (omega (arith, d .size, good .few)) ∙ e);
-          rest = λ k l m. getD-set-other (t .row) (t .count) k r blank (λ q. omega (arith, l, q)) ∙ d .rest k (omega (arith, l)) m;
+          rest = λ chain l m. getD-set-other (t .row) (t .count) chain r blank (λ q. omega (arith, l, q)) ∙ d .rest chain (omega (arith, l)) m;
         }
 
     -- all of them
     pub decoded-all : t .count ≡ all .count → t ≡ all
     decoded-all e =
         let rows : t .row ≡ all .row = ext-getD blank (t .row) (all .row) (d .size ∙ sym (good .size))
-        (λ k h. ⊎-elim (λ l. d .row k l) (λ l. d .rest k l (omega (arith, h, d .size)) ∙ sym (good .past k (omega (arith, l)) (omega (arith, h, d .size)))) (lt-or-le k (t .count))) in
+        (λ chain h. ⊎-elim (λ l. d .row chain l) (λ l. d .rest chain l (omega (arith, h, d .size)) ∙ sym (good .past chain (omega (arith, l)) (omega (arith, h, d .size)))) (lt-or-le chain (t .count))) in
         let tasks : t .tasks ≡ all .tasks = d .total ∙ ap (λ n. sumOf (λ r. r .tasks) (take n (all .row))) e ∙ sym (good .tasks) in
         ap (λ n. record { count = n; tasks = t .tasks; row = t .row }) e ∙ ap₂ (λ n l. record { count = all .count; tasks = n; row = l }) tasks rows
 

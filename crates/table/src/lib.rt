@@ -101,7 +101,7 @@ pub enum Mark {
 }
 
 impl Row {
-    pub fn blank() -> Self
+    fn blank() -> Self
         ensures { λ r. ⌜ r ≡ blankRow ⌝ }
     {
         Row {
@@ -174,7 +174,7 @@ impl Table {
     }
 
     // The table without a chain.
-    pub fn empty() -> Self
+    fn empty() -> Self
         ensures { λ r. ⌜ r ≡ emptyTable ⌝ }
     {
         let blank = Row::blank();

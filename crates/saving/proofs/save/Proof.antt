@@ -51,7 +51,7 @@ found : (c : tie.At-match-keys1) → seenOf (s c) (old c) < tableOf (s c) .count
 found c = omega (arith, seen-le (s c) (old c), passes c .seen)
 
 bytes : (c : tie.At-match-keys1) → Bytes (s c)
-bytes c = bytes-take (start c .args .used) (now (start c .args .buffer)) (λ k. omega (arith, c .before .before .before .before .before .before .before .slice-known .given k))
+bytes c = bytes-take (start c .args .used) (now (start c .args .buffer)) (λ i. omega (arith, c .before .before .before .before .before .before .before .slice-known .given i))
 
 used-length : (c : tie.At-match-keys1) → length (s c) ≡ start c .args .used
 used-length c = length-take-le (start c .args .used) (now (start c .args .buffer)) (c .before .before .before .before .if1 .left)

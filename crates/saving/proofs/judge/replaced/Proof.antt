@@ -42,7 +42,7 @@ read : (c : tie.After-shared-slice-known3) → readTable (s c) ≡ accepted (tab
 read c = read-accepted (s c) (none c)
 
 bytes : (c : tie.After-shared-slice-known3) → Bytes (s c)
-bytes c = λ k. omega (arith, c .before .before .shared-slice-known .given k)
+bytes c = λ i. omega (arith, c .before .before .shared-slice-known .given i)
 
 taken : (c : tie.After-shared-slice-known3) → Taken (s c)
 taken c = stored-taken (s c) (tableOf (s c)) (read c) (bytes c)

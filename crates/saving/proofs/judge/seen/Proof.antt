@@ -1,4 +1,4 @@
--- At the loop's head `at` is the place of the chain chain, and no record before it is the old one.
+-- At the loop's head `at` is the place of `chain`, and no record before it is the old one.
 use Prim.Native.Nat.{ℕ, _≤_, _<_, _+_, _-_}
 use mathlib.Core.Path.{_≡_, ap, sym, _∙_}
 use mathlib.Core.Bool.{true}
@@ -25,7 +25,7 @@ Inv-loop s old chains at₀ chain₀ at chain =
 abbrev μ-loop : tie.MeasureT-loop
 μ-loop s old chains at₀ chain₀ at chain = tableOf s .count - chain
 
--- the chain chain is there
+-- `chain` is there
 within : (c : tie.In-loop Inv-loop μ-loop) → c .before .loop .chain < tableOf (now (c .before .before .before .before .before .args .s)) .count
 within c = omega (arith, c .before .before .count .ensures, c .loop-test .taken)
 

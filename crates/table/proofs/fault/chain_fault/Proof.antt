@@ -40,7 +40,10 @@ tasks-fault-requires c κs = omega (arith, list-right _ _ (sym (c .before .befor
 
 returns : tie.Need-returns
 unfolding chainFault _then_
-returns c t before = rw (← c .before .before .before .before .before .before .head-fault .ensures t before, c .before .before .before .before .before .match .keys1, ← c .before .before .before .before .list-fault .ensures, c .before .before .before .match2 .keys1, ← c .before .before .listed-at .ensures .0, ← c .before .tasks-at .ensures .0, ← c .tasks-fault .ensures)
+returns c t before =
+    let n = c .before .before in
+    let l = n .before .before in
+    rw (← l .before .before .head-fault .ensures t before, l .before .match .keys1, ← l .list-fault .ensures, n .before .match2 .keys1, ← n .listed-at .ensures .0, ← c .before .tasks-at .ensures .0, ← c .tasks-fault .ensures)
 
 returns-2 : tie.Need-returns-2
 unfolding chainFault _then_

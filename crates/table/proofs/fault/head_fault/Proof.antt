@@ -26,11 +26,15 @@ counts-fault-requires c κs = search needs
 
 returns-2 : tie.Need-returns-2
 unfolding headFault _when_else_ _then_
-returns-2 c t before = rw (c .counts-fault .ensures, before, le-ltb _ _ (c .before .before .before .before .before .if1 .left), ← c .before .before .before .before .identity-fault .ensures t before, c .before .before .before .match .keys1, ← c .before .before .times-fault .ensures, c .before .match2 .keys1)
+returns-2 c t before =
+    let i = c .before .before .before .before in
+    rw (c .counts-fault .ensures, before, le-ltb _ _ (i .before .if1 .left), ← i .identity-fault .ensures t before, c .before .before .before .match .keys1, ← c .before .before .times-fault .ensures, c .before .match2 .keys1)
 
 returns-3 : tie.Need-returns-3
 unfolding headFault _when_else_ _then_
-returns-3 c t before = rw (le-ltb _ _ (c .before .before .before .before .if1 .left), ← c .before .before .before .identity-fault .ensures t before, c .before .before .match .keys1, ← c .before .times-fault .ensures) (sym (then-stop _ _ (c .match2 .rest .1)))
+returns-3 c t before =
+    let i = c .before .before .before in
+    rw (le-ltb _ _ (i .before .if1 .left), ← i .identity-fault .ensures t before, c .before .before .match .keys1, ← c .before .times-fault .ensures) (sym (then-stop _ _ (c .match2 .rest .1)))
 
 returns-4 : tie.Need-returns-4
 unfolding headFault _when_else_ _then_

@@ -1,8 +1,6 @@
 -- Each of the two tests decides.
-use mathlib.Core.Path.{ap}
 use borrow.Author.Tests.{eq-eqb, ne-eqb}
 use borrow.Author.Needs.{needs}
-use Rattle.table.specs.code.Before.{beforeOf}
 use Rattle.table.proofs.Earlier.{used-before}
 use Rattle.table.proofs.fault.id_wrong.Statement.{statement}
 use Rattle.table.proofs.fault.id_wrong.Tie as tie

@@ -26,11 +26,17 @@ bytes-wrong-requires c κs = search needs
 
 returns-2 : tie.Need-returns-2
 unfolding identityFault _when_else_
-returns-2 c t before = rw (← c .before .before .before .before .before .before .id-at .ensures, ← c .before .before .before .before .before .id-wrong .ensures t before, c .before .before .before .before .if1 .left, ← c .before .before .before .kind-at .ensures, ← c .before .before .overload-at .ensures, ← c .before .bytes-wrong .ensures, c .if2 .taken)
+returns-2 c t before =
+    let k = c .before .before .before in
+    let i = k .before .before in
+    rw (← i .before .id-at .ensures, ← i .id-wrong .ensures t before, k .before .if1 .left, ← k .kind-at .ensures, ← c .before .before .overload-at .ensures, ← c .before .bytes-wrong .ensures, c .if2 .taken)
 
 returns-3 : tie.Need-returns-3
 unfolding identityFault _when_else_
-returns-3 c t before = rw (← c .before .before .before .before .before .before .id-at .ensures, ← c .before .before .before .before .before .id-wrong .ensures t before, c .before .before .before .before .if1 .left, ← c .before .before .before .kind-at .ensures, ← c .before .before .overload-at .ensures, ← c .before .bytes-wrong .ensures, c .if2 .left)
+returns-3 c t before =
+    let k = c .before .before .before in
+    let i = k .before .before in
+    rw (← i .before .id-at .ensures, ← i .id-wrong .ensures t before, k .before .if1 .left, ← k .kind-at .ensures, ← c .before .before .overload-at .ensures, ← c .before .bytes-wrong .ensures, c .if2 .left)
 
 pub identity-fault-spec : {M : Type 1} → statement M
 identity-fault-spec =

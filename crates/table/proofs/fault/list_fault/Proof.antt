@@ -35,7 +35,10 @@ gap-fault-requires c κs = search needs
 
 returns-2 : tie.Need-returns-2
 unfolding listFault _when_else_ _then_
-returns-2 c = rw (← c .before .before .before .before .before .listed-at .ensures .0, le-ltb _ _ (c .before .before .before .before .if1 .left), ← c .before .before .before .distances-fault .ensures, c .before .before .match .keys1, ← c .before .gap-at .ensures, ← c .gap-fault .ensures)
+returns-2 c =
+    let d = c .before .before .before in
+    let n = d .before .before in
+    rw (← n .listed-at .ensures .0, le-ltb _ _ (d .before .if1 .left), ← d .distances-fault .ensures, c .before .before .match .keys1, ← c .before .gap-at .ensures, ← c .gap-fault .ensures)
 
 returns-3 : tie.Need-returns-3
 unfolding listFault _when_else_ _then_

@@ -1,4 +1,4 @@
--- None of the first chain chains bears the id; the record of the chain chain starts at `at`.
+-- None of the chains before `chain` bears the id; its record starts at `at`.
 use Prim.Native.Nat.{ℕ, _+_, _≤_, _<_, _-_}
 use mathlib.Core.Path.{_≡_, ap, sym, _∙_}
 use mathlib.Core.Bool.{true}
@@ -25,7 +25,7 @@ Inv-loop s id chains at₀ chain₀ at chain =
 abbrev μ-loop : tie.MeasureT-loop
 μ-loop s id chains at₀ chain₀ at chain = tableOf s .count - chain
 
--- the chain chain is there
+-- `chain` is there
 within : (c : tie.In-loop Inv-loop μ-loop) → c .before .loop .chain < tableOf (now (c .before .before .before .before .args .s)) .count
 within c = omega (arith, c .before .before .count .ensures, c .loop-test .taken)
 

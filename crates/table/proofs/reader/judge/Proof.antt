@@ -95,12 +95,20 @@ room c =
     omega (arith, counts l, l .loop .inv .1 .few, c .if3 .left)
 
 -- no fault: the record is right
-right : (c : tie.At-match2-keys1 Inv-loop μ-loop) → ChainRight (bytes (c .before .before .before .before .before .before .before .before .before)) (c .before .before .before .before .before .before .before .before .before .loop .at) (sofar (c .before .before .before .before .before .before .before .before .before))
-right c = chain-right _ _ _ (sym (c .before .chain-fault .ensures _ (c .before .before .before .before .before .before .before .before .before .loop .inv .1 .known)) ∙ c .match2 .keys1)
+module _ (c : tie.At-match2-keys1 Inv-loop μ-loop) where
+  abbrev before : tie.At-loop Inv-loop μ-loop
+  before = c .before .before .before .before .before .before .before .before .before
+
+  right : ChainRight (bytes before) (before .loop .at) (sofar before)
+  right = chain-right _ _ _ (sym (c .before .chain-fault .ensures _ (before .loop .inv .1 .known)) ∙ c .match2 .keys1)
 
 -- the end record leads to its fault, or accepts
-ended : (c : tie.After-end-fault Inv-loop μ-loop) → readTable (bytes (c .before .before .before .before .before .before)) ≡ unless refusal (endFault (bytes (c .before .before .before .before .before .before)) (c .before .before .before .before .before .before .loop .at) (sofar (c .before .before .before .before .before .before))) (accepted (sofar (c .before .before .before .before .before .before)))
-ended c = other (c .before .before .before) End (c .before .enum-told2 .given .1) (λ e. let z : _≡_ {A = ℕ} 0 1 = cc in omega arith)
+module _ (c : tie.After-end-fault Inv-loop μ-loop) where
+  abbrev at-end : tie.At-loop Inv-loop μ-loop
+  at-end = c .before .before .before .before .before .before
+
+  ended : readTable (bytes at-end) ≡ unless refusal (endFault (bytes at-end) (at-end .loop .at) (sofar at-end)) (accepted (sofar at-end))
+  ended = other (c .before .before .before) End (c .before .enum-told2 .given .1) (λ e. let z : _≡_ {A = ℕ} 0 1 = cc in omega arith)
 
 returns : tie.Need-returns Inv-loop μ-loop
 returns c = sym (verdict (read-long (now (c .before .before .args .s)) (long c)))
