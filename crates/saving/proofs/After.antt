@@ -14,7 +14,7 @@ use Rattle.table.proofs.Firsts.{when-zero}
 use Rattle.saving.specs.Save.{numberOf, seenOf, resultOf, saveFault, written, savedOf}
 use Rattle.saving.specs.Later.{State, stored, Holding, Edit, usedAfter, answer, after}
 use Rattle.saving.specs.declared.Saved.the-variants.{Used, Refused}
-use Rattle.saving.proofs.Faults.{Passed, passed, change-none, save-within, accepts}
+use Rattle.saving.proofs.Faults.{NoFault, passed, change-none, save-within, accepts}
 
 -- the answer in the paper's terms: the fault's number, and the new used length where there is none
 module _ (buffer : List ℕ) (used : ℕ) (old new : List ℕ) where
@@ -58,7 +58,7 @@ module _ (x : State) (e : Edit) where
   result = resultOf (stored x) (e .old) (e .new)
 
   -- a save that passes every test is accepted
-  pub passed-accepted : x .used ≤ length (x .buffer) → Passed (length (x .buffer)) (stored x) (e .old) (e .new) → numberOf (answer x e) ≡ 0
+  pub passed-accepted : x .used ≤ length (x .buffer) → NoFault (length (x .buffer)) (stored x) (e .old) (e .new) → numberOf (answer x e) ≡ 0
   passed-accepted h p =
       saved-number (x .buffer) (x .used) (e .old) (e .new) ∙ save-within (x .buffer) (x .used) (e .old) (e .new) h
       ∙ change-none (length (x .buffer)) (stored x) (e .old) (e .new) p
@@ -72,7 +72,7 @@ module _ (x : State) (e : Edit) where
     unfolding saveFault
     used-within = ltb-false _ _ (when-zero 0 _ _ no-fault .0)
 
-    pub all-passed : Passed (length (x .buffer)) (stored x) (e .old) (e .new)
+    pub all-passed : NoFault (length (x .buffer)) (stored x) (e .old) (e .new)
     all-passed = passed _ _ _ _ (sym (save-within (x .buffer) (x .used) (e .old) (e .new) used-within) ∙ no-fault)
 
     -- it answers the result's length, and the result is written

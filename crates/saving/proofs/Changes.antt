@@ -26,7 +26,7 @@ use Rattle.saving.proofs.Splices.{splice-same}
 use Rattle.saving.proofs.Verdicts.{read-accepted}
 use Rattle.saving.proofs.Stored.{record-is}
 use Rattle.saving.proofs.Seen.{seen-le, seen-is, seen-by, seen-record}
-use Rattle.saving.proofs.Faults.{Passed}
+use Rattle.saving.proofs.Faults.{NoFault}
 use Rattle.saving.proofs.Parts.{Whole, Parts, rowIn, map-set}
 use Rattle.saving.proofs.Parsed.{parts-rows}
 use Rattle.saving.proofs.Records.{recordsFrom, length-records, records-at, record-whole, record-id, record-alone, parts-of, parts-count, parts-record, parts-put}
@@ -75,7 +75,7 @@ module _ (s : List ℕ) (none : readFault s ≡ 0) where
         ∙ ap (splice s (placeOf (tableOf s) j) (lengthOf (rowOf (tableOf s) j))) (sym own-there ∙ record-is s (tableOf s) (read-accepted s none) j)
         ∙ splice-same s (placeOf (tableOf s) j) (lengthOf (rowOf (tableOf s) j))
 
-  pub own-passes : Bytes s → (chain : ℕ) (l : chain < tableOf s .count) (room : ℕ) → length s ≤ room → Passed room s (recordOf s chain) (recordOf s chain)
+  pub own-passes : Bytes s → (chain : ℕ) (l : chain < tableOf s .count) (room : ℕ) → length s ≤ room → NoFault room s (recordOf s chain) (recordOf s chain)
   own-passes bytes chain l room h =
       let read = read-accepted s none in
       let j = seenOf s (recordOf s chain) in
@@ -89,7 +89,7 @@ module _ (s : List ℕ) (none : readFault s ≡ 0) where
       }
 
 -- an accepted change
-module _ (room : ℕ) (s old new : List ℕ) (p : Passed room s old new) (bytes : Bytes s) (new-bytes : Bytes new) where
+module _ (room : ℕ) (s old new : List ℕ) (p : NoFault room s old new) (bytes : Bytes s) (new-bytes : Bytes new) where
   abbrev t : Table
   t = tableOf s
 
@@ -182,7 +182,7 @@ module _ (room : ℕ) (s old new : List ℕ) (p : Passed room s old new) (bytes 
       ∙ sym (parts-of s t was-read bytes .bytes)
 
   -- and it is accepted there, wherever the table had room
-  pub back-passes : (more : ℕ) → length s ≤ more → Passed more result new old
+  pub back-passes : (more : ℕ) → length s ≤ more → NoFault more result new old
   back-passes more h = record {
     table = p .result;
     seen = λ z. omega (arith, z, new-seen, is-seen, count-kept);

@@ -47,14 +47,14 @@ module _ (room : ℕ) (s old new : List ℕ) where
     replace-result e = when-no 22 _ (ne-eqb _ _ seen) ∙ when-no 23 _ e
 
 -- no fault: what it says
-pub record Passed (room : ℕ) (s old new : List ℕ) : Type 0 where
+pub record NoFault (room : ℕ) (s old new : List ℕ) : Type 0 where
   pub table : readFault s ≡ 0
   pub seen : seenOf s old ≡ tableOf s .count → ⊥
   pub fit : unfit new (rowOf (tableOf s) (seenOf s old) .id) ≡ false
   pub fits : length (resultOf s old new) ≤ room
   pub result : readFault (resultOf s old new) ≡ 0
 
-pub passed : (room : ℕ) (s old new : List ℕ) → changeFault room s old new ≡ 0 → Passed room s old new
+pub passed : (room : ℕ) (s old new : List ℕ) → changeFault room s old new ≡ 0 → NoFault room s old new
 unfolding changeFault replaceFault resultFault
 passed room s old new e =
     let e1 = then-zero _ _ e in
@@ -63,7 +63,7 @@ passed room s old new e =
     let e24 = when-zero 23 _ _ (e23 .1) in
     record { table = e1 .0; seen = eqb-false _ _ (e22 .0); fit = e23 .0; fits = ltb-false _ _ (e24 .0); result = e24 .1 }
 
-pub change-none : (room : ℕ) (s old new : List ℕ) → Passed room s old new → changeFault room s old new ≡ 0
+pub change-none : (room : ℕ) (s old new : List ℕ) → NoFault room s old new → changeFault room s old new ≡ 0
 change-none room s old new p =
     change-read room s old new (p .table) ∙ replace-result room s old new (p .seen) (p .fit) ∙ result-read room _ (p .fits) ∙ p .result
 

@@ -19,7 +19,7 @@ use Rattle.saving.proofs.Same.{same-true}
 use Rattle.saving.proofs.Splices.{written-same}
 use Rattle.saving.proofs.Verdicts.{read-accepted}
 use Rattle.saving.proofs.Seen.{seen-none}
-use Rattle.saving.proofs.Faults.{Passed, change-read, replace-unseen, save-within, refuses}
+use Rattle.saving.proofs.Faults.{NoFault, change-read, replace-unseen, save-within, refuses}
 use Rattle.saving.proofs.Parts.{rowIn}
 use Rattle.saving.proofs.Records.{record-id, record-alone}
 use Rattle.saving.proofs.After.{saved-number, bytes-take, passed-accepted, used-within, all-passed, after-answer, after-buffer, after-used, after-stored, after-length, after-holding}
@@ -166,7 +166,7 @@ changed-back x e bytes new-bytes ok =
     let n = after-length x e ok in
     let there = after-stored x e ok in
     let passes = back-passes _ (stored x) (e .old) (e .new) p c new-bytes (length (y .buffer)) (omega (arith, l, n, used-within x e ok)) in
-    let taken = passed-accepted y back (after-holding x e ok bytes new-bytes .within) (subst (λ (q : List ℕ). Passed (length (y .buffer)) q (e .new) (e .old)) (sym there) passes) in
+    let taken = passed-accepted y back (after-holding x e ok bytes new-bytes .within) (subst (λ (q : List ℕ). NoFault (length (y .buffer)) q (e .new) (e .old)) (sym there) passes) in
     let same-table : stored (after y back) ≡ stored x = after-stored y back taken ∙ ap (λ (q : List ℕ). resultOf q (e .new) (e .old)) there ∙ result-back _ (stored x) (e .old) (e .new) p c new-bytes in
     let same-used : after y back .used ≡ x .used = after-used y back taken ∙ ap length (sym (after-stored y back taken) ∙ same-table) ∙ l in
     let same-room : length (after y back .buffer) ≡ length (x .buffer) = after-length y back taken ∙ n in

@@ -21,36 +21,36 @@ use Rattle.table.proofs.Firsts.{or-left, or-right}
 use Rattle.table.proofs.Steps.{mark-cases, read-long}
 use Rattle.saving.specs.Save.{readFault}
 
-Right : Reading → Type 0
-Right r = numberOf (r .verdict) ≡ 0 → r ≡ accepted (r .table)
+ZeroAccepts : Reading → Type 0
+ZeroAccepts r = numberOf (r .verdict) ≡ 0 → r ≡ accepted (r .table)
 
-refused : (n : ℕ) → Right (refusal (suc n))
-unfolding Right
+refused : (n : ℕ) → ZeroAccepts (refusal (suc n))
+unfolding ZeroAccepts
 refused n e = absurd (omega (arith, e))
 
-unless-right : (n : ℕ) (r : Reading) → Right r → Right (unless refusal n r)
+unless-right : (n : ℕ) (r : Reading) → ZeroAccepts r → ZeroAccepts (unless refusal n r)
 unfolding unless
 unless-right zero r h = h
 unless-right (suc n) r h = refused n
 
-start-right : (s : List ℕ) (at : ℕ) (t : Table) (chain : Reading) → Right chain → Right (start s at t chain)
-unfolding start Right
-start-right s at t chain h = when-cases Right (ltb (length s) (at + 2)) (λ e. refused 1) (λ e.
-    mark-cases (λ m. Right (byMark m chain (unless refusal (endFault s at t) (accepted t)))) h (refused 2) (unless-right (endFault s at t) (accepted t) (λ z. refl)) (refused 2) (word 2 s at))
+start-right : (s : List ℕ) (at : ℕ) (t : Table) (chain : Reading) → ZeroAccepts chain → ZeroAccepts (start s at t chain)
+unfolding start ZeroAccepts
+start-right s at t chain h = when-cases ZeroAccepts (ltb (length s) (at + 2)) (λ e. refused 1) (λ e.
+    mark-cases (λ m. ZeroAccepts (byMark m chain (unless refusal (endFault s at t) (accepted t)))) h (refused 2) (unless-right (endFault s at t) (accepted t) (λ z. refl)) (refused 2) (word 2 s at))
 
-records-right : (left : ℕ) (s : List ℕ) (at : ℕ) (t : Table) → Right (records left s at t)
+records-right : (left : ℕ) (s : List ℕ) (at : ℕ) (t : Table) → ZeroAccepts (records left s at t)
 unfolding records
 records-right zero s at t = start-right s at t (refusal 11) (refused 10)
 records-right (suc left) s at t =
     start-right s at t _ (unless-right (chainFault s at t) _ (records-right left s (at + lengthAt s at) (plus t (rowAt s at))))
 
-right : (s : List ℕ) → Right (readTable s)
+right : (s : List ℕ) → ZeroAccepts (readTable s)
 unfolding readTable
-right s = when-cases Right (eqb (length s) 0 || ltb maxBytes (length s)) (λ e. refused 0) (λ e. records-right maxChains s 0 empty)
+right s = when-cases ZeroAccepts (eqb (length s) 0 || ltb maxBytes (length s)) (λ e. refused 0) (λ e. records-right maxChains s 0 empty)
 
 module _ (s : List ℕ) (none : readFault s ≡ 0) where
   pub read-accepted : readTable s ≡ accepted (tableOf s)
-  unfolding Right
+  unfolding ZeroAccepts
   read-accepted = right s none
 
 -- a table without a byte, or beyond the limit, is refused with 1

@@ -35,7 +35,7 @@ use Rattle.table.proofs.Goods.{row-good}
 use Rattle.table.proofs.Standing.{place-none}
 
 -- what the rows read so far are, where the next record starts at `at`
-record Kept (s : List ℕ) (at : ℕ) (t : Table) : Type 0 where
+record RowsKept (s : List ℕ) (at : ℕ) (t : Table) : Type 0 where
   few : t .count ≤ maxChains
   long : length (t .row) ≡ maxChains
   row : (chain : ℕ) → chain < t .count → GoodRow (rowOf t chain)
@@ -48,7 +48,7 @@ record Kept (s : List ℕ) (at : ℕ) (t : Table) : Type 0 where
   makes : (chain : ℕ) → chain < t .count → rowAt s (placeOf t chain) ≡ rowOf t chain
   inside : (chain : ℕ) → chain < t .count → placeOf t chain + lengthOf (rowOf t chain) ≤ length s
 
-kept-empty : (s : List ℕ) → Kept s 0 empty
+kept-empty : (s : List ℕ) → RowsKept s 0 empty
 unfolding sumOf
 kept-empty s = record {
   few = omega arith;
@@ -72,7 +72,7 @@ fresh t id e chain h =
     eqb-false _ _ (first-miss (λ other. eqb (rowOf t other .id) id) 0 (t .count) chain (omega arith) (omega arith))
 
 -- one row more
-module _ (s : List ℕ) (at : ℕ) (t : Table) (g : Kept s at t) (bytes : Bytes s) (room : t .count < maxChains)
+module _ (s : List ℕ) (at : ℕ) (t : Table) (g : RowsKept s at t) (bytes : Bytes s) (room : t .count < maxChains)
     (mark : markOf (word 2 s at) ≡ Chain) (right : chainFault s at t ≡ 0) where
   abbrev r : Row
   r = rowAt s at
@@ -98,7 +98,7 @@ module _ (s : List ℕ) (at : ℕ) (t : Table) (g : Kept s at t) (bytes : Bytes 
   more : (P : ℕ → Type 0) → ((chain : ℕ) → chain < t .count → P chain) → P (t .count) → (chain : ℕ) → chain < t .count + 1 → P chain
   more P f h = below-more P (t .count) f h
 
-  kept-plus : Kept s (at + lengthAt s at) (plus t r)
+  kept-plus : RowsKept s (at + lengthAt s at) (plus t r)
   unfolding rowAt placeOf
   kept-plus =
       let c = chain-right s at t right in
@@ -137,21 +137,21 @@ module _ (s : List ℕ) (at : ℕ) (t : Table) (g : Kept s at t) (bytes : Bytes 
       place = omega (arith, g .place, sums lengthOf, stands)
 
 -- what is to be shown of a reading
-Sound : List ℕ → Reading → Type 0
-Sound s r = r .verdict ≡ Accepted → GoodTable (r .table) × Holds s (r .table)
+GoodReading : List ℕ → Reading → Type 0
+GoodReading s r = r .verdict ≡ Accepted → GoodTable (r .table) × Holds s (r .table)
 
-refused : (s : List ℕ) (n : ℕ) → Sound s (refusal n)
-unfolding Sound
+refused : (s : List ℕ) (n : ℕ) → GoodReading s (refusal n)
+unfolding GoodReading
 refused s n e = absurd (let z : _≡_ {A = ℕ} 0 1 = cc in omega arith)
 
-unless-sound : (s : List ℕ) (n : ℕ) (r : Reading) → (n ≡ 0 → Sound s r) → Sound s (unless refusal n r)
+unless-sound : (s : List ℕ) (n : ℕ) (r : Reading) → (n ≡ 0 → GoodReading s r) → GoodReading s (unless refusal n r)
 unfolding unless
 unless-sound s zero r f = f refl
 unless-sound s (suc n) r f = refused s (suc n)
 
 -- the end record is whole, counts the rows, and is the last
-end-sound : (s : List ℕ) (at : ℕ) (t : Table) → Kept s at t → endFault s at t ≡ 0 → Sound s (accepted t)
-unfolding endFault Sound
+end-sound : (s : List ℕ) (at : ℕ) (t : Table) → RowsKept s at t → endFault s at t ≡ 0 → GoodReading s (accepted t)
+unfolding endFault GoodReading
 end-sound s at t g e a =
     let e1 = when-zero 1 _ _ e in
     let e2 = when-zero 10 _ _ (e1 .1) in
@@ -169,18 +169,18 @@ end-sound s at t g e a =
       },
     )
 
-start-sound : (s : List ℕ) (at : ℕ) (t : Table) (chain : Reading) → Kept s at t → (markOf (word 2 s at) ≡ Chain → Sound s chain) → Sound s (start s at t chain)
+start-sound : (s : List ℕ) (at : ℕ) (t : Table) (chain : Reading) → RowsKept s at t → (markOf (word 2 s at) ≡ Chain → GoodReading s chain) → GoodReading s (start s at t chain)
 unfolding start
 start-sound s at t chain g f =
-    when-cases (Sound s) (ltb (length s) (at + 2)) (λ e. refused s 2) (λ e. by (markOf (word 2 s at)) refl)
+    when-cases (GoodReading s) (ltb (length s) (at + 2)) (λ e. refused s 2) (λ e. by (markOf (word 2 s at)) refl)
   where
-    by : (m : Mark) → markOf (word 2 s at) ≡ m → Sound s (byMark m chain (unless refusal (endFault s at t) (accepted t)))
+    by : (m : Mark) → markOf (word 2 s at) ≡ m → GoodReading s (byMark m chain (unless refusal (endFault s at t) (accepted t)))
     by Chain e = f e
     by Task e = refused s 3
     by End e = unless-sound s (endFault s at t) (accepted t) (end-sound s at t g)
     by (Unknown n) e = refused s n
 
-records-sound : (left : ℕ) (s : List ℕ) (at : ℕ) (t : Table) → Bytes s → Kept s at t → t .count + left ≤ maxChains → Sound s (records left s at t)
+records-sound : (left : ℕ) (s : List ℕ) (at : ℕ) (t : Table) → Bytes s → RowsKept s at t → t .count + left ≤ maxChains → GoodReading s (records left s at t)
 unfolding records
 records-sound zero s at t bytes g h = start-sound s at t (refusal 11) g (λ m. refused s 11)
 records-sound (suc left) s at t bytes g h =
@@ -188,12 +188,12 @@ records-sound (suc left) s at t bytes g h =
     (λ m. unless-sound s (chainFault s at t) (records left s (at + lengthAt s at) (plus t (rowAt s at)))
     (λ e. records-sound left s (at + lengthAt s at) (plus t (rowAt s at)) bytes (kept-plus s at t g bytes (omega arith) m e) (omega arith)))
 
-sound : (s : List ℕ) → Bytes s → Sound s (readTable s)
+sound : (s : List ℕ) → Bytes s → GoodReading s (readTable s)
 unfolding readTable
-sound s bytes = when-cases (Sound s) (eqb (length s) 0 || ltb maxBytes (length s)) (λ e. refused s 1)
+sound s bytes = when-cases (GoodReading s) (eqb (length s) 0 || ltb maxBytes (length s)) (λ e. refused s 1)
     (λ e. records-sound maxChains s 0 empty bytes (kept-empty s) (omega arith))
 
 -- the bytes of an accepted table: within every limit, and they hold it
 pub taken : (s : List ℕ) → Bytes s → readTable s .verdict ≡ Accepted → Taken s
-unfolding Sound
+unfolding GoodReading
 taken s bytes a = let x = sound s bytes a in record { good = x .0; holds = x .1 }

@@ -30,11 +30,12 @@ one c =
     ap (λ x. (s .args .n - 1) * x) (c .as-listed .ensures)
     ∙ sym (δ-single (s .pre .0 .good .list) (sym (listed (c .before .before)) ∙ c .before .if1 .taken) (s .args .n) (omega (arith, s .pre .1)))
 
-turns : (c : tie.After-as-listed2)
-    → (c .before .before .before .before .args .n - 1) / c .before .before .listed-at .result * c .as-listed2 .result ≡ (c .before .before .before .before .args .n - 1) / length (ds (c .before .before .before .before)) * asListed (ds (c .before .before .before .before)) (length (ds (c .before .before .before .before)))
-turns c =
-    let s = c .before .before .before .before in
-    ap₂ (λ l x. (s .args .n - 1) / l * x) (listed (c .before .before)) (c .as-listed2 .ensures ∙ ap (asListed (ds s)) (listed (c .before .before)))
+module _ (c : tie.After-as-listed2) where
+  abbrev s : tie.Start
+  s = c .before .before .before .before
+
+  turns : (s .args .n - 1) / c .before .before .listed-at .result * c .as-listed2 .result ≡ (s .args .n - 1) / length (ds s) * asListed (ds s) (length (ds s))
+  turns = ap₂ (λ l x. (s .args .n - 1) / l * x) (listed (c .before .before)) (c .as-listed2 .ensures ∙ ap (asListed (ds s)) (listed (c .before .before)))
 
 all : (c : tie.After-as-listed3)
     → (c .before .before .before .before .before .args .n - 1) / c .before .before .before .listed-at .result * c .before .as-listed2 .result + c .as-listed3 .result ≡ δ (ds (c .before .before .before .before .before)) (c .before .before .before .before .before .args .n)
@@ -62,7 +63,7 @@ sub-steps : tie.Need-sub-steps
 sub-steps c = search needs
 
 div-turns : tie.Need-div-turns
-div-turns c = omega (arith, listed (c .before), (c .before .before .before .pre .0 .good .list) .some)
+div-turns c = omega (arith, listed (c .before), c .before .before .before .pre .0 .good .list .some)
 
 as-listed-requires-2 : tie.Need-as-listed-requires-2
 as-listed-requires-2 c κs = (c .before .before .before .pre .0, omega (arith, c .before .listed-at .ensures .0))
@@ -73,12 +74,12 @@ mul-result-2 c =
     omega (arith, turns c, δ-at (ds s) (s .args .n) (omega (arith, s .pre .1)), δ-near (s .pre .0 .good .list) (s .args .n), s .pre .2)
 
 rem-as-listed : tie.Need-rem-as-listed
-rem-as-listed c = omega (arith, listed (c .before .before), (c .before .before .before .before .pre .0 .good .list) .some)
+rem-as-listed c = omega (arith, listed (c .before .before), c .before .before .before .before .pre .0 .good .list .some)
 
 as-listed-requires-3 : tie.Need-as-listed-requires-3
 as-listed-requires-3 c κs =
     let s = c .before .before .before .before in
-    let h : 1 ≤ c .before .before .listed-at .result = omega (arith, listed (c .before .before), (s .pre .0 .good .list) .some) in
+    let h : 1 ≤ c .before .before .listed-at .result = omega (arith, listed (c .before .before), s .pre .0 .good .list .some) in
     (s .pre .0, omega (arith, c .before .before .listed-at .ensures .0, mod-lt (s .args .n - 1) h))
 
 add-result : tie.Need-add-result

@@ -14,7 +14,7 @@ use Rattle.saving.specs.code.Begins.{Begins}
 use Rattle.saving.proofs.Splices.{begins-length}
 use Rattle.saving.proofs.Verdicts.{read-accepted, read-within}
 use Rattle.saving.proofs.Seen.{seen-le, seen-inside, result-length}
-use Rattle.saving.proofs.Faults.{Passed, passed, save-beyond, save-within, refuses, accepts}
+use Rattle.saving.proofs.Faults.{NoFault, passed, save-beyond, save-within, refuses, accepts}
 use Rattle.saving.proofs.After.{bytes-take}
 use Rattle.saving.proofs.save.Statement.{statement}
 use Rattle.saving.proofs.save.Tie as tie
@@ -44,7 +44,7 @@ new c = now (start c .args .new)
 abbrev result : tie.At-match-keys1 → List ℕ
 result c = resultOf (s c) (old c) (new c)
 
-passes : (c : tie.At-match-keys1) → Passed (length (now (start c .args .buffer))) (s c) (old c) (new c)
+passes : (c : tie.At-match-keys1) → NoFault (length (now (start c .args .buffer))) (s c) (old c) (new c)
 passes c = passed _ _ _ _ (sym (c .before .judged .ensures .faulty) ∙ c .match .keys1)
 
 found : (c : tie.At-match-keys1) → seenOf (s c) (old c) < tableOf (s c) .count

@@ -28,7 +28,7 @@ pub record GoodTasks (priority cost : List ℕ) (tasks : ℕ) : Type 0 where
   pub priorities-past : (i : ℕ) → tasks ≤ i → getD priority i 0 ≡ 0
   pub costs-past : (i : ℕ) → tasks ≤ i → getD cost i 0 ≡ 0
 
--- a known gap times n is no less than the distance of n + 1 activations
+-- as many distances as it says, and 0 past them; a known gap times n is no less than the distance of n + 1 activations
 pub record GoodRow (r : Row) : Type 0 where
   pub id : 1 ≤ r .id
   pub kind : r .kind ≤ 1

@@ -56,9 +56,13 @@ found c = let e = c .before .before .before in
 place : (c : tie.After-place) → c .place .result ≡ placeOf (tableOf (s (c .before .before .before .before))) (seenOf (s (c .before .before .before .before)) (old (c .before .before .before .before)))
 place c = c .place .ensures ∙ ap (placeOf (tableOf (s (c .before .before .before .before)))) (c .before .before .before .seen .ensures)
 
-judged-fit : (c : tie.After-unfit) → c .unfit .result ≡ unfit (new (c .before .before .before .before .before .before)) (rowOf (tableOf (s (c .before .before .before .before .before .before))) (seenOf (s (c .before .before .before .before .before .before)) (old (c .before .before .before .before .before .before))) .id)
-unfolding rowAt
-judged-fit c = c .unfit .ensures ∙ ap (unfit (new (c .before .before .before .before .before .before))) (c .before .id-at .ensures ∙ ap (λ (r : Row). r .id) (row-there (taken (c .before .before .before .before .before .before)) (place (c .before .before)) (found (c .before .before .before))))
+module _ (c : tie.After-unfit) where
+  abbrev e : tie.After-shared-slice-known3
+  e = c .before .before .before .before .before .before
+
+  judged-fit : c .unfit .result ≡ unfit (new e) (rowOf (tableOf (s e)) (seenOf (s e) (old e)) .id)
+  unfolding rowAt
+  judged-fit = c .unfit .ensures ∙ ap (unfit (new e)) (c .before .id-at .ensures ∙ ap (λ (r : Row). r .id) (row-there (taken e) (place (c .before .before)) (found (c .before .before .before))))
 
 seen-requires : tie.Need-seen-requires
 seen-requires c κs = taken c

@@ -1,6 +1,7 @@
 -- At the loop's head `at` is the place of `chain`, and no record before it is the old one.
 use Prim.Native.Nat.{ℕ, _≤_, _<_, _+_, _-_}
 use mathlib.Core.Path.{_≡_, ap, sym, _∙_}
+use mathlib.Core.List.{List}
 use mathlib.Core.Bool.{true}
 use denote.Ref.{now}
 use lib.ListN.{take, drop}
@@ -33,10 +34,16 @@ there : (c : tie.In-loop Inv-loop μ-loop) → Stands (now (c .before .before .b
 there c = stands (c .before .before .before .before .before .pre) (c .before .loop .inv .1) (within c)
 
 -- its record, as the loop takes it
+abbrev bytes : tie.After-record-length Inv-loop μ-loop → List ℕ
+bytes c = now (c .before .before .before .before .before .before .args .s)
+
+abbrev at : tie.After-record-length Inv-loop μ-loop → ℕ
+at c = c .before .before .loop .at
+
 taken : (c : tie.After-record-length Inv-loop μ-loop)
-    → recordOf (now (c .before .before .before .before .before .before .args .s)) (c .before .before .loop .chain) ≡ take (c .before .before .loop .at + c .record-length .result - c .before .before .loop .at) (drop (c .before .before .loop .at) (now (c .before .before .before .before .before .before .args .s)))
+    → recordOf (bytes c) (c .before .before .loop .chain) ≡ take (at c + c .record-length .result - at c) (drop (at c) (bytes c))
 unfolding recordOf
-taken c = let s = now (c .before .before .before .before .before .before .args .s) in
+taken c = let s = bytes c in
     let l = c .before .before .loop in
     let e : l .at + c .record-length .result - l .at ≡ lengthOf (rowOf (tableOf s) (l .chain)) = omega (arith, c .record-length .ensures, length-at s (l .at), ap lengthOf (row-there (c .before .before .before .before .before .before .pre) (l .inv .1) (within (c .before)))) in
     rw (e, l .inv .1)
@@ -67,7 +74,8 @@ same-requires c κs = tt
 
 returns : tie.Need-returns Inv-loop μ-loop
 returns c = let l = c .before .before .before .before .before .loop in
-    sym (seen-is (now (c .before .before .before .before .before .before .before .before .before .args .s)) (now (c .before .before .before .before .before .before .before .before .before .args .old)) (l .chain) (within (c .before .before .before .before)) (rw (taken (c .before .before .before)) (sym (c .before .same .ensures) ∙ c .if1 .taken)) (l .inv .2))
+    let a = c .before .before .before .before .before .before .before .before .before .args in
+    sym (seen-is (now (a .s)) (now (a .old)) (l .chain) (within (c .before .before .before .before)) (rw (taken (c .before .before .before)) (sym (c .before .same .ensures) ∙ c .if1 .taken)) (l .inv .2))
 
 add-chain : tie.Need-add-chain Inv-loop μ-loop
 add-chain c = omega (arith, c .before .before .before .before .before .before .before .before .before .pre .good .few, within (c .before .before .before .before))

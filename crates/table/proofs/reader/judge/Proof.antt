@@ -29,7 +29,7 @@ use Rattle.table.proofs.reader.judge.Statement.{statement}
 use Rattle.table.proofs.reader.judge.Tie as tie
 
 -- the rows before `at` make the table t
-record Reached (s : List ℕ) (before : Before) (at : ℕ) (t : Table) : Type 0 where
+record SoFar (s : List ℕ) (before : Before) (at : ℕ) (t : Table) : Type 0 where
   few : before .count ≤ maxChains
   all : before .tasks ≤ maxAllTasks
   inside : at ≤ length s
@@ -37,7 +37,7 @@ record Reached (s : List ℕ) (before : Before) (at : ℕ) (t : Table) : Type 0 
   known : before ≡ beforeOf t
 
 abbrev Inv-loop : tie.InvT-loop
-Inv-loop s before₀ at₀ before at = (t : Table) × Reached s before at t
+Inv-loop s before₀ at₀ before at = (t : Table) × SoFar s before at t
 
 abbrev μ-loop : tie.MeasureT-loop
 μ-loop s before₀ at₀ before at = maxChains - before .count
