@@ -17,11 +17,10 @@ use Rattle.table.specs.code.Good.{GoodRow}
 use Rattle.table.specs.declared.Row.{Row}
 use Rattle.table.specs.Limits.{maxActivations}
 use Rattle.arrivals.specs.Arrivals.{δ}
-use Rattle.arrivals.specs.code.Bounds.{GoodDistances}
+use Rattle.table.specs.code.Good.{GoodDistances}
 use Rattle.table.specs.Record.{distances}
 use Rattle.arrivals.proofs.Distances.{δ-one, δ-listed, δ-rule}
 use Rattle.arrivals.proofs.Counts.{η-zero, η-greatest}
-use Rattle.arrivals.proofs.Rows.{good-distances}
 use Rattle.windows.specs.Demand.{viewsOf}
 use Rattle.windows.specs.Window.{Solution, windowOf}
 use Rattle.windows.specs.Latency.{long, ends, latencyAt, upTo, latencyTo, overOf, lateTo, marginOf, endsWith, windowsOf, boundOf, latencyOf}
@@ -239,7 +238,7 @@ module _ {s : List ℕ} {id : ℕ} (h : Has s id) where
   -- arrivals are document 01's
   pub counted : Counted (distances b)
   counted =
-      let g = good-distances good in
+      let g = good .list in
       record { alone = δ-one g; listed = δ-listed g; turns = δ-rule g; never = η-zero g; greatest = η-greatest g }
 
   growing : Growing (full b l)
@@ -252,8 +251,8 @@ module _ {s : List ℕ} {id : ℕ} (h : Has s id) where
   answer-is = latency-is h ∙ ap (λ d. windowsOf d (distances b) (b .deadline) .answer) (equation-is b l)
 
   pub latency-means : Means (full b l) (distances b) (b .deadline) (latencyOf s id)
-  latency-means = rw answer-is (answer-means (full b l) (distances b) (b .deadline) growing (good-distances good))
+  latency-means = rw answer-is (answer-means (full b l) (distances b) (b .deadline) growing (good .list))
 
   -- whatever meets the words is that answer: not always a refusal, nor a fixed figure, nor a made-up K, latency or late count
   pub latency-only : (a : Answer) → Means (full b l) (distances b) (b .deadline) a → a ≡ latencyOf s id
-  latency-only a m = means-one (full b l) (distances b) (b .deadline) growing (good-distances good) a m ∙ sym answer-is
+  latency-only a m = means-one (full b l) (distances b) (b .deadline) growing (good .list) a m ∙ sym answer-is

@@ -11,10 +11,10 @@ use Rattle.search.specs.Choice.{_when_else_}
 use Rattle.search.specs.Find.{first}
 use Rattle.table.specs.Limits.{maxDistances, maxTasks}
 use Rattle.table.specs.Bytes.{word, Bytes}
-use Rattle.table.specs.Record.{spaced, pad, rowAt}
+use Rattle.table.specs.Record.{spaced, pad, rowAt, blank}
 use Rattle.table.specs.Find.{findOf}
-use Rattle.table.specs.Fault.{_then_, markOf, headFault, falls, gapShort, listFault, taskFault, tasksFault, chainFault, endFault}
-use Rattle.table.specs.Read.{blank, accepted, unless, start, records, readTable}
+use Rattle.table.specs.Fault.{_then_, markOf, identityFault, timesFault, countsFault, headFault, falls, distancesFault, gapShort, gapFault, listFault, taskMarkFault, taskRestFault, taskFault, tasksFault, chainFault, endFault}
+use Rattle.table.specs.Read.{accepted, unless, start, records, readTable}
 use Rattle.table.specs.declared.Row.{Row}
 use Rattle.table.specs.declared.Table.{Table}
 use Rattle.table.specs.declared.Reading.{Reading}
@@ -90,9 +90,9 @@ alteration = record {
 }
 
 pub sample-reads : Reads sample sampled
-unfolding small sample sampled readTable records start unless chainFault headFault listFault falls gapShort tasksFault taskFault endFault _then_ markOf word spaced rowAt findOf first _when_else_
+unfolding small sample sampled readTable records start unless chainFault headFault identityFault timesFault countsFault listFault distancesFault falls gapFault gapShort tasksFault taskFault taskMarkFault taskRestFault endFault _then_ markOf word spaced rowAt findOf first _when_else_
 sample-reads = record { are = refl; reads = refl }
 
 pub altered-reads : Reads altered alteration
-unfolding small altered alteration readTable records start unless chainFault headFault listFault falls gapShort tasksFault taskFault endFault _then_ markOf word spaced rowAt findOf first _when_else_
+unfolding small altered alteration readTable records start unless chainFault headFault identityFault timesFault countsFault listFault distancesFault falls gapFault gapShort tasksFault taskFault taskMarkFault taskRestFault endFault _then_ markOf word spaced rowAt findOf first _when_else_
 altered-reads = record { are = refl; reads = refl }

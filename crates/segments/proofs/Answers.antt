@@ -20,7 +20,7 @@ use Rattle.table.specs.declared.Row.{Row}
 use Rattle.table.specs.declared.Table.{Table}
 use Rattle.table.specs.declared.Verdict.{Verdict}
 use Rattle.table.specs.declared.Verdict.the-variants as verdict
-use Rattle.table.proofs.Lists.{every-at}
+use Rattle.table.proofs.Lists.{spaced-at}
 use Rattle.table.proofs.Goods.{pad-at}
 use Rattle.table.proofs.Firsts.{none-or}
 use Rattle.table.proofs.Faultless.{inside}
@@ -85,7 +85,7 @@ word-part (suc n) s from len at h =
 
 -- a number of each task, filled up to the limit: the j-th stands at the j-th task record
 task-at : (f : ℕ → ℕ) (n first j : ℕ) → j < n → getD (pad maxTasks (spaced f 8 n first)) j 0 ≡ f (first + 8 * j)
-task-at f n first j h = pad-at maxTasks (spaced f 8 n first) j ∙ every-at f 8 n j first h
+task-at f n first j h = pad-at maxTasks (spaced f 8 n first) j ∙ spaced-at f 8 n j first h
 
 -- the bytes are task records: those of the tasks of an active segment of the row a, one after the other
 pub record Recorded (part : List ℕ) (a : Row) (s : Active) : Type 0 where

@@ -91,4 +91,4 @@ pub place-max : (t : Table) → GoodTable t → (k : ℕ) → k ≤ t .count →
 place-max t good zero h = omega (arith, place-none t)
 place-max t good (suc k) h =
     let r = good .row k (omega arith) in
-    rw (← add-one k) (omega (arith, place-max t good k (omega arith), place-on t k (omega (arith, good .few, good .size)), r .list .few, r .tasks .few))
+    rw (← add-one k) (omega (arith, place-max t good k (omega arith), place-on t k (omega (arith, good .few, good .size)), r .list .few, r .listed, r .tasks .few))

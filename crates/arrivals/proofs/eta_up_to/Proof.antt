@@ -10,8 +10,8 @@ use borrow.Author.Needs.{needs}
 use borrow.Author.Tests.{ltb-true, ltb-false}
 use Rattle.table.specs.Limits.{maxDistance}
 use Rattle.table.specs.Record.{rowAt, distances}
-use Rattle.arrivals.specs.code.Bounds.{GoodDistances}
-use Rattle.arrivals.proofs.Rows.{distances-at, stands-distances, stands-length}
+use Rattle.table.specs.code.Good.{GoodDistances}
+use Rattle.arrivals.proofs.Rows.{distances-at, stands-length}
 use Rattle.arrivals.proofs.Walk.{Counted, counted-none, turns-le, counted-most, counted-all, counted-on, counted-turn}
 use Rattle.arrivals.proofs.eta_up_to.Statement.{statement}
 use Rattle.arrivals.proofs.eta_up_to.Tie as tie
@@ -27,7 +27,7 @@ abbrev ds : tie.Start Inv-loop μ-loop → List ℕ
 ds s = distances (rowAt (now (s .args .s)) (s .args .at))
 
 good : (s : tie.Start Inv-loop μ-loop) → GoodDistances (ds s)
-good s = stands-distances (s .pre .0)
+good s = (s .pre .0 .good .list)
 
 -- where the loop goes on, the activation that comes next lies in the window
 soon : (c : tie.Then1 Inv-loop μ-loop) → c .before .before .loop .next < c .before .before .before .before .before .args .t
@@ -66,20 +66,22 @@ loop-less c = omega arith
 
 loop-again : tie.Need-loop-again Inv-loop μ-loop
 loop-again c =
+    let s = c .before .before .before .before .before .before .before in
     let l = c .before .before .before .before .loop in
-    let m = l .n + 1 in
-    subst (λ x. Counted (ds (c .before .before .before .before .before .before .before)) (c .before .before .before .before .before .before .before .args .t) (c .before .before .before .before .before .before .before .args .most) m (l .turns + x) (l .turns + x) 0) (sym (read (c .before)))
-    (counted-turn (good (c .before .before .before .before .before .before .before)) (l .inv) (omega arith) (soon (c .before .before)) (omega (arith, c .if2 .taken, c .before .before .before .before .before .listed-at .ensures .0, stands-length (c .before .before .before .before .before .before .before .pre .0))))
+    let n = c .before .before .before .before .before .listed-at .ensures .0 in
+    subst (λ x. Counted (ds s) (s .args .t) (s .args .most) (l .n + 1) (l .turns + x) (l .turns + x) 0) (sym (read (c .before)))
+    (counted-turn (good s) (l .inv) (omega arith) (soon (c .before .before)) (omega (arith, c .if2 .taken, n, stands-length (s .pre .0))))
 
 loop-less-2 : tie.Need-loop-less-2 Inv-loop μ-loop
 loop-less-2 c = omega arith
 
 loop-again-2 : tie.Need-loop-again-2 Inv-loop μ-loop
 loop-again-2 c =
+    let s = c .before .before .before .before .before .before .before in
     let l = c .before .before .before .before .loop in
-    let m = l .n + 1 in
-    subst (λ x. Counted (ds (c .before .before .before .before .before .before .before)) (c .before .before .before .before .before .before .before .args .t) (c .before .before .before .before .before .before .before .args .most) m (l .turns + x) (l .turns) (l .place + 1)) (sym (read (c .before)))
-    (counted-on (good (c .before .before .before .before .before .before .before)) (l .inv) (omega arith) (soon (c .before .before)) (omega (arith, l .inv .inside, c .if2 .left, c .before .before .before .before .before .listed-at .ensures .0, stands-length (c .before .before .before .before .before .before .before .pre .0))))
+    let n = c .before .before .before .before .before .listed-at .ensures .0 in
+    subst (λ x. Counted (ds s) (s .args .t) (s .args .most) (l .n + 1) (l .turns + x) (l .turns) (l .place + 1)) (sym (read (c .before)))
+    (counted-on (good s) (l .inv) (omega arith) (soon (c .before .before)) (omega (arith, l .inv .inside, c .if2 .left, n, stands-length (s .pre .0))))
 
 returns : tie.Need-returns Inv-loop μ-loop
 returns c = counted-all (good (c .before .before .before .before .before)) (c .before .before .loop .inv) (ltb-false _ _ (c .if1 .left))

@@ -48,7 +48,7 @@ near c =
     let t = s .pre .0 in
     let g = t .good .row (s .args .k) (s .pre .1) in
     record {
-      first = omega (arith, c .first-task .ensures, first-there t (c .before .before .before .before .before .before .before .place .ensures) (s .pre .1), place-max (tableOf (now (s .args .s))) (t .good) (s .args .k) (omega (arith, s .pre .1)), t .good .few, s .pre .1, g .list .few);
+      first = omega (arith, c .first-task .ensures, first-there t (c .before .before .before .before .before .before .before .place .ensures) (s .pre .1), place-max (tableOf (now (s .args .s))) (t .good) (s .args .k) (omega (arith, s .pre .1)), t .good .few, s .pre .1, g .list .few, g .listed);
       tasks = g .tasks .few;
     }
 
