@@ -25,49 +25,46 @@ use Rattle.table.proofs.Goods.{pad-at}
 use Rattle.table.proofs.Firsts.{none-or}
 use Rattle.table.proofs.Faultless.{inside}
 use Rattle.table.proofs.Accepted.{taken}
-use Rattle.segments.specs.Actives.{Active, nothing, activesOf}
-use Rattle.segments.specs.Query.{nthOf, answerOf, segmentOf, partOf}
+use Rattle.segments.specs.Actives.{Active, nothing}
+use Rattle.segments.specs.Query.{activesIn, nthOf, answerOf, segmentOf, partOf}
 use Rattle.segments.specs.declared.Answer.the-variants.{Records, Refused}
-use Rattle.segments.proofs.Standing.{Stands, actives-stand, all-at}
+use Rattle.segments.proofs.Standing.{Contiguous, actives-contiguous, all-at}
 
--- the active segments of one chain of a table against another, by their ids, and the one of a number
-abbrev pub activesIn : Table → ℕ → ℕ → List Active
-activesIn t chain against = activesOf (rowOf t (findOf t chain)) (rowOf t (findOf t against))
-
-abbrev pub activeIn : Table → ℕ → ℕ → ℕ → Active
-activeIn t chain against number = getD (activesIn t chain against) (number - 1) nothing
+-- the active segment of a number, of the chain with one id against the chain with the other
+abbrev pub asked : Table → ℕ → ℕ → ℕ → Active
+asked t id against number = getD (activesIn t (findOf t id) (findOf t against)) (number - 1) nothing
 
 -- records are answered of two chains of the table, for a number that an active segment has
-pub record Answered (t : Table) (chain against number offset len : ℕ) : Type 0 where
-  pub chain-there : findOf t chain < t .count
+pub record Answered (t : Table) (id against number offset len : ℕ) : Type 0 where
+  pub there : findOf t id < t .count
   pub against-there : findOf t against < t .count
-  pub apart : chain ≡ against → ⊥
+  pub apart : id ≡ against → ⊥
   pub low : 1 ≤ number
-  pub high : number ≤ length (activesIn t chain against)
-  pub offset-is : offset ≡ afterList (placeOf t (findOf t chain)) (rowOf t (findOf t chain) .listed) + 8 * activeIn t chain against number .start
-  pub length-is : len ≡ 8 * activeIn t chain against number .len
+  pub high : number ≤ length (activesIn t (findOf t id) (findOf t against))
+  pub offset-is : offset ≡ afterList (placeOf t (findOf t id)) (rowOf t (findOf t id) .listed) + 8 * asked t id against number .start
+  pub length-is : len ≡ 8 * asked t id against number .len
 
 -- no refusal is a figure
 refused : {A : Type 0} (n offset len : ℕ) → Refused n ≡ Records offset len → A
 refused n offset len e = absurd (let z : _≡_ {A = ℕ} 0 1 = cc in omega arith)
 
-pub answered : (t : Table) (chain against number offset len : ℕ) → answerOf t chain against number ≡ Records offset len
-    → Answered t chain against number offset len
+pub answered : (t : Table) (id against number offset len : ℕ) → answerOf t id against number ≡ Records offset len
+    → Answered t id against number offset len
 unfolding answerOf nthOf
-answered t chain against number offset len =
-    when-cases (λ r. r ≡ Records offset len → Answered t chain against number offset len) (not (used t chain) || not (used t against))
+answered t id against number offset len =
+    when-cases (λ r. r ≡ Records offset len → Answered t id against number offset len) (not (used t id) || not (used t against))
     (λ u. refused 12 offset len)
-    (λ u. when-cases (λ r. r ≡ Records offset len → Answered t chain against number offset len) (eqb chain against)
+    (λ u. when-cases (λ r. r ≡ Records offset len → Answered t id against number offset len) (eqb id against)
     (λ v. refused 25 offset len)
-    (λ v. when-cases (λ r. r ≡ Records offset len → Answered t chain against number offset len) _
+    (λ v. when-cases (λ r. r ≡ Records offset len → Answered t id against number offset len) _
     (λ w. refused 26 offset len)
     (λ w e.
-    let both = none-or (not (used t chain)) (not (used t against)) u in
+    let both = none-or (not (used t id)) (not (used t against)) u in
     let range = inside 1 _ number w in
     record {
-      chain-there = ltb-true _ _ (not-false _ (both .0));
+      there = ltb-true _ _ (not-false _ (both .0));
       against-there = ltb-true _ _ (not-false _ (both .1));
-      apart = eqb-false chain against v;
+      apart = eqb-false id against v;
       low = range .0;
       high = range .1;
       offset-is = cc;
@@ -113,39 +110,39 @@ recorded s at offset len a x e o l i h = record {
         ∙ ap (λ r. getD (list r) (x .start + k) 0) e
 
 -- an answer comes from an accepted table, which its bytes hold
-module _ (s : List ℕ) (bytes : Bytes s) (chain against number offset len : ℕ) (e : segmentOf s chain against number ≡ Records offset len) where
+module _ (s : List ℕ) (bytes : Bytes s) (id against number offset len : ℕ) (e : segmentOf s id against number ≡ Records offset len) where
   accepted : readTable s .verdict ≡ verdict.Accepted
   unfolding segmentOf
   accepted = by (readTable s .verdict) e
     where
-      by : (v : Verdict) → byVerdict Refused v (answerOf (readTable s .table) chain against number) ≡ Records offset len → v ≡ verdict.Accepted
+      by : (v : Verdict) → byVerdict Refused v (answerOf (readTable s .table) id against number) ≡ Records offset len → v ≡ verdict.Accepted
       by verdict.Accepted q = refl
       by (verdict.Refused n) q = refused n offset len q
 
-  pub answer-of : Answered (readTable s .table) chain against number offset len
+  pub answer-of : Answered (readTable s .table) id against number offset len
   unfolding segmentOf
   answer-of =
-      answered (readTable s .table) chain against number offset len
-      (sym (ap (λ v. byVerdict Refused v (answerOf (readTable s .table) chain against number)) accepted) ∙ e)
+      answered (readTable s .table) id against number offset len
+      (sym (ap (λ v. byVerdict Refused v (answerOf (readTable s .table) id against number)) accepted) ∙ e)
 
   holds : Holds s (readTable s .table)
   holds = taken s bytes accepted .holds
 
-  -- the active segment stands in its chain
-  stands : Stands (rowOf (readTable s .table) (findOf (readTable s .table) chain)) (activeIn (readTable s .table) chain against number)
-  stands =
+  -- the active segment lies in its chain
+  within : Contiguous (rowOf (readTable s .table) (findOf (readTable s .table) id)) (asked (readTable s .table) id against number)
+  within =
       let t = readTable s .table in
-      all-at (Stands (rowOf t (findOf t chain))) (activesIn t chain against) (number - 1) (actives-stand (rowOf t (findOf t chain)) (rowOf t (findOf t against))) (omega (arith, answer-of .low, answer-of .high))
+      all-at (Contiguous (rowOf t (findOf t id))) (activesIn t (findOf t id) (findOf t against)) (number - 1) (actives-contiguous (rowOf t (findOf t id)) (rowOf t (findOf t against))) (omega (arith, answer-of .low, answer-of .high))
 
   -- so its task records lie in the bytes, inside their chain's record
   pub answer-inside : offset + len ≤ length s
   answer-inside =
       let t = readTable s .table in
-      omega (arith, answer-of .offset-is, answer-of .length-is, stands .inside, holds .inside (findOf t chain) (answer-of .chain-there))
+      omega (arith, answer-of .offset-is, answer-of .length-is, within .inside, holds .inside (findOf t id) (answer-of .there))
 
   -- and they are the records of its tasks, where these stand
-  pub answer-records : Recorded (partOf s (Records offset len)) (rowOf (readTable s .table) (findOf (readTable s .table) chain)) (activeIn (readTable s .table) chain against number)
+  pub answer-records : Recorded (partOf s (Records offset len)) (rowOf (readTable s .table) (findOf (readTable s .table) id)) (asked (readTable s .table) id against number)
   answer-records =
       let t = readTable s .table in
-      let k = findOf t chain in
-      recorded s (placeOf t k) offset len (rowOf t k) (activeIn t chain against number) (holds .makes k (answer-of .chain-there)) (answer-of .offset-is) (answer-of .length-is) (stands .inside) answer-inside
+      let k = findOf t id in
+      recorded s (placeOf t k) offset len (rowOf t k) (asked t id against number) (holds .makes k (answer-of .there)) (answer-of .offset-is) (answer-of .length-is) (within .inside) answer-inside

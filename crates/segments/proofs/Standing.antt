@@ -19,7 +19,7 @@ use Rattle.segments.proofs.Lists.{Solid}
 use Rattle.segments.proofs.Stretches.{all-solid}
 
 -- an active segment of the row a: its tasks stand in a, from `start` on, there is one, and its cost is theirs
-pub record Stands (a : Row) (s : Active) : Type 0 where
+pub record Contiguous (a : Row) (s : Active) : Type 0 where
   pub inside : s .start + s .len ≤ a .tasks
   pub some : 1 ≤ s .len
   pub cost : s .cost ≡ costOf (tasksFrom (a .priority) (a .cost) (s .len) (s .start))
@@ -92,9 +92,9 @@ module _ (ps cs : List ℕ) (n : ℕ) where
       (subst (λ l. All Somewhere (cuts p l)) (sym (f .are)) c, cut-each p ss (h .1))
 
   -- the cuts follow, and have tasks
-  parts-stand : (floor tail : ℕ) → All (All (λ l. Somewhere l × (0 < length l))) (parts floor tail (tasksFrom ps cs n 0))
+  parts-follow : (floor tail : ℕ) → All (All (λ l. Somewhere l × (0 < length l))) (parts floor tail (tasksFrom ps cs n 0))
   unfolding parts
-  parts-stand floor tail =
+  parts-follow floor tail =
       let ss = stretches (below floor) (tasksFrom ps cs n 0) in
       let follow = cut-each (below tail) ss (apart 0 ss (stretches-lined (below floor) n 0 (omega arith))) in
       let cs = map (cuts (below tail)) ss in
@@ -116,15 +116,15 @@ module _ (P : Active → Type 0) (Q : List Task → Type 0) (keeps : (j : ℕ) (
   all-order [] h = tt
   all-order (p ∷ ps) h = all-append P (map (active (length ps)) p) (numbered 1 ps) (all-active (length ps) p (h .0)) (all-numbered 1 ps (h .1))
 
-pub actives-stand : (a b : Row) → All (Stands a) (activesOf a b)
+pub actives-contiguous : (a b : Row) → All (Contiguous a) (activesOf a b)
 unfolding actives startOf tasksFrom
-actives-stand a b =
-    all-order (Stands a) (λ l. Somewhere (a .priority) (a .cost) (a .tasks) l × (0 < length l)) stands
-    (parts (floorOf b) (tailOf b) (tasksOf a)) (parts-stand (a .priority) (a .cost) (a .tasks) (floorOf b) (tailOf b))
+actives-contiguous a b =
+    all-order (Contiguous a) (λ l. Somewhere (a .priority) (a .cost) (a .tasks) l × (0 < length l)) one-is
+    (parts (floorOf b) (tailOf b) (tasksOf a)) (parts-follow (a .priority) (a .cost) (a .tasks) (floorOf b) (tailOf b))
   where
-    stands : (j : ℕ) (l : List Task) → Somewhere (a .priority) (a .cost) (a .tasks) l × (0 < length l) → Stands a (active j l)
-    stands j [] h = absurd (omega (arith, h .1))
-    stands j (t ∷ l) h =
+    one-is : (j : ℕ) (l : List Task) → Somewhere (a .priority) (a .cost) (a .tasks) l × (0 < length l) → Contiguous a (active j l)
+    one-is j [] h = absurd (omega (arith, h .1))
+    one-is j (t ∷ l) h =
         let k = h .0 .0 in
         let f = h .0 .1 in
         let e : t .place ≡ k = ap startOf (f .are) in

@@ -3,9 +3,8 @@ use Prim.Native.Nat.{ℕ}
 use mathlib.Core.List.{List, [], _∷_, _++_, map}
 use mathlib.Core.Bool.{Bool}
 use Rattle.search.specs.Choice.{_when_else_}
-use Rattle.search.specs.Lists.{sumOf, mostOf}
 use Rattle.table.specs.declared.Row.{Row}
-use Rattle.segments.specs.Tasks.{Task, tasksOf, costOf, floorOf, tailOf, below}
+use Rattle.segments.specs.Tasks.{Task, tasksOf, floorOf, tailOf, below}
 
 infixr 67 _on_
 -- one more in front of the first of some lists
@@ -42,13 +41,6 @@ segments floor ts = nonempty (around _++_ (stretches (below floor) ts))
 
 abbrev pub segmentsOf : Row → Row → List (List Task)
 segmentsOf a b = segments (floorOf b) (tasksOf a)
-
--- all segment costs together, and the dearest segment, 0 if there is none
-abbrev pub allCost : Row → Row → ℕ
-allCost a b = sumOf costOf (segmentsOf a b)
-
-abbrev pub dearestCost : Row → Row → ℕ
-dearestCost a b = mostOf costOf (segmentsOf a b)
 
 -- cut before each task that passes, except the first
 unfoldable pub cuts : (Task → Bool) → List Task → List (List Task)

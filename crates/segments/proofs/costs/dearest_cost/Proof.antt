@@ -14,25 +14,27 @@ use Rattle.segments.proofs.costs.dearest_cost.Statement.{statement}
 use Rattle.segments.proofs.costs.dearest_cost.Tie as tie
 
 abbrev Inv-loop : tie.InvT-loop
-Inv-loop s at floor first n best₀ sum₀ k₀ best sum k =
-    (k ≤ tasksAt s at) × (first .len + 1 ≤ k) × (sum ≤ maxCost * (k - (first .len + 1)))
-    × (dearFrom (rowAt s at .priority) (rowAt s at .cost) (tasksAt s at) floor (first .cost) 0 (first .len + 1) ≡ max best (dearFrom (rowAt s at .priority) (rowAt s at .cost) (tasksAt s at) floor (first .cost) sum k))
+Inv-loop s at floor first n best₀ sum₀ i₀ best sum i =
+    (i ≤ tasksAt s at) × (first .len + 1 ≤ i) × (sum ≤ maxCost * (i - (first .len + 1)))
+    × (dearFrom (rowAt s at .priority) (rowAt s at .cost) (tasksAt s at) floor (first .cost) 0 (first .len + 1) ≡ max best (dearFrom (rowAt s at .priority) (rowAt s at .cost) (tasksAt s at) floor (first .cost) sum i))
 
 abbrev μ-loop : tie.MeasureT-loop
-μ-loop s at floor first n best₀ sum₀ k₀ best sum k = tasksAt s at - k
+μ-loop s at floor first n best₀ sum₀ i₀ best sum i = tasksAt s at - i
 
--- the task k is there
-within : (c : tie.In-loop Inv-loop μ-loop) → c .before .loop .k < tasksAt (now (c .before .before .before .before .before .args .s)) (c .before .before .before .before .before .args .at)
+-- the task i is there
+within : (c : tie.In-loop Inv-loop μ-loop) → c .before .loop .i < tasksAt (now (c .before .before .before .before .before .args .s)) (c .before .before .before .before .before .args .at)
 within c = omega (arith, c .before .before .before .tasks-at .ensures .0, c .loop-test .taken)
 
 tasks-at-requires : tie.Need-tasks-at-requires Inv-loop μ-loop
 tasks-at-requires c κs = omega (arith, c .before .pre .0 .there)
 
-add-k : tie.Need-add-k Inv-loop μ-loop
-add-k c = omega (arith, c .before .before .before .pre .2, c .before .tasks-at .ensures .0, c .before .tasks-at .ensures .1)
+add-i : tie.Need-add-i Inv-loop μ-loop
+unfolding rowAt
+add-i c = omega (arith, c .before .before .before .pre .1 .deferred, c .before .tasks-at .ensures .0, c .before .tasks-at .ensures .1)
 
 loop-holds : tie.Need-loop-holds Inv-loop μ-loop
-loop-holds c = (omega (arith, c .before .before .before .pre .2), omega arith, omega arith, omega arith)
+unfolding rowAt
+loop-holds c = (omega (arith, c .before .before .before .pre .1 .deferred), omega arith, omega arith, omega arith)
 
 priority-at-requires : tie.Need-priority-at-requires Inv-loop μ-loop
 priority-at-requires c κs = (c .before .before .before .before .before .pre .0, within c)
@@ -45,10 +47,10 @@ cost-at-requires c κs = (c .before .before .before .before .before .before .bef
 
 add-sum : tie.Need-add-sum Inv-loop μ-loop
 unfolding rowAt
-add-sum c = let l = c .before .before .before .before .loop in omega (arith, c .before .before .before .before .before .before .before .before .pre .0 .good .tasks .few, c .before .before .before .before .before .before .before .before .pre .0 .good .tasks .costs-max (l .k), c .cost-at .ensures, l .inv .2, within (c .before .before .before))
+add-sum c = let l = c .before .before .before .before .loop in omega (arith, c .before .before .before .before .before .before .before .before .pre .0 .good .tasks .few, c .before .before .before .before .before .before .before .before .pre .0 .good .tasks .costs-max (l .i), c .cost-at .ensures, l .inv .2, within (c .before .before .before))
 
-add-k-2 : tie.Need-add-k-2 Inv-loop μ-loop
-add-k-2 c = omega (arith, c .before .before .before .before .before .tasks-at .ensures .1, c .before .before .loop-test .taken)
+add-i-2 : tie.Need-add-i-2 Inv-loop μ-loop
+add-i-2 c = omega (arith, c .before .before .before .before .before .tasks-at .ensures .1, c .before .before .loop-test .taken)
 
 loop-less : tie.Need-loop-less Inv-loop μ-loop
 loop-less c = omega (arith, within (c .before .before))
@@ -61,17 +63,16 @@ loop-again c =
     let r = rowAt (now (s .args .s)) (s .args .at) in
     let n = tasksAt (now (s .args .s)) (s .args .at) in
     let h = within (c .before .before) in
-    let m = s .pre .0 .good .tasks .costs-max (l .k) in
-    let i = l .inv .3 in
+    let m = s .pre .0 .good .tasks .costs-max (l .i) in
     ⊎-elim
     (λ w.
     let e : c .if1 .sum ≡ 0 = w .3 in
     let g : c .if1 .best ≡ max (l .best) (l .sum) = w .2 ∙ w .1 .ensures in
-    (omega (arith, h), omega arith, omega (arith, e), i ∙ rw (e, g) (omega (arith, dear-low (r .priority) (r .cost) n (s .args .floor) (f .cost) (l .sum) (l .k) h (omega (arith, c .before .priority-at .ensures .0, w .0 .taken))))))
+    (omega (arith, h), omega arith, omega (arith, e), l .inv .3 ∙ rw (e, g) (omega (arith, dear-low (r .priority) (r .cost) n (s .args .floor) (f .cost) (l .sum) (l .i) h (omega (arith, c .before .priority-at .ensures .0, w .0 .taken))))))
     (λ w.
-    let e : c .if1 .sum ≡ l .sum + getD (r .cost) (l .k) 0 = w .3 ∙ ap (λ x. l .sum + x) (w .1 .ensures) in
+    let e : c .if1 .sum ≡ l .sum + getD (r .cost) (l .i) 0 = w .3 ∙ ap (λ x. l .sum + x) (w .1 .ensures) in
     let g : c .if1 .best ≡ l .best = w .2 in
-    (omega (arith, h), omega arith, omega (arith, e, m), i ∙ rw (e, g) (ap (λ x. max (l .best) x) (dear-high (r .priority) (r .cost) n (s .args .floor) (f .cost) (l .sum) (l .k) h (omega (arith, c .before .priority-at .ensures .0, w .0 .left))))))
+    (omega (arith, h), omega arith, omega (arith, e, m), l .inv .3 ∙ rw (e, g) (ap (λ x. max (l .best) x) (dear-high (r .priority) (r .cost) n (s .args .floor) (f .cost) (l .sum) (l .i) h (omega (arith, c .before .priority-at .ensures .0, w .0 .left))))))
     (c .if1 .came)
 
 add-greater : tie.Need-add-greater Inv-loop μ-loop
@@ -80,7 +81,7 @@ add-greater c =
     let s = c .before .before .before .before .before .before in
     let l = c .before .before .loop in
     let r = rowAt (now (s .args .s)) (s .args .at) in
-    let d = s .pre .1 ∙ ap stretchOf (sym (ahead-first (r .priority) (r .cost) (r .tasks) (s .args .floor))) in
+    let d = s .pre .1 .is ∙ ap stretchOf (sym (ahead-first (r .priority) (r .cost) (r .tasks) (s .args .floor))) in
     omega (arith, ahead-fits (r .priority) (r .cost) (r .tasks) (s .args .floor) 0 (s .args .first) d (s .pre .0 .good .tasks .costs-max), s .pre .0 .good .tasks .few, l .inv .0, l .inv .1, l .inv .2)
 
 greater-requires-2 : tie.Need-greater-requires-2 Inv-loop μ-loop
@@ -94,9 +95,9 @@ returns c =
     let r = rowAt (now (s .args .s)) (s .args .at) in
     c .greater2 .ensures
     ∙ sym
-    (dearest-more (r .priority) (r .cost) (r .tasks) (s .args .floor) (s .args .first) (s .pre .1) (s .pre .2)
+    (dearest-more r (s .args .floor) (s .args .first) (s .pre .1)
     ∙ l .inv .3
-    ∙ ap (λ x. max (l .best) x) (dear-end (r .priority) (r .cost) (r .tasks) (s .args .floor) (s .args .first .cost) (l .sum) (l .k) (omega (arith, c .before .before .before .before .before .tasks-at .ensures .0, c .before .before .loop-test .left))))
+    ∙ ap (λ x. max (l .best) x) (dear-end (r .priority) (r .cost) (r .tasks) (s .args .floor) (s .args .first .cost) (l .sum) (l .i) (omega (arith, c .before .before .before .before .before .tasks-at .ensures .0, c .before .before .loop-test .left))))
 
 pub dearest-cost-spec : {M : Type 1} → statement M
 dearest-cost-spec =
@@ -105,13 +106,13 @@ dearest-cost-spec =
     Inv-loop
     μ-loop
     tasks-at-requires
-    add-k
+    add-i
     loop-holds
     priority-at-requires
     greater-requires
     cost-at-requires
     add-sum
-    add-k-2
+    add-i-2
     loop-less
     loop-again
     add-greater

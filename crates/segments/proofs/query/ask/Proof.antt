@@ -21,15 +21,15 @@ abbrev table : tie.Start → Table
 table c = tableOf (now (c .args .s))
 
 -- both ids are in the table
-first : (c : tie.Else2) → findOf (table (c .before .before .before .before .before .before)) (c .before .before .before .before .before .before .args .chain) < table (c .before .before .before .before .before .before) .count
-first c = known-below (table (c .before .before .before .before .before .before)) (c .before .before .before .before .before .before .args .chain) (λ e. c .before .if1 .left (c .before .before .before .before .find .ensures ∙ e ∙ sym (c .before .before .count .ensures)))
+first : (c : tie.Else2) → findOf (table (c .before .before .before .before .before .before)) (c .before .before .before .before .before .before .args .id) < table (c .before .before .before .before .before .before) .count
+first c = known-below (table (c .before .before .before .before .before .before)) (c .before .before .before .before .before .before .args .id) (λ e. c .before .if1 .left (c .before .before .before .before .find .ensures ∙ e ∙ sym (c .before .before .count .ensures)))
 
 second : (c : tie.Else2) → findOf (table (c .before .before .before .before .before .before)) (c .before .before .before .before .before .before .args .against) < table (c .before .before .before .before .before .before) .count
 second c = known-below (table (c .before .before .before .before .before .before)) (c .before .before .before .before .before .before .args .against) (λ e. eqb-false _ _ (c .if2 .left) (c .before .before .before .find2 .ensures ∙ e ∙ sym (c .before .before .count .ensures)))
 
-named : (c : tie.Else2) → (not (used (table (c .before .before .before .before .before .before)) (c .before .before .before .before .before .before .args .chain)) || not (used (table (c .before .before .before .before .before .before)) (c .before .before .before .before .before .before .args .against))) ≡ false
+named : (c : tie.Else2) → (not (used (table (c .before .before .before .before .before .before)) (c .before .before .before .before .before .before .args .id)) || not (used (table (c .before .before .before .before .before .before)) (c .before .before .before .before .before .before .args .against))) ≡ false
 named c =
-    or-none _ _ (known (table (c .before .before .before .before .before .before)) (c .before .before .before .before .before .before .args .chain) (λ e. omega (arith, first c))) (known (table (c .before .before .before .before .before .before)) (c .before .before .before .before .before .before .args .against) (λ e. omega (arith, second c)))
+    or-none _ _ (known (table (c .before .before .before .before .before .before)) (c .before .before .before .before .before .before .args .id) (λ e. omega (arith, first c))) (known (table (c .before .before .before .before .before .before)) (c .before .before .before .before .before .before .args .against) (λ e. omega (arith, second c)))
 
 find-requires : tie.Need-find-requires
 find-requires c κs = search needs
@@ -45,8 +45,8 @@ unfolding answerOf
 returns c =
     let s = c .before .before .before .before .before in
     sym (when-yes _ _ (⊎-elim
-    (λ w. or-left _ _ (unknown (table s) (s .args .chain) (sym (c .before .before .before .find .ensures) ∙ w .taken ∙ c .before .count .ensures)))
-    (λ w. or-right (not (used (table s) (s .args .chain))) _ (unknown (table s) (s .args .against) (sym (c .before .before .find2 .ensures) ∙ eqb-true _ _ (w .1 .taken) ∙ c .before .count .ensures)))
+    (λ w. or-left _ _ (unknown (table s) (s .args .id) (sym (c .before .before .before .find .ensures) ∙ w .taken ∙ c .before .count .ensures)))
+    (λ w. or-right (not (used (table s) (s .args .id))) _ (unknown (table s) (s .args .against) (sym (c .before .before .find2 .ensures) ∙ eqb-true _ _ (w .1 .taken) ∙ c .before .count .ensures)))
     (c .if1 .came)))
 
 returns-2 : tie.Need-returns-2
@@ -61,7 +61,7 @@ returns-3 : tie.Need-returns-3
 unfolding answerOf
 returns-3 c =
     let s = c .before .before .before .before .before .before .before .before in
-    c .nth .ensures ∙ ap₂ (λ k j. nthOf (table s) k j (s .args .number)) (c .before .before .before .before .before .before .find .ensures) (c .before .before .before .before .before .find2 .ensures)
+    c .nth .ensures ∙ ap₂ (λ chain other. nthOf (table s) chain other (s .args .number)) (c .before .before .before .before .before .before .find .ensures) (c .before .before .before .before .before .find2 .ensures)
     ∙ sym (when-no _ _ (named (c .before .before)) ∙ when-no _ _ (ne-eqb _ _ (c .before .if3 .left)))
 
 pub ask-spec : {M : Type 1} → statement M

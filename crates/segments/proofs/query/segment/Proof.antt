@@ -27,13 +27,13 @@ returns : tie.Need-returns
 unfolding segmentOf
 returns c =
     let s = c .before .before .before .before .before in
-    c .ask .ensures ∙ ap (λ v. byVerdict Refused v (answerOf (tableOf (now (s .args .table))) (s .args .chain) (s .args .against) (s .args .number))) (sym (c .before .enum-told .given .1) ∙ c .before .before .before .judge .ensures)
+    c .ask .ensures ∙ ap (λ v. byVerdict Refused v (answerOf (tableOf (now (s .args .table))) (s .args .id) (s .args .against) (s .args .number))) (sym (c .before .enum-told .given .1) ∙ c .before .before .before .judge .ensures)
 
 returns-2 : tie.Need-returns-2
 unfolding segmentOf
 returns-2 c =
     let s = c .before .before .before .before .before in
-    ap (λ v. byVerdict Refused v (answerOf (tableOf (now (s .args .table))) (s .args .chain) (s .args .against) (s .args .number))) (sym (c .before .n .given .1) ∙ c .before .before .before .judge .ensures)
+    ap (λ v. byVerdict Refused v (answerOf (tableOf (now (s .args .table))) (s .args .id) (s .args .against) (s .args .number))) (sym (c .before .n .given .1) ∙ c .before .before .before .judge .ensures)
 
 pub segment-spec : {M : Type 1} → statement M
 segment-spec =

@@ -35,7 +35,7 @@ part-result-end : tie.Need-part-result-end
 part-result-end c =
     let s = c .before .before .before .before .before in
     let a = c .before .answer .given in
-    let i = answer-inside (now (s .args .table)) (λ k. omega (arith, c .before .before .before .before .shared-slice-known .given k)) (s .args .chain) (s .args .against) (s .args .number) (a .0 .0) (a .0 .1 .0) (sym (c .before .before .before .segment .ensures) ∙ a .1) in
+    let i = answer-inside (now (s .args .table)) (λ k. omega (arith, c .before .before .before .before .shared-slice-known .given k)) (s .args .id) (s .args .against) (s .args .number) (a .0 .0) (a .0 .1 .0) (sym (c .before .before .before .segment .ensures) ∙ a .1) in
     omega (arith, i)
 
 enum-told : tie.Need-enum-told
