@@ -30,7 +30,7 @@ use Rattle.segments.specs.Query.{activesIn, nthOf}
 use Rattle.segments.specs.declared.Actives.{Actives}
 use Rattle.segments.specs.declared.Answer.the-variants.{Records, Refused}
 use Rattle.segments.proofs.Bounds.{actives-tasks}
-use Rattle.segments.proofs.Standing.{Contiguous, actives-contiguous, all-at, array-at}
+use Rattle.segments.proofs.Standing.{active-contiguous, active-start, active-length, array-at}
 
 -- an id is in the table unless the count of chains is found for it
 module _ (t : Table) (id : ℕ) where
@@ -68,7 +68,7 @@ fetched a b l n e some few =
       start = rw e (array-at (λ s. s .start) (activesOf a b) (n - 1) h);
       len = rw e (array-at (λ s. s .len) (activesOf a b) (n - 1) h);
       few = omega (arith, actives-tasks a (floorOf b) (tailOf b));
-      inside = all-at (Contiguous a) (activesOf a b) (n - 1) (actives-contiguous a b) h .inside;
+      inside = omega (arith, active-start a b (n - 1), active-length a b (n - 1), active-contiguous a b (n - 1) .inside);
     }
 
 module _ (t : Table) (chain other n : ℕ) (l : Actives) (e : l ≡ arraysOf (activesIn t chain other)) where

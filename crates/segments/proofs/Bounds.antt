@@ -2,26 +2,27 @@
 use Prim.Native.Nat.{ℕ, zero, suc, _+_, _*_, _-_, _<_, _≤_}
 use native.Mathlib.Omega.{arith}
 use native.Mathlib.Nat.{eq-or-lt-of-le}
-use mathlib.Core.Path.{_≡_, refl, ap, ap₂, sym, subst, _∙_}
+use mathlib.Core.Path.{_≡_, refl, ap, sym, subst, _∙_}
 use mathlib.Core.Logic.{⊎-elim}
-use mathlib.Core.List.{List, [], _∷_, map}
+use mathlib.Core.List.{List, [], _∷_, map, flatten}
 use mathlib.Core.Bool.{Bool, true, false, _||_}
 use borrow.Author.Tests.{eq-eqb}
 use lib.ListN.{length}
 use Rattle.search.specs.Choice.{_when_else_}
 use Rattle.search.specs.Lists.{sumOf, mostOf, All, some}
-use Rattle.search.proofs.Lists.{sum-append, sum-ext}
+use Rattle.search.proofs.Lists.{sum-ext}
 use Rattle.table.specs.Limits.{maxTasks, maxCost}
 use Rattle.table.specs.code.Good.{GoodRow}
 use Rattle.table.specs.declared.Row.{Row}
 use Rattle.segments.specs.Tasks.{Task, tasksFrom, tasksOf, costOf, chainCost, floorOf, tailOf, below, atLevel, before, firstCost, ownPart}
 use Rattle.segments.specs.Segments.{_on_, stretches, cuts, parts, segmentsOf}
-use Rattle.segments.specs.Actives.{Active, active, numbered, inOrder, actives, activesOf}
+use Rattle.segments.specs.Actives.{Active, active, inOrder, actives, activesOf}
 use Rattle.segments.proofs.Steps.{task, rest-each, rest-length, cheap}
 use Rattle.segments.proofs.Levels.{lowest-hit}
 use Rattle.segments.proofs.Lists.{sum-ones, each-sum, most-sum, sum-map, sum-flatten}
 use Rattle.segments.proofs.Stretches.{cuts-flatten}
 use Rattle.segments.proofs.Costing.{kept, stretches-cost, all-kept}
+use Rattle.segments.proofs.Standing.{order-map}
 
 module _ (p : Task → Bool) where
   first-kept : (ts : List Task) → costOf (before p ts) ≤ kept p ts
@@ -120,19 +121,9 @@ stretches-few p (t ∷ ts) = go (p t) (stretches p ts) (stretches-few p ts)
     go false (s ∷ ss) h = omega arith
 
 -- the active segments by number sum to what those of the stretches do
-module _ (f : List Task → ℕ) (g : Active → ℕ) (same : (j : ℕ) (l : List Task) → g (active j l) ≡ f l) where
-  active-sum : (j : ℕ) (p : List (List Task)) → sumOf g (map (active j) p) ≡ sumOf f p
-  active-sum j p = sum-map (active j) g p ∙ sum-ext (λ l. g (active j l)) f p (same j)
-
-  numbered-sum : (k : ℕ) (ps : List (List (List Task))) → sumOf g (numbered k ps) ≡ sumOf (sumOf f) ps
-  unfolding numbered sumOf
-  numbered-sum k [] = refl
-  numbered-sum k (p ∷ ps) = sum-append g (map (active k) p) (numbered (k + 1) ps) ∙ ap₂ _+_ (active-sum k p) (numbered-sum (k + 1) ps)
-
-  pub order-sum : (ps : List (List (List Task))) → sumOf g (inOrder ps) ≡ sumOf (sumOf f) ps
-  unfolding inOrder sumOf
-  order-sum [] = refl
-  order-sum (p ∷ ps) = sum-append g (map (active (length ps)) p) (numbered 1 ps) ∙ ap₂ _+_ (active-sum (length ps) p) (numbered-sum 1 ps)
+order-sum : (f : List Task → ℕ) (g : Active → ℕ) → ((j : ℕ) (l : List Task) → g (active j l) ≡ f l) → (ps : List (List (List Task))) → sumOf g (inOrder ps) ≡ sumOf (sumOf f) ps
+order-sum f g same ps =
+    sym (sum-map g (λ n. n) (inOrder ps)) ∙ ap (sumOf (λ n. n)) (order-map g f same ps) ∙ sum-map f (λ n. n) (flatten ps) ∙ sum-flatten f ps
 
 order-length : (ps : List (List (List Task))) → length (inOrder ps) ≡ sumOf length ps
 order-length ps =

@@ -1,32 +1,25 @@
 -- An active segment is contiguous: its tasks follow one another in the chain, inside it. Assumes nothing.
 use Prim.Native.Nat.{ℕ, zero, suc, _+_, _-_, _<_, _≤_}
 use native.Mathlib.Omega.{arith}
-use mathlib.Core.Path.{_≡_, refl, ap, sym, subst, _∙_}
-use mathlib.Core.List.{List, [], _∷_, map}
+use mathlib.Core.Path.{_≡_, refl, ap, ap₂, sym, subst, _∙_}
+use mathlib.Core.List.{List, [], _∷_, _++_, map, map-append, flatten}
 use mathlib.Core.Bool.{Bool, true, false}
-use lib.ListN.{length, getD, replicate, length-map, List·getD-append}
+use lib.ListN.{length, getD, replicate, length-map, List·getD-append, List·getD-map}
 use Rattle.search.specs.Choice.{_when_else_}
 use Rattle.search.specs.Lists.{All}
 use Rattle.search.proofs.Lists.{all-append, all-map}
 use Rattle.table.specs.Limits.{maxTasks}
 use Rattle.table.specs.Record.{pad}
 use Rattle.table.specs.declared.Row.{Row}
-use Rattle.segments.specs.Tasks.{Task, tasksFrom, tasksOf, costOf, floorOf, tailOf, below}
-use Rattle.segments.specs.Segments.{_on_, stretches, cuts, parts}
+use Rattle.segments.specs.Tasks.{Task, tasksFrom, tasksOf, floorOf, tailOf, below}
+use Rattle.segments.specs.Segments.{_on_, stretches, cuts, parts, activeTasks}
 use Rattle.segments.specs.Actives.{Active, startOf, active, numbered, inOrder, actives, activesOf, nothing}
 use Rattle.segments.proofs.Steps.{task}
-use Rattle.segments.proofs.Lists.{Solid}
-use Rattle.segments.proofs.Stretches.{all-solid}
 
--- an active segment of the row a: its tasks stand in a, from `start` on, there is one, and its cost is theirs
-pub record Contiguous (a : Row) (s : Active) : Type 0 where
-  pub inside : s .start + s .len ≤ a .tasks
-  pub some : 1 ≤ s .len
-  pub cost : s .cost ≡ costOf (tasksFrom (a .priority) (a .cost) (s .len) (s .start))
-
-all-both : {A : Type 0} (P Q : A → Type 0) (l : List A) → All P l → All Q l → All (λ a. P a × Q a) l
-all-both P Q [] h k = tt
-all-both P Q (a ∷ l) h k = ((h .0, k .0), all-both P Q l (h .1) (k .1))
+-- tasks that follow one another in the row a, inside it
+pub record Contiguous (a : Row) (l : List Task) : Type 0 where
+  pub are : l ≡ tasksFrom (a .priority) (a .cost) (length l) (startOf l)
+  pub inside : startOf l + length l ≤ a .tasks
 
 module _ (ps cs : List ℕ) (n : ℕ) where
   -- the tasks l follow one another from the place k on, inside the chain
@@ -91,54 +84,74 @@ module _ (ps cs : List ℕ) (n : ℕ) where
       let c : All Somewhere (cuts p (tasksFrom ps cs (length s) k)) = apart k (cuts p (tasksFrom ps cs (length s) k)) (cuts-lined p (length s) k (f .inside)) in
       (subst (λ l. All Somewhere (cuts p l)) (sym (f .are)) c, cut-each p ss (h .1))
 
-  -- the cuts follow, and have tasks
-  parts-follow : (floor tail : ℕ) → All (All (λ l. Somewhere l × (0 < length l))) (parts floor tail (tasksFrom ps cs n 0))
-  unfolding parts
-  parts-follow floor tail =
-      let ss = stretches (below floor) (tasksFrom ps cs n 0) in
-      let follow = cut-each (below tail) ss (apart 0 ss (stretches-lined (below floor) n 0 (omega arith))) in
-      let cs = map (cuts (below tail)) ss in
-      all-map (λ l h. all-both Somewhere (λ x. 0 < length x) l (h .0) (h .1)) cs (all-both (All Somewhere) Solid cs follow (all-solid (below tail) ss))
+all-flatten : {A : Type 0} (P : A → Type 0) (ls : List (List A)) → All (All P) ls → All P (flatten ls)
+unfolding flatten
+all-flatten P [] h = tt
+all-flatten P (l ∷ ls) h = all-append P l (flatten ls) (h .0) (all-flatten P ls (h .1))
 
--- what holds of each active segment, whatever its number
-module _ (P : Active → Type 0) (Q : List Task → Type 0) (keeps : (j : ℕ) (l : List Task) → Q l → P (active j l)) where
-  all-active : (j : ℕ) (p : List (List Task)) → All Q p → All P (map (active j) p)
-  all-active j [] h = tt
-  all-active j (l ∷ p) h = (keeps j l (h .0), all-active j p (h .1))
+-- each of a list, by its place in it, and what stands for those past its end
+all-at : {A : Type 0} (P : A → Type 0) (l : List A) (i : ℕ) (d : A) → All P l → P d → P (getD l i d)
+all-at P [] i d h e = e
+all-at P (a ∷ l) zero d h e = h .0
+all-at P (a ∷ l) (suc i) d h e = all-at P l i d (h .1) e
 
-  all-numbered : (k : ℕ) (ps : List (List (List Task))) → All (All Q) ps → All P (numbered k ps)
-  unfolding numbered
-  all-numbered k [] h = tt
-  all-numbered k (p ∷ ps) h = all-append P (map (active k) p) (numbered (k + 1) ps) (all-active k p (h .0)) (all-numbered (k + 1) ps (h .1))
-
-  pub all-order : (ps : List (List (List Task))) → All (All Q) ps → All P (inOrder ps)
-  unfolding inOrder
-  all-order [] h = tt
-  all-order (p ∷ ps) h = all-append P (map (active (length ps)) p) (numbered 1 ps) (all-active (length ps) p (h .0)) (all-numbered 1 ps (h .1))
-
-pub actives-contiguous : (a b : Row) → All (Contiguous a) (activesOf a b)
-unfolding actives startOf tasksFrom
-actives-contiguous a b =
-    all-order (Contiguous a) (λ l. Somewhere (a .priority) (a .cost) (a .tasks) l × (0 < length l)) one-is
-    (parts (floorOf b) (tailOf b) (tasksOf a)) (parts-follow (a .priority) (a .cost) (a .tasks) (floorOf b) (tailOf b))
+pub active-contiguous : (a b : Row) (i : ℕ) → Contiguous a (getD (activeTasks a b) i [])
+unfolding parts startOf tasksFrom
+active-contiguous a b i =
+    all-at (Contiguous a) (activeTasks a b) i [] (all-map (λ l h. is l (h .0) (h .1)) (activeTasks a b) (all-flatten (Somewhere (a .priority) (a .cost) (a .tasks)) (parts (floorOf b) (tailOf b) (tasksOf a)) follow))
+    (record { are = refl; inside = omega arith })
   where
-    one-is : (j : ℕ) (l : List Task) → Somewhere (a .priority) (a .cost) (a .tasks) l × (0 < length l) → Contiguous a (active j l)
-    one-is j [] h = absurd (omega (arith, h .1))
-    one-is j (t ∷ l) h =
-        let k = h .0 .0 in
-        let f = h .0 .1 in
-        let e : t .place ≡ k = ap startOf (f .are) in
-        record {
-          inside = omega (arith, f .inside);
-          some = omega arith;
-          cost = ap costOf (f .are) ∙ ap (λ i. costOf (tasksFrom (a .priority) (a .cost) (suc (length l)) i)) (sym e);
-        }
+    ss : List (List Task)
+    ss = stretches (below (floorOf b)) (tasksOf a)
 
--- each of a list, by its place in it
-pub all-at : (P : Active → Type 0) (l : List Active) (k : ℕ) → All P l → k < length l → P (getD l k nothing)
-all-at P [] k h lt = absurd (omega arith)
-all-at P (a ∷ l) zero h lt = h .0
-all-at P (a ∷ l) (suc k) h lt = all-at P l k (h .1) (omega arith)
+    follow : All (All (Somewhere (a .priority) (a .cost) (a .tasks))) (map (cuts (below (tailOf b))) ss)
+    follow =
+        cut-each (a .priority) (a .cost) (a .tasks) (below (tailOf b)) ss
+        (apart (a .priority) (a .cost) (a .tasks) 0 ss (stretches-lined (a .priority) (a .cost) (a .tasks) (below (floorOf b)) (a .tasks) 0 (omega arith)))
+
+    is : (l : List Task) (k : ℕ) → Follow (a .priority) (a .cost) (a .tasks) k l → Contiguous a l
+    is [] k f = record { are = refl; inside = omega arith }
+    is (t ∷ l) k f =
+        let e : t .place ≡ k = ap startOf (f .are) in
+        record { are = f .are ∙ ap (tasksFrom (a .priority) (a .cost) (suc (length l))) (sym e); inside = omega (arith, f .inside) }
+
+-- the active segments by number are these, one by one
+module _ {A : Type 0} (f : Active → A) (g : List Task → A) (same : (j : ℕ) (l : List Task) → f (active j l) ≡ g l) where
+  active-map : (j : ℕ) (p : List (List Task)) → map f (map (active j) p) ≡ map g p
+  active-map j [] = refl
+  active-map j (l ∷ p) = ap₂ _∷_ (same j l) (active-map j p)
+
+  one-more : (j : ℕ) (p : List (List Task)) (r : List Active) (ls : List (List Task)) → map f r ≡ map g ls → map f (map (active j) p ++ r) ≡ map g (p ++ ls)
+  one-more j p r ls e = map-append f (map (active j) p) r ∙ ap₂ _++_ (active-map j p) e ∙ sym (map-append g p ls)
+
+  numbered-map : (j : ℕ) (ps : List (List (List Task))) → map f (numbered j ps) ≡ map g (flatten ps)
+  unfolding numbered flatten
+  numbered-map j [] = refl
+  numbered-map j (p ∷ ps) = one-more j p (numbered (j + 1) ps) (flatten ps) (numbered-map (j + 1) ps)
+
+  pub order-map : (ps : List (List (List Task))) → map f (inOrder ps) ≡ map g (flatten ps)
+  unfolding inOrder flatten
+  order-map [] = refl
+  order-map (p ∷ ps) = one-more (length ps) p (numbered 1 ps) (flatten ps) (numbered-map 1 ps)
+
+  pub actives-map : (a b : Row) → map f (activesOf a b) ≡ map g (activeTasks a b)
+  unfolding actives
+  actives-map a b = order-map (parts (floorOf b) (tailOf b) (tasksOf a))
+
+module _ (a b : Row) where
+  pub actives-length : length (activesOf a b) ≡ length (activeTasks a b)
+  actives-length = sym (length-map (activesOf a b) (λ s. s .len)) ∙ ap length (actives-map (λ s. s .len) length (λ j l. refl) a b) ∙ length-map (activeTasks a b) length
+
+  pub active-start : (i : ℕ) → getD (activesOf a b) i nothing .start ≡ startOf (getD (activeTasks a b) i [])
+  unfolding startOf
+  active-start i =
+      sym (List·getD-map (λ s. s .start) (activesOf a b) i nothing) ∙ ap (λ l. getD l i 0) (actives-map (λ s. s .start) startOf (λ j l. refl) a b)
+      ∙ List·getD-map startOf (activeTasks a b) i []
+
+  pub active-length : (i : ℕ) → getD (activesOf a b) i nothing .len ≡ length (getD (activeTasks a b) i [])
+  active-length i =
+      sym (List·getD-map (λ s. s .len) (activesOf a b) i nothing) ∙ ap (λ l. getD l i 0) (actives-map (λ s. s .len) length (λ j l. refl) a b)
+      ∙ List·getD-map length (activeTasks a b) i []
 
 -- a number out of the arrays that hold the list
 pub array-at : (f : Active → ℕ) (l : List Active) (k : ℕ) → k < length l → getD (pad maxTasks (map f l)) k 0 ≡ f (getD l k nothing)

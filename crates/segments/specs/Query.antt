@@ -1,18 +1,21 @@
 -- The segment query over a stored table (01, 'Numbers given back' and 'Segments against chain b').
-use Prim.Native.Nat.{ℕ, _+_, _*_, _-_}
+use Prim.Native.Nat.{ℕ, _+_, _*_, _-_, _≤_}
 use mathlib.Core.Path.{_≡_}
-use mathlib.Core.List.{List, [], _∷_}
+use mathlib.Core.List.{List, [], _∷_, _++_, map, flatten}
 use mathlib.Core.Bool.{not, _||_}
 use lib.ListN.{length, getD, take, drop}
 use lib.Dec.{eqb}
 use denote.Ref.{RefT, ptr, now}
 use Rattle.search.specs.Choice.{_when_else_}
+use Rattle.table.specs.Bytes.{bytesOf}
 use Rattle.table.specs.Find.{rowOf, findOf, used}
 use Rattle.table.specs.Record.{afterList}
 use Rattle.table.specs.Fault.{outside}
 use Rattle.table.specs.Place.{placeOf}
 use Rattle.table.specs.Read.{byVerdict, readTable, tableOf}
 use Rattle.table.specs.declared.Table.{Table}
+use Rattle.segments.specs.Tasks.{Task}
+use Rattle.segments.specs.Segments.{activeTasks}
 use Rattle.segments.specs.Actives.{Active, nothing, activesOf}
 use Rattle.segments.specs.declared.Answer.{Answer}
 use Rattle.segments.specs.declared.Answer.the-variants.{Records, Refused}
@@ -64,3 +67,19 @@ offsetOf (Refused n) = 0
 pub record HandedBack (table r : RefT (List ℕ)) (answer : Answer) : Type 0 where
   pub bytes : now r ≡ partOf (now table) answer
   pub place : ptr r ≡ (ptr table .0, offsetOf answer + ptr table .1)
+
+-- what that part is: the records of the active segment's tasks, one after the other
+
+-- a task's record in bytes: its mark `TK`, its priority and its cost
+abbrev pub taskRecord : Task → List ℕ
+taskRecord t = bytesOf 2 19284 ++ (bytesOf 2 (t .priority) ++ bytesOf 4 (t .cost))
+
+-- the active segments of the chain with one id against the chain with the other, in task order, each as its tasks
+abbrev pub tasksIn : Table → ℕ → ℕ → List (List Task)
+tasksIn t id against = activeTasks (rowOf t (findOf t id)) (rowOf t (findOf t against))
+
+-- a part of a table's bytes is the task records of the active segment of that number, counted from 1
+pub record TaskRecords (s : List ℕ) (id against number : ℕ) (part : List ℕ) : Type 0 where
+  pub low : 1 ≤ number
+  pub high : number ≤ length (tasksIn (tableOf s) id against)
+  pub bytes : part ≡ flatten (map taskRecord (getD (tasksIn (tableOf s) id against) (number - 1) []))

@@ -1,6 +1,6 @@
 -- A chain's segments against a chain b, and their cuts (01, 'Segments against chain b'). A segment is a list of tasks.
 use Prim.Native.Nat.{ℕ}
-use mathlib.Core.List.{List, [], _∷_, _++_, map}
+use mathlib.Core.List.{List, [], _∷_, _++_, map, flatten}
 use mathlib.Core.Bool.{Bool}
 use Rattle.search.specs.Choice.{_when_else_}
 use Rattle.table.specs.declared.Row.{Row}
@@ -51,6 +51,10 @@ cuts p (t ∷ u ∷ ts) = (t ∷ []) ∷ cuts p (u ∷ ts) when p u else t on cu
 -- active segments: stretches end at the last task; each is cut before each task below the tail, except its first
 unfoldable pub parts : ℕ → ℕ → List Task → List (List (List Task))
 parts floor tail ts = map (cuts (below tail)) (stretches (below floor) ts)
+
+-- all of them, in task order
+abbrev pub activeTasks : Row → Row → List (List Task)
+activeTasks a b = flatten (parts (floorOf b) (tailOf b) (tasksOf a))
 
 -- the segments, each as its active segments
 unfoldable pub cutSegments : ℕ → ℕ → List Task → List (List (List Task))

@@ -1,5 +1,5 @@
 -- Every accepted reading is a good table, and its bytes hold it. Assumes nothing.
-use Prim.Native.Nat.{ℕ, zero, suc, _+_, _<_, _≤_}
+use Prim.Native.Nat.{ℕ, zero, suc, _+_, _*_, _<_, _≤_}
 use native.Mathlib.Omega.{arith}
 use native.Mathlib.Numerals.{add-one}
 use mathlib.Core.Path.{_≡_, refl, ap, sym, _∙_}
@@ -16,7 +16,7 @@ use Rattle.search.proofs.Find.{first-miss}
 use Rattle.search.proofs.Lists.{sum-append}
 use Rattle.table.specs.Limits.{maxChains, maxAllTasks, maxBytes}
 use Rattle.table.specs.Bytes.{word, Bytes}
-use Rattle.table.specs.Record.{idAt, lengthAt, rowAt}
+use Rattle.table.specs.Record.{idAt, afterList, lengthAt, rowAt}
 use Rattle.table.specs.Find.{none, rowOf, rows, findOf, used}
 use Rattle.table.specs.Fault.{markOf, chainFault, endFault}
 use Rattle.table.specs.Read.{blank, empty, plus, refusal, accepted, unless, byMark, start, records, readTable}
@@ -46,6 +46,7 @@ record Kept (s : List ℕ) (at : ℕ) (t : Table) : Type 0 where
   place : at ≡ placeOf t (t .count)
   marks : (k : ℕ) → k < t .count → markOf (word 2 s (placeOf t k)) ≡ Chain
   makes : (k : ℕ) → k < t .count → rowAt s (placeOf t k) ≡ rowOf t k
+  task-marks : (k : ℕ) → k < t .count → (i : ℕ) → i < rowOf t k .tasks → markOf (word 2 s (afterList (placeOf t k) (rowOf t k .listed) + 8 * i)) ≡ Task
   inside : (k : ℕ) → k < t .count → placeOf t k + lengthOf (rowOf t k) ≤ length s
 
 kept-empty : (s : List ℕ) → Kept s 0 empty
@@ -61,6 +62,7 @@ kept-empty s = record {
   place = place-none empty;
   marks = λ k h. absurd (omega (arith, h));
   makes = λ k h. absurd (omega (arith, h));
+  task-marks = λ k h. absurd (omega (arith, h));
   inside = λ k h. absurd (omega (arith, h));
 }
 
@@ -113,6 +115,9 @@ module _ (s : List ℕ) (at : ℕ) (t : Table) (g : Kept s at t) (bytes : Bytes 
         place = place;
         marks = more (λ k. markOf (word 2 s (placeOf (plus t r) k)) ≡ Chain) (λ k h. rw (before k (omega arith)) (g .marks k h)) (rw here mark);
         makes = more (λ k. rowAt s (placeOf (plus t r) k) ≡ rowOf (plus t r) k) (λ k h. rw (before k (omega arith), old k h) (g .makes k h)) (rw (here, new));
+        task-marks =
+            more (λ k. (i : ℕ) → i < rowOf (plus t r) k .tasks → markOf (word 2 s (afterList (placeOf (plus t r) k) (rowOf (plus t r) k .listed) + 8 * i)) ≡ Task)
+            (λ k h. rw (before k (omega arith), old k h) (g .task-marks k h)) (rw (here, new) (λ i h. c .tasks i h .mark));
         inside = more (λ k. placeOf (plus t r) k + lengthOf (rowOf (plus t r) k) ≤ length s) (λ k h. rw (before k (omega arith), old k h) (g .inside k h)) (rw (here, new) (c .there));
       }
     where
@@ -163,6 +168,7 @@ end-sound s at t g e a =
       record {
         marks = g .marks;
         makes = g .makes;
+        task-marks = g .task-marks;
         inside = g .inside;
         ends = omega (arith, g .place, last);
         counts = ap (λ n. word 2 s (n + 2)) (sym (g .place)) ∙ eqb-true _ _ (not-false _ (e3 .0));

@@ -1,17 +1,20 @@
 -- What the absence of a fault says of a record. Assumes nothing.
 use Prim.Native.Nat.{ℕ, zero, suc, _+_, _*_, _-_, _<_, _≤_}
 use native.Mathlib.Omega.{arith}
-use mathlib.Core.Path.{_≡_}
+use mathlib.Core.Path.{_≡_, refl}
 use mathlib.Core.List.{List}
-use mathlib.Core.Bool.{false}
+use mathlib.Core.Bool.{true, false}
 use lib.ListN.{length}
 use lib.Dec.{eqb}
-use borrow.Author.Tests.{ltb-false, eqb-false}
+use borrow.Author.Tests.{ltb-false, eqb-false, not-false}
 use Rattle.table.specs.Limits.{maxDeadline, maxGap, maxDistances, maxTasks, maxAllTasks, maxCost}
+use Rattle.table.specs.Bytes.{word}
 use Rattle.table.specs.Record.{idAt, kindAt, overloadAt, deadlineAt, gapAt, listedAt, tasksAt, firstTask, lengthAt, priorityAt, costAt, distancesAt}
 use Rattle.table.specs.Find.{used}
-use Rattle.table.specs.Fault.{outside, headFault, listFault, taskFault, tasksFault, chainFault}
+use Rattle.table.specs.Fault.{outside, markOf, isTask, headFault, listFault, taskFault, tasksFault, chainFault}
 use Rattle.table.specs.declared.Table.{Table}
+use Rattle.table.specs.declared.Mark.{Mark}
+use Rattle.table.specs.declared.Mark.the-variants.{Chain, Task, End, Other}
 use Rattle.table.proofs.Firsts.{none-or, when-zero, then-zero}
 
 pub inside : (low high x : ℕ) → outside low high x ≡ false → (low ≤ x) × (x ≤ high)
@@ -57,8 +60,16 @@ head-right s at t e =
       all = ltb-false _ _ (tasks .1);
     }
 
+-- the mark is a task's
+is-task : (m : Mark) → isTask m ≡ true → m ≡ Task
+is-task Task e = refl
+is-task Chain e = let z : _≡_ {A = ℕ} 0 1 = cc in absurd (omega arith)
+is-task End e = let z : _≡_ {A = ℕ} 0 1 = cc in absurd (omega arith)
+is-task Other e = let z : _≡_ {A = ℕ} 0 1 = cc in absurd (omega arith)
+
 pub record TaskRight (s : List ℕ) (at : ℕ) : Type 0 where
   pub there : at + 8 ≤ length s
+  pub mark : markOf (word 2 s at) ≡ Task
   pub priority : 1 ≤ priorityAt s at
   pub cost : (1 ≤ costAt s at) × (costAt s at ≤ maxCost)
 
@@ -72,6 +83,7 @@ task-right s at e =
     let values = none-or _ (outside 1 maxCost (costAt s at)) (e4 .0) in
     record {
       there = ltb-false _ _ (e3 .0);
+      mark = is-task (markOf (word 2 s at)) (not-false _ (e2 .0));
       priority = not-zero _ (values .0);
       cost = inside 1 maxCost (costAt s at) (values .1);
     }
