@@ -83,7 +83,7 @@ mark-is m = when-cases (λ x. x ≡ mark.Task → m ≡ 19284) (eqb m 18499)
     (λ e f. absurd (let z : _≡_ {A = ℕ} 0 1 = cc in omega arith))
     (λ e. when-cases (λ x. x ≡ mark.Task → m ≡ 19284) (eqb m 19284) (λ g f. eqb-true m 19284 g)
     (λ g. when-cases (λ x. x ≡ mark.Task → m ≡ 19284) (eqb m 20037)
-    (λ k f. absurd (let z : _≡_ {A = ℕ} 0 1 = cc in omega arith)) (λ k f. absurd (let z : _≡_ {A = ℕ} 0 1 = cc in omega arith))))
+    (λ d f. absurd (let z : _≡_ {A = ℕ} 0 1 = cc in omega arith)) (λ d f. absurd (let z : _≡_ {A = ℕ} 0 1 = cc in omega arith))))
 
 -- 8 bytes are a task's record
 task-bytes : (s : List ℕ) (at : ℕ) (t : Task) → Bytes s → at + 8 ≤ length s → markOf (word 2 s at) ≡ mark.Task → priorityAt s at ≡ t .priority → costAt s at ≡ t .cost

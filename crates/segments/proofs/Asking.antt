@@ -89,10 +89,10 @@ module _ (t : Table) (chain other n : ℕ) (l : Actives) (e : l ≡ arraysOf (ac
       rw (p, f .start, f .len) (sym (when-no _ _ (or-none _ _ (le-ltb n 1 (omega arith)) (count-is false few))))
 
 -- no record is longer than one with as many distances and tasks as may be
-abbrev pub longest : ℕ
-longest = recordLength maxDistances maxTasks
+abbrev pub longestRecord : ℕ
+longestRecord = recordLength maxDistances maxTasks
 
-pub place-max : (t : Table) → GoodTable t → (chain : ℕ) → chain ≤ t .count → placeOf t chain ≤ longest * chain
+pub place-max : (t : Table) → GoodTable t → (chain : ℕ) → chain ≤ t .count → placeOf t chain ≤ longestRecord * chain
 place-max t good zero h = omega (arith, place-none t)
 place-max t good (suc chain) h =
     let r = good .row chain (omega arith) in

@@ -54,12 +54,12 @@ module _ (p : Task → Bool) where
       go true e r = omega (arith, h .0)
       go false e r = omega (arith, r e (h .1))
 
-  some-at : (ps cs : List ℕ) (n k j : ℕ) → k ≤ j → j < k + n → p (task ps cs j) ≡ true → some p (tasksFrom ps cs n k) ≡ true
+  some-at : (ps cs : List ℕ) (n from j : ℕ) → from ≤ j → j < from + n → p (task ps cs j) ≡ true → some p (tasksFrom ps cs n from) ≡ true
   unfolding some tasksFrom
-  some-at ps cs zero k j l h e = absurd (omega arith)
-  some-at ps cs (suc n) k j l h e = ⊎-elim
-      (λ q. ap (λ b. b || some p (tasksFrom ps cs n (k + 1))) (ap (λ i. p (task ps cs i)) q ∙ e))
-      (λ q. ap (λ b. p (task ps cs k) || b) (some-at ps cs n (k + 1) j (omega arith) (omega arith) e) ∙ or-true (p (task ps cs k)))
+  some-at ps cs zero from j l h e = absurd (omega arith)
+  some-at ps cs (suc n) from j l h e = ⊎-elim
+      (λ q. ap (λ b. b || some p (tasksFrom ps cs n (from + 1))) (ap (λ i. p (task ps cs i)) q ∙ e))
+      (λ q. ap (λ b. p (task ps cs from) || b) (some-at ps cs n (from + 1) j (omega arith) (omega arith) e) ∙ or-true (p (task ps cs from)))
       (eq-or-lt-of-le l)
     where
       or-true : (b : Bool) → b || true ≡ true

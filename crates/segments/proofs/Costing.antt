@@ -142,22 +142,36 @@ module _ (floor : ℕ) (ts : List Task) where
       ∙ onward-most (before (below floor) ts) (stretches (below floor) us)
       ∙ sym (dear-from (below floor) (costOf (before (below floor) ts)) 0 us)
 
--- the loop of `dearest_cost`, step by step
+-- the loop of `dearest_cost` from the task `from` on: at the task i the dearest segment is the dearer of `best` and what the tasks
+-- left make it, where the stretch at hand costs `sum` so far
 module _ (ps cs : List ℕ) (n floor f : ℕ) where
   abbrev pub dearFrom : ℕ → ℕ → ℕ
-  dearFrom run k = dear (below floor) f run (tasksFrom ps cs (n - k) k)
+  dearFrom run i = dear (below floor) f run (tasksFrom ps cs (n - i) i)
 
-  pub dear-low : (run k : ℕ) → k < n → getD ps k 0 < floor → dearFrom run k ≡ max run (dearFrom 0 (k + 1))
-  unfolding dear
-  dear-low run k h l = rw (rest-on ps cs n k h) (when-yes _ _ (lt-ltb (getD ps k 0) floor l))
+  pub record Compared (from best sum i : ℕ) : Type 0 where
+    pub inside : i ≤ n
+    pub low : from ≤ i
+    pub fits : sum ≤ maxCost * (i - from)
+    pub is : dearFrom 0 from ≡ max best (dearFrom sum i)
 
-  pub dear-high : (run k : ℕ) → k < n → floor ≤ getD ps k 0 → dearFrom run k ≡ dearFrom (run + getD cs k 0) (k + 1)
-  unfolding dear
-  dear-high run k h l = rw (rest-on ps cs n k h) (when-no _ _ (le-ltb (getD ps k 0) floor l))
+  pub compared-start : (from : ℕ) → from ≤ n → Compared from 0 0 from
+  compared-start from h = record { inside = h; low = omega arith; fits = omega arith; is = omega arith }
 
-  pub dear-end : (run k : ℕ) → n ≤ k → dearFrom run k ≡ run + f
+  pub compared-low : (from best sum i : ℕ) → Compared from best sum i → i < n → getD ps i 0 < floor → Compared from (max best sum) 0 (i + 1)
   unfolding dear
-  dear-end run k h = rw (rest-end ps cs n k h)
+  compared-low from best sum i c h l =
+      let e : dearFrom sum i ≡ max sum (dearFrom 0 (i + 1)) = rw (rest-on ps cs n i h) (when-yes _ _ (lt-ltb (getD ps i 0) floor l)) in
+      record { inside = omega arith; low = omega (arith, c .low); fits = omega arith; is = omega (arith, c .is, e) }
+
+  pub compared-high : (from best sum i : ℕ) → Compared from best sum i → i < n → floor ≤ getD ps i 0 → getD cs i 0 ≤ maxCost → Compared from best (sum + getD cs i 0) (i + 1)
+  unfolding dear
+  compared-high from best sum i c h l m =
+      let e : dearFrom sum i ≡ dearFrom (sum + getD cs i 0) (i + 1) = rw (rest-on ps cs n i h) (when-no _ _ (le-ltb (getD ps i 0) floor l)) in
+      record { inside = omega arith; low = omega (arith, c .low); fits = omega (arith, c .low, c .fits); is = c .is ∙ ap (max best) e }
+
+  pub compared-end : (from best sum i : ℕ) → Compared from best sum i → n ≤ i → dearFrom 0 from ≡ max best (sum + f)
+  unfolding dear
+  compared-end from best sum i c h = c .is ∙ ap (λ us. max best (dear (below floor) f sum us)) (rest-end ps cs n i h)
 
 -- from the first stretch on
 pub dearest-more : (a : Row) (floor : ℕ) (r : Stretch) → FirstOf a floor r

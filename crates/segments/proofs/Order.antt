@@ -27,11 +27,11 @@ map-label : (j : ℕ) (p : List (List Task)) → map labelOf (map (active j) p) 
 map-label j [] = refl
 map-label j (a ∷ p) = ap (λ r. label j (costOf a) ∷ r) (map-label j p)
 
-numbered-labels : (k : ℕ) (p : List (List Task)) (ps : List (List (List Task)))
-    → map labelOf (numbered k (p ∷ ps)) ≡ map (label k) (map costOf p) ++ map labelOf (numbered (k + 1) ps)
+numbered-labels : (j : ℕ) (p : List (List Task)) (ps : List (List (List Task)))
+    → map labelOf (numbered j (p ∷ ps)) ≡ map (label j) (map costOf p) ++ map labelOf (numbered (j + 1) ps)
 unfolding numbered
-numbered-labels k p ps =
-    map-append labelOf (map (active k) p) (numbered (k + 1) ps) ∙ ap (λ l. l ++ map labelOf (numbered (k + 1) ps)) (map-label k p)
+numbered-labels j p ps =
+    map-append labelOf (map (active j) p) (numbered (j + 1) ps) ∙ ap (λ l. l ++ map labelOf (numbered (j + 1) ps)) (map-label j p)
 
 -- a list from the front goes behind the next
 pub behind : {A : Type 0} (a b c : List A) → List·Permᴰ (a ++ (b ++ c)) (b ++ (a ++ c))
@@ -40,21 +40,21 @@ behind a b c =
     (subst (λ x. List·Permᴰ ((a ++ b) ++ c) x) (append-assoc b a c) (Permᴰ·append-right c (List·Permᴰ·append-comm a b)))
 
 -- the first stretch, with the number of the last, goes behind the last
-onward-labels : (k : ℕ) (p q : List (List Task)) (qs : List (List (List Task)))
-    → List·Permᴰ (map (label (k + length qs)) (map costOf p) ++ map labelOf (numbered k (q ∷ qs))) (labels k (costs (onward _++_ p (q ∷ qs))))
+onward-labels : (j : ℕ) (p q : List (List Task)) (qs : List (List (List Task)))
+    → List·Permᴰ (map (label (j + length qs)) (map costOf p) ++ map labelOf (numbered j (q ∷ qs))) (labels j (costs (onward _++_ p (q ∷ qs))))
 unfolding labels onward numbered
-onward-labels k p q [] =
-    let e : k + 0 ≡ k = omega arith in
-    let a = map (label k) (map costOf p) in
-    let b = map (label k) (map costOf q) in
-    let right : map (label k) (map costOf (q ++ p)) ++ [] ≡ b ++ (a ++ []) =
-    ap (λ l. map (label k) l ++ []) (map-append costOf q p) ∙ ap (λ l. l ++ []) (map-append (label k) (map costOf q) (map costOf p)) ∙ append-assoc b a [] in
-    rw (e, numbered-labels k q [], right) (behind a b [])
-onward-labels k p q (r ∷ rs) =
-    let e : k + suc (length rs) ≡ k + 1 + length rs = omega arith in
-    let a = map (label (k + 1 + length rs)) (map costOf p) in
-    let b = map (label k) (map costOf q) in
-    rw (e, numbered-labels k q (r ∷ rs)) (List·Permᴰ·trans (behind a b _) (Permᴰ·append-left b (onward-labels (k + 1) p r rs)))
+onward-labels j p q [] =
+    let e : j + 0 ≡ j = omega arith in
+    let a = map (label j) (map costOf p) in
+    let b = map (label j) (map costOf q) in
+    let right : map (label j) (map costOf (q ++ p)) ++ [] ≡ b ++ (a ++ []) =
+    ap (λ l. map (label j) l ++ []) (map-append costOf q p) ∙ ap (λ l. l ++ []) (map-append (label j) (map costOf q) (map costOf p)) ∙ append-assoc b a [] in
+    rw (e, numbered-labels j q [], right) (behind a b [])
+onward-labels j p q (r ∷ rs) =
+    let e : j + suc (length rs) ≡ j + 1 + length rs = omega arith in
+    let a = map (label (j + 1 + length rs)) (map costOf p) in
+    let b = map (label j) (map costOf q) in
+    rw (e, numbered-labels j q (r ∷ rs)) (List·Permᴰ·trans (behind a b _) (Permᴰ·append-left b (onward-labels (j + 1) p r rs)))
 
 -- the active segments by number are, in some order, those of the segments, numbered from some number on
 pub record Ordered (ps : List (List (List Task))) : Type 0 where

@@ -22,66 +22,66 @@ pub record Contiguous (a : Row) (l : List Task) : Type 0 where
   pub inside : startOf l + length l ≤ a .tasks
 
 module _ (ps cs : List ℕ) (n : ℕ) where
-  -- the tasks l follow one another from the place k on, inside the chain
-  record Follow (k : ℕ) (l : List Task) : Type 0 where
-    are : l ≡ tasksFrom ps cs (length l) k
-    inside : k + length l ≤ n
+  -- the tasks l follow one another from the place i on, inside the chain
+  record Follow (i : ℕ) (l : List Task) : Type 0 where
+    are : l ≡ tasksFrom ps cs (length l) i
+    inside : i + length l ≤ n
 
   abbrev Somewhere : List Task → Type 0
-  Somewhere l = (k : ℕ) × Follow k l
+  Somewhere l = (i : ℕ) × Follow i l
 
-  -- the first of some lists follows from k on, and each other from somewhere
+  -- the first of some lists follows from i on, and each other from somewhere
   abbrev Lined : ℕ → List (List Task) → Type 0
-  Lined k [] = Unit {0}
-  Lined k (l ∷ ls) = Follow k l × All Somewhere ls
+  Lined i [] = Unit {0}
+  Lined i (l ∷ ls) = Follow i l × All Somewhere ls
 
-  apart : (k : ℕ) (ls : List (List Task)) → Lined k ls → All Somewhere ls
-  apart k [] h = tt
-  apart k (l ∷ ls) h = ((k, h .0), h .1)
+  apart : (i : ℕ) (ls : List (List Task)) → Lined i ls → All Somewhere ls
+  apart i [] h = tt
+  apart i (l ∷ ls) h = ((i, h .0), h .1)
 
-  none : (k : ℕ) → k ≤ n → Follow k []
+  none : (i : ℕ) → i ≤ n → Follow i []
   unfolding tasksFrom
-  none k h = record { are = refl; inside = omega arith }
+  none i h = record { are = refl; inside = omega arith }
 
-  one : (k : ℕ) (l : List Task) → k < n → Follow (k + 1) l → Follow k (task ps cs k ∷ l)
+  one : (i : ℕ) (l : List Task) → i < n → Follow (i + 1) l → Follow i (task ps cs i ∷ l)
   unfolding tasksFrom
-  one k l h f = record { are = ap (λ r. task ps cs k ∷ r) (f .are); inside = omega (arith, f .inside) }
+  one i l h f = record { are = ap (λ r. task ps cs i ∷ r) (f .are); inside = omega (arith, f .inside) }
 
-  lined-on : (k : ℕ) (ls : List (List Task)) → k < n → Lined (k + 1) ls → Lined k (task ps cs k on ls)
-  lined-on k [] h f = (one k [] h (none (k + 1) (omega arith)), tt)
-  lined-on k (l ∷ ls) h f = (one k l h (f .0), f .1)
+  lined-on : (i : ℕ) (ls : List (List Task)) → i < n → Lined (i + 1) ls → Lined i (task ps cs i on ls)
+  lined-on i [] h f = (one i [] h (none (i + 1) (omega arith)), tt)
+  lined-on i (l ∷ ls) h f = (one i l h (f .0), f .1)
 
-  stretches-lined : (p : Task → Bool) (m k : ℕ) → k + m ≡ n → Lined k (stretches p (tasksFrom ps cs m k))
+  stretches-lined : (p : Task → Bool) (m i : ℕ) → i + m ≡ n → Lined i (stretches p (tasksFrom ps cs m i))
   unfolding stretches tasksFrom _when_else_
-  stretches-lined p zero k h = (none k (omega arith), tt)
-  stretches-lined p (suc m) k h = go (p (task ps cs k)) (stretches-lined p m (k + 1) (omega arith))
+  stretches-lined p zero i h = (none i (omega arith), tt)
+  stretches-lined p (suc m) i h = go (p (task ps cs i)) (stretches-lined p m (i + 1) (omega arith))
     where
       rest : List (List Task)
-      rest = stretches p (tasksFrom ps cs m (k + 1))
+      rest = stretches p (tasksFrom ps cs m (i + 1))
 
-      go : (b : Bool) → Lined (k + 1) rest → Lined k ([] ∷ rest when b else task ps cs k on rest)
-      go true r = (none k (omega arith), apart (k + 1) rest r)
-      go false r = lined-on k rest (omega arith) r
+      go : (b : Bool) → Lined (i + 1) rest → Lined i ([] ∷ rest when b else task ps cs i on rest)
+      go true r = (none i (omega arith), apart (i + 1) rest r)
+      go false r = lined-on i rest (omega arith) r
 
-  cuts-lined : (p : Task → Bool) (m k : ℕ) → k + m ≤ n → Lined k (cuts p (tasksFrom ps cs m k))
+  cuts-lined : (p : Task → Bool) (m i : ℕ) → i + m ≤ n → Lined i (cuts p (tasksFrom ps cs m i))
   unfolding cuts tasksFrom _when_else_
-  cuts-lined p zero k h = tt
-  cuts-lined p (suc zero) k h = (one k [] (omega arith) (none (k + 1) (omega arith)), tt)
-  cuts-lined p (suc (suc m)) k h = go (p (task ps cs (k + 1))) (cuts-lined p (suc m) (k + 1) (omega arith))
+  cuts-lined p zero i h = tt
+  cuts-lined p (suc zero) i h = (one i [] (omega arith) (none (i + 1) (omega arith)), tt)
+  cuts-lined p (suc (suc m)) i h = go (p (task ps cs (i + 1))) (cuts-lined p (suc m) (i + 1) (omega arith))
     where
       rest : List (List Task)
-      rest = cuts p (tasksFrom ps cs (suc m) (k + 1))
+      rest = cuts p (tasksFrom ps cs (suc m) (i + 1))
 
-      go : (b : Bool) → Lined (k + 1) rest → Lined k ((task ps cs k ∷ []) ∷ rest when b else task ps cs k on rest)
-      go true r = (one k [] (omega arith) (none (k + 1) (omega arith)), apart (k + 1) rest r)
-      go false r = lined-on k rest (omega arith) r
+      go : (b : Bool) → Lined (i + 1) rest → Lined i ((task ps cs i ∷ []) ∷ rest when b else task ps cs i on rest)
+      go true r = (one i [] (omega arith) (none (i + 1) (omega arith)), apart (i + 1) rest r)
+      go false r = lined-on i rest (omega arith) r
 
   cut-each : (p : Task → Bool) (ss : List (List Task)) → All Somewhere ss → All (All Somewhere) (map (cuts p) ss)
   cut-each p [] h = tt
   cut-each p (s ∷ ss) h =
-      let k = h .0 .0 in
+      let i = h .0 .0 in
       let f = h .0 .1 in
-      let c : All Somewhere (cuts p (tasksFrom ps cs (length s) k)) = apart k (cuts p (tasksFrom ps cs (length s) k)) (cuts-lined p (length s) k (f .inside)) in
+      let c : All Somewhere (cuts p (tasksFrom ps cs (length s) i)) = apart i (cuts p (tasksFrom ps cs (length s) i)) (cuts-lined p (length s) i (f .inside)) in
       (subst (λ l. All Somewhere (cuts p l)) (sym (f .are)) c, cut-each p ss (h .1))
 
 all-flatten : {A : Type 0} (P : A → Type 0) (ls : List (List A)) → All (All P) ls → All P (flatten ls)
@@ -109,10 +109,10 @@ active-contiguous a b i =
         cut-each (a .priority) (a .cost) (a .tasks) (below (tailOf b)) ss
         (apart (a .priority) (a .cost) (a .tasks) 0 ss (stretches-lined (a .priority) (a .cost) (a .tasks) (below (floorOf b)) (a .tasks) 0 (omega arith)))
 
-    is : (l : List Task) (k : ℕ) → Follow (a .priority) (a .cost) (a .tasks) k l → Contiguous a l
-    is [] k f = record { are = refl; inside = omega arith }
-    is (t ∷ l) k f =
-        let e : t .place ≡ k = ap startOf (f .are) in
+    is : (l : List Task) (from : ℕ) → Follow (a .priority) (a .cost) (a .tasks) from l → Contiguous a l
+    is [] from f = record { are = refl; inside = omega arith }
+    is (t ∷ l) from f =
+        let e : t .place ≡ from = ap startOf (f .are) in
         record { are = f .are ∙ ap (tasksFrom (a .priority) (a .cost) (suc (length l))) (sym e); inside = omega (arith, f .inside) }
 
 -- the active segments by number are these, one by one
@@ -154,10 +154,10 @@ module _ (a b : Row) where
       ∙ List·getD-map length (activeTasks a b) i []
 
 -- a number out of the arrays that hold the list
-pub array-at : (f : Active → ℕ) (l : List Active) (k : ℕ) → k < length l → getD (pad maxTasks (map f l)) k 0 ≡ f (getD l k nothing)
-array-at f l k h = List·getD-append (map f l) (replicate (maxTasks - length (map f l)) 0) 0 k (rw length-map h) ∙ go l k h
+pub array-at : (f : Active → ℕ) (l : List Active) (i : ℕ) → i < length l → getD (pad maxTasks (map f l)) i 0 ≡ f (getD l i nothing)
+array-at f l i h = List·getD-append (map f l) (replicate (maxTasks - length (map f l)) 0) 0 i (rw length-map h) ∙ go l i h
   where
-    go : (l : List Active) (k : ℕ) → k < length l → getD (map f l) k 0 ≡ f (getD l k nothing)
-    go [] k h = absurd (omega arith)
+    go : (l : List Active) (i : ℕ) → i < length l → getD (map f l) i 0 ≡ f (getD l i nothing)
+    go [] i h = absurd (omega arith)
     go (a ∷ l) zero h = refl
-    go (a ∷ l) (suc k) h = go l k (omega arith)
+    go (a ∷ l) (suc i) h = go l i (omega arith)

@@ -17,7 +17,7 @@ use Rattle.segments.specs.Actives.{activesOf}
 use Rattle.segments.specs.Query.{activesIn}
 use Rattle.segments.specs.code.Held.{arraysOf}
 use Rattle.segments.proofs.Levels.{floor-tail}
-use Rattle.segments.proofs.Asking.{Fetched, found-is, first-there, fetched, nth-none, nth-records, longest, place-max}
+use Rattle.segments.proofs.Asking.{Fetched, found-is, first-there, fetched, nth-none, nth-records, longestRecord, place-max}
 use Rattle.segments.proofs.query.nth.Statement.{statement}
 use Rattle.segments.proofs.query.nth.Tie as tie
 
@@ -59,7 +59,7 @@ module _ (c : tie.After-first-task) where
   first-is : c .first-task .result ≡ afterList (placeOf (table asked) (asked .args .chain)) (rowOf (table asked) (asked .args .chain) .listed)
   first-is = c .first-task .ensures ∙ first-there (asked .pre .0) (chain (found (c .before)) .place .ensures) (asked .pre .1)
 
-  near : c .first-task .result ≤ longest * maxChains
+  near : c .first-task .result ≤ longestRecord * maxChains
   near =
       let g = asked .pre .0 .good in
       let list = g .row (asked .args .chain) (asked .pre .1) .list .few in

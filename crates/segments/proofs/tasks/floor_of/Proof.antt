@@ -44,7 +44,11 @@ loop-again : tie.Need-loop-again Inv-loop μ-loop
 loop-again c =
     let s = c .before .before .before .before .before .before .before in
     let l = c .before .before .before .loop in
-    (omega arith, omega (arith, c .before .before .before .before .before .tasks-at .ensures .0, c .before .before .loop-test .taken), rw (c .lesser .ensures, c .before .priority-at2 .ensures .0, l .inv .2) (sym (lowest-on (rowAt (now (s .args .s)) (s .args .at) .priority) (l .i) (l .inv .0))))
+    let lower = sym (lowest-on (rowAt (now (s .args .s)) (s .args .at) .priority) (l .i) (l .inv .0)) in (
+      omega arith,
+      omega (arith, c .before .before .before .before .before .tasks-at .ensures .0, c .before .before .loop-test .taken),
+      rw (c .lesser .ensures, c .before .priority-at2 .ensures .0, l .inv .2) lower,
+    )
 
 returns : tie.Need-returns Inv-loop μ-loop
 unfolding rowAt
