@@ -22,15 +22,15 @@ tasksAfter r i = tasksFrom (r .priority) (r .cost) (r .tasks - i) i
 abbrev pub stretchOf : List Task → Stretch
 stretchOf ts = record { len = length ts; cost = costOf ts }
 
--- the first stretch of a chain, where that is not the whole chain
-pub record FirstOf (a : Row) (floor : ℕ) (first : Stretch) : Type 0 where
-  pub is : first ≡ stretchOf (before (below floor) (tasksOf a))
-  pub deferred : first .len < a .tasks
-
 -- how many tasks lie below a level, and what the others cost
 abbrev pub sidesOf : ℕ → List Task → Sides
 sidesOf level ts =
     record { low = sumOf (λ t. 1 when below level t else 0) ts; cost = sumOf (λ t. 0 when below level t else t .cost) ts }
+
+-- the first stretch of a chain, where that is not the whole chain
+pub record FirstOf (a : Row) (floor : ℕ) (first : Stretch) : Type 0 where
+  pub is : first ≡ stretchOf (before (below floor) (tasksOf a))
+  pub deferred : first .len < a .tasks
 
 -- active segments: how many there are, and arrays that are 0 past the last
 abbrev pub arraysOf : List Active → Actives
