@@ -84,6 +84,7 @@ module _ (ps cs : List ℕ) (n : ℕ) where
       let c : All Somewhere (cuts p (tasksFrom ps cs (length s) i)) = apart i (cuts p (tasksFrom ps cs (length s) i)) (cuts-lined p (length s) i (f .inside)) in
       (subst (λ l. All Somewhere (cuts p l)) (sym (f .are)) c, cut-each p ss (h .1))
 
+-- each of the lists in a list
 all-flatten : {A : Type 0} (P : A → Type 0) (ls : List (List A)) → All (All P) ls → All P (flatten ls)
 unfolding flatten
 all-flatten P [] h = tt
@@ -95,10 +96,12 @@ all-at P [] i d h e = e
 all-at P (a ∷ l) zero d h e = h .0
 all-at P (a ∷ l) (suc i) d h e = all-at P l i d (h .1) e
 
+-- an active segment's tasks follow one another
 pub active-contiguous : (a b : Row) (i : ℕ) → Contiguous a (getD (activeTasks a b) i [])
 unfolding parts startOf tasksFrom
 active-contiguous a b i =
-    all-at (Contiguous a) (activeTasks a b) i [] (all-map (λ l h. is l (h .0) (h .1)) (activeTasks a b) (all-flatten (Somewhere (a .priority) (a .cost) (a .tasks)) (parts (floorOf b) (tailOf b) (tasksOf a)) follow))
+    all-at (Contiguous a) (activeTasks a b) i []
+    (all-map (λ l h. is l (h .0) (h .1)) (activeTasks a b) (all-flatten (Somewhere (a .priority) (a .cost) (a .tasks)) (parts (floorOf b) (tailOf b) (tasksOf a)) follow))
     (record { are = refl; inside = omega arith })
   where
     ss : List (List Task)
