@@ -13,7 +13,7 @@ use Rattle.search.proofs.Choice.{lt-or-le}
 use Rattle.search.proofs.Find.{last-le, last-hit, last-max}
 use Rattle.table.specs.Limits.{maxDistances}
 use Rattle.arrivals.specs.Arrivals.{δ, η}
-use Rattle.arrivals.specs.code.Bounds.{GoodDistances}
+use Rattle.table.specs.code.Good.{GoodDistances}
 use Rattle.arrivals.proofs.Distances.{δ-one, δ-mono, δ-reach}
 
 module _ {ds : List ℕ} (good : GoodDistances ds) where

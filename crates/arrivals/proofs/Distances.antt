@@ -6,10 +6,9 @@ use mathlib.Core.Logic.{⊎-elim}
 use native.Mathlib.Omega.{arith}
 use native.Mathlib.Nat.{mul-le-mul-left, le-mul-of-pos-right, le-of-eq, le-trans, le-refl, le-of-suc-le-suc, eq-or-lt-of-le, div-add-mod', mod-lt}
 use lib.ListN.{length, getD}
-use Rattle.search.proofs.Choice.{lt-or-le}
 use Rattle.table.specs.Limits.{maxDistance}
 use Rattle.arrivals.specs.Arrivals.{asListed, δ}
-use Rattle.arrivals.specs.code.Bounds.{GoodDistances}
+use Rattle.table.specs.code.Good.{GoodDistances}
 use Rattle.arrivals.proofs.Turns.{listed-rises, listed-near, last-above, δ-turns, δ-first, δ-step}
 
 module _ {ds : List ℕ} (good : GoodDistances ds) where
@@ -58,7 +57,3 @@ module _ {ds : List ℕ} (good : GoodDistances ds) where
       let u : m % length ds < length ds = mod-lt m (good .some) in
       let a : suc (m / length ds) ≤ t = omega (arith, le-mul-of-pos-right (m / length ds) (last-above good)) in
       omega (arith, mul-le-mul-left (length ds) a)
-
-  -- so δ passes every t
-  pub δ-unbounded : (t : ℕ) → t ≤ δ ds (length ds * t + 1)
-  δ-unbounded t = ⊎-elim (λ h. absurd (omega (arith, δ-reach _ t h))) (λ h. h) (lt-or-le (δ ds (length ds * t + 1)) t)

@@ -10,7 +10,7 @@ use lib.ListN.{length, getD}
 use lib.Arith.{digits-div, digits-mod}
 use Rattle.table.specs.Limits.{maxDistance}
 use Rattle.arrivals.specs.Arrivals.{asListed, δ}
-use Rattle.arrivals.specs.code.Bounds.{GoodDistances}
+use Rattle.table.specs.code.Good.{GoodDistances}
 
 -- the definitions in the code's shape
 pub listed-at : (ds : List ℕ) (j : ℕ) → 0 < j → asListed ds j ≡ getD ds (j - 1) 0

@@ -5,7 +5,7 @@ use mathlib.Core.List.{List}
 use native.Mathlib.Omega.{arith}
 use lib.ListN.{length, getD}
 use Rattle.arrivals.specs.Arrivals.{asListed, δ, η}
-use Rattle.arrivals.specs.code.Bounds.{GoodDistances}
+use Rattle.table.specs.code.Good.{GoodDistances}
 use Rattle.arrivals.proofs.Turns.{δ-turns}
 use Rattle.arrivals.proofs.Distances.{δ-one}
 use Rattle.arrivals.proofs.Counts.{η-counts, η-stops}

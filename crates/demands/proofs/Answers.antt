@@ -31,6 +31,7 @@ use Rattle.misses.specs.Overloads.{Overload}
 use Rattle.misses.specs.declared.Answer.{Answer as Misses}
 use Rattle.misses.specs.declared.Answer.the-variants.{Refused as NoMisses}
 use Rattle.saving.specs.Save as save
+use Rattle.saving.specs.declared.Saved.the-variants.{Used, Refused as NoSave}
 use Rattle.saving.proofs.Verdicts.{read-accepted}
 use Rattle.editor.specs.Entry.{latencyFigures}
 use Rattle.demands.specs.Entries.{Between, TableRefusal, LatencyRefusal, MissesRefusal, SegmentRefusal, SaveRefusal, OneAnswer}
@@ -139,9 +140,9 @@ segment-one s chain against number = by (readTable s .verdict) refl
 -- save
 pub save-one : (buffer : List ℕ) (used : ℕ) (old new : List ℕ)
     → OneAnswer SaveRefusal 1 (save.numberOf (save.savedOf buffer used old new)) (save.figuresOf (save.savedOf buffer used old new))
-unfolding save.savedOf save.answerOf
+unfolding save.savedOf unless
 save-one buffer used old new = by (save.saveFault buffer used old new) (save-number buffer used old new) (length (save.resultOf (take used buffer) old new))
   where
-    by : (f : ℕ) → ((f ≡ 0 → ⊥) → SaveRefusal f) → (n : ℕ) → OneAnswer SaveRefusal 1 (save.numberOf (save.answerOf f n)) (save.figuresOf (save.answerOf f n))
+    by : (f : ℕ) → ((f ≡ 0 → ⊥) → SaveRefusal f) → (n : ℕ) → OneAnswer SaveRefusal 1 (save.numberOf (unless NoSave f (Used n))) (save.figuresOf (unless NoSave f (Used n)))
     by zero r n = answers SaveRefusal 1 _ refl
     by (suc f) r n = refuses SaveRefusal 1 (suc f) (omega arith) (r (λ z. omega (arith, z)))

@@ -12,7 +12,8 @@ use lib.Seq.{getD-take, length-take-le}
 use borrow.Author.Tests.{ne-eqb, eqb-true}
 use Rattle.search.proofs.Find.{first-le, first-hit, first-miss}
 use Rattle.search.proofs.Keeping.{keep, keep-none, keep-one, keep-rest}
-use Rattle.table.specs.Find.{none, rowOf, rows, findOf}
+use Rattle.table.specs.Record.{blank}
+use Rattle.table.specs.Find.{rowOf, rows, findOf}
 use Rattle.table.specs.code.Good.{GoodTable}
 use Rattle.table.specs.Read.{accepted, readTable, numberOf, tableOf}
 use Rattle.table.specs.declared.Row.{Row}
@@ -28,7 +29,7 @@ use Rattle.misses.specs.Misses.{missesBeside, missesAt, missesOf}
 use Rattle.misses.specs.declared.Answer.the-variants.{Refused as Unanswered}
 use Rattle.misses.proofs.Answers as misses
 use Rattle.saving.proofs.Verdicts.{read-accepted}
-use Rattle.saving.proofs.Splits.{rowIn}
+use Rattle.saving.proofs.Parts.{rowIn}
 use Rattle.saving.proofs.Records.{record-row}
 use Rattle.demands.specs.Stored.{IsTable, Has, at, chainOf, bytesOf}
 use Rattle.demands.specs.Stored as stored
@@ -77,8 +78,8 @@ module _ {s : List ℕ} (h : IsTable s) (id : ℕ) where
   count : length (rows t) ≡ t .count
   count = let g = table-good h in length-take-le (t .count) (t .row) (omega (arith, g .few, g .size))
 
-  row-at : (j : ℕ) → j < length (rows t) → getD (rows t) j none ≡ rowOf t j
-  row-at j l = getD-take (t .count) (t .row) j none (omega (arith, count))
+  row-at : (j : ℕ) → j < length (rows t) → getD (rows t) j blank ≡ rowOf t j
+  row-at j l = getD-take (t .count) (t .row) j blank (omega (arith, count))
 
   pub absent-or-there : (at s id ≡ t .count) ⊎ (at s id < t .count)
   unfolding findOf
@@ -87,7 +88,7 @@ module _ {s : List ℕ} (h : IsTable s) (id : ℕ) where
   pub none-bears : at s id ≡ t .count → keep (bears id) (rows t) ≡ []
   unfolding findOf
   none-bears e =
-      keep-none none (bears id) (rows t)
+      keep-none blank (bears id) (rows t)
       (λ j l. ap (bears id) (row-at j l) ∙ first-miss (λ k. bears id (rowOf t k)) 0 (t .count) j (omega arith) (omega (arith, e, count)))
 
   module _ (there : at s id < t .count) where
@@ -95,7 +96,7 @@ module _ {s : List ℕ} (h : IsTable s) (id : ℕ) where
     unfolding findOf
     own-bears = first-hit (λ k. bears id (rowOf t k)) 0 (t .count) (omega (arith, there))
 
-    other : (j : ℕ) → j < length (rows t) → (j ≡ at s id → ⊥) → bears id (getD (rows t) j none) ≡ false
+    other : (j : ℕ) → j < length (rows t) → (j ≡ at s id → ⊥) → bears id (getD (rows t) j blank) ≡ false
     other j l n =
         ne-eqb _ _ (λ e. n (table-good h .ids j (at s id) (omega (arith, count)) there
         (ap (λ (a : Row). a .id) (sym (row-at j l)) ∙ e ∙ sym (eqb-true _ _ own-bears))))
@@ -103,9 +104,9 @@ module _ {s : List ℕ} (h : IsTable s) (id : ℕ) where
     pub one-bears : keep (bears id) (rows t) ≡ chainOf s id ∷ []
     one-bears =
         let l : at s id < length (rows t) = omega (arith, count) in
-        keep-one none (bears id) (rows t) (at s id) l (ap (bears id) (row-at (at s id) l) ∙ own-bears) other ∙ ap (λ a. a ∷ []) (row-at (at s id) l)
+        keep-one blank (bears id) (rows t) (at s id) l (ap (bears id) (row-at (at s id) l) ∙ own-bears) other ∙ ap (λ a. a ∷ []) (row-at (at s id) l)
 
     pub others-bear : keep (λ a. not (bears id a)) (rows t) ≡ stored.othersOf s id
     others-bear =
         let l : at s id < length (rows t) = omega (arith, count) in
-        keep-rest none (λ a. not (bears id a)) (rows t) (at s id) l (ap not (ap (bears id) (row-at (at s id) l) ∙ own-bears)) (λ j m n. ap not (other j m n))
+        keep-rest blank (λ a. not (bears id a)) (rows t) (at s id) l (ap not (ap (bears id) (row-at (at s id) l) ∙ own-bears)) (λ j m n. ap not (other j m n))

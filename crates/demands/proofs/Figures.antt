@@ -17,9 +17,8 @@ use Rattle.table.specs.code.Good.{GoodRow}
 use Rattle.table.specs.declared.Row.{Row}
 use Rattle.table.specs.Limits.{maxActivations}
 use Rattle.arrivals.specs.Arrivals.{δ}
-use Rattle.arrivals.specs.code.Bounds.{GoodDistances}
+use Rattle.table.specs.code.Good.{GoodDistances}
 use Rattle.table.specs.Record.{distances}
-use Rattle.arrivals.proofs.Rows.{good-distances}
 use Rattle.windows.specs.Demand.{viewsOf}
 use Rattle.windows.specs.Window.{Solution, windowOf}
 use Rattle.windows.specs.Latency.{long, ends, latencyAt, upTo, latencyTo, overOf, lateTo, marginOf, endsWith, windowsOf, boundOf, latencyOf}
@@ -239,9 +238,9 @@ module _ {s : List ℕ} {id : ℕ} (h : Has s id) where
   -- demand 2: the answer of the latency query for a chain of an accepted table
   pub latency-means : Means demandFor (distances b) (b .deadline) (latencyOf s id)
   unfolding boundOf
-  latency-means = rw (latency-is h) (answer-means demandFor (distances b) (b .deadline) growing (good-distances good))
+  latency-means = rw (latency-is h) (answer-means demandFor (distances b) (b .deadline) growing (good .list))
 
   -- whatever meets the words is that answer: not always a refusal, nor a fixed figure, nor a made-up K, latency or late count
   pub latency-only : (a : Answer) → Means demandFor (distances b) (b .deadline) a → a ≡ latencyOf s id
   unfolding boundOf
-  latency-only a m = means-one demandFor (distances b) (b .deadline) growing (good-distances good) a m ∙ sym (latency-is h)
+  latency-only a m = means-one demandFor (distances b) (b .deadline) growing (good .list) a m ∙ sym (latency-is h)

@@ -19,7 +19,6 @@ use Rattle.table.specs.declared.Row.{Row}
 use Rattle.table.proofs.Firsts.{none-or, or-left, or-right}
 use Rattle.arrivals.specs.Arrivals.{η}
 use Rattle.table.specs.Record.{distances}
-use Rattle.arrivals.proofs.Rows.{good-distances}
 use Rattle.segments.specs.View.{View}
 use Rattle.windows.specs.Demand as demand
 use Rattle.windows.specs.Latency.{windowsOf, boundOf}
@@ -206,7 +205,7 @@ module _ (b : Row) (l : List Row) (good : GoodRow b) (rows : All GoodRow l) (pac
   asked-says a = ⊎-elim
       (λ n. is (Says.window a n))
       (⊎-elim (λ o. is (Says.close a o)) (λ c. late-says (record { asked = a; close = c .0; latency = c .1; late = c .2; margin = c .3; figures = c .4 })))
-      (three (full b l) (distances b) (b .deadline) (demand-growing b vs good paced) (good-distances good))
+      (three (full b l) (distances b) (b .deadline) (demand-growing b vs good paced) (good .list))
 
   answer-says : Says b l k answer
   answer-says = ⊎-elim

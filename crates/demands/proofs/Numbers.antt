@@ -10,13 +10,12 @@ use Rattle.search.proofs.Choice.{when-cases, lt-or-le}
 use Rattle.table.specs.Limits.{maxChains}
 use Rattle.table.specs.Bytes.{word}
 use Rattle.table.specs.Record.{lengthAt, rowAt}
-use Rattle.table.specs.Fault.{_then_, markOf, headFault, listFault, taskFault, tasksFault, chainFault, endFault}
+use Rattle.table.specs.Fault.{_then_, noTask, identityFault, timesFault, countsFault, headFault, distancesFault, gapFault, listFault, taskMarkFault, taskRestFault, taskFault, tasksFault, chainFault, endFault}
 use Rattle.table.specs.Read.{empty, plus, refusal, accepted, unless, byMark, start, records, readTable, numberOf}
 use Rattle.table.specs.declared.Table.{Table}
 use Rattle.table.specs.declared.Reading.{Reading}
-use Rattle.table.specs.declared.Mark.{Mark}
-use Rattle.table.specs.declared.Mark.the-variants.{Chain, Task, End, Other}
-use Rattle.saving.specs.Save.{readFault, resultFault, changeFault, saveFault}
+use Rattle.table.proofs.Steps.{mark-cases}
+use Rattle.saving.specs.Save.{readFault, resultFault, replaceFault, changeFault, saveFault}
 use Rattle.demands.specs.Entries.{SaveRefusal}
 
 -- what holds of two faults holds of the first of them
@@ -30,18 +29,25 @@ abbrev Low : ℕ → Type 0
 Low f = f ≤ 11
 
 head-low : (s : List ℕ) (at : ℕ) (t : Table) → Low (headFault s at t)
-unfolding headFault
+unfolding headFault identityFault timesFault countsFault
 head-low s at t =
-    when-cases Low _ (λ e. lit≤ tt) (λ e. when-cases Low _ (λ e. lit≤ tt) (λ e. when-cases Low _ (λ e. lit≤ tt) (λ e. when-cases Low _ (λ e. lit≤ tt) (λ e.
-    when-cases Low _ (λ e. lit≤ tt) (λ e. when-cases Low _ (λ e. lit≤ tt) (λ e. lit≤ tt))))))
+    when-cases Low _ (λ e. lit≤ tt) (λ e.
+    then-holds Low _ _ (when-cases Low _ (λ e. lit≤ tt) (λ e. when-cases Low _ (λ e. lit≤ tt) (λ e. lit≤ tt)))
+    (then-holds Low _ _ (when-cases Low _ (λ e. lit≤ tt) (λ e. when-cases Low _ (λ e. lit≤ tt) (λ e. lit≤ tt)))
+    (when-cases Low _ (λ e. lit≤ tt) (λ e. when-cases Low _ (λ e. lit≤ tt) (λ e. lit≤ tt)))))
 
-list-low : (gap : ℕ) (ds : List ℕ) → Low (listFault gap ds)
-unfolding listFault
-list-low gap ds = when-cases Low _ (λ e. lit≤ tt) (λ e. when-cases Low _ (λ e. lit≤ tt) (λ e. when-cases Low _ (λ e. lit≤ tt) (λ e. lit≤ tt)))
+list-low : (s : List ℕ) (at : ℕ) → Low (listFault s at)
+unfolding listFault distancesFault gapFault
+list-low s at =
+    when-cases Low _ (λ e. lit≤ tt) (λ e.
+    then-holds Low _ _ (when-cases Low _ (λ e. lit≤ tt) (λ e. when-cases Low _ (λ e. lit≤ tt) (λ e. lit≤ tt)))
+    (when-cases Low _ (λ e. lit≤ tt) (λ e. lit≤ tt)))
 
 task-low : (s : List ℕ) (at : ℕ) → Low (taskFault s at)
-unfolding taskFault
-task-low s at = when-cases Low _ (λ e. lit≤ tt) (λ e. when-cases Low _ (λ e. lit≤ tt) (λ e. when-cases Low _ (λ e. lit≤ tt) (λ e. when-cases Low _ (λ e. lit≤ tt) (λ e. lit≤ tt))))
+unfolding taskFault taskMarkFault taskRestFault
+task-low s at =
+    then-holds Low _ _ (when-cases Low _ (λ e. lit≤ tt) (λ e. mark-cases (λ m. Low (noTask m)) (lit≤ tt) (lit≤ tt) (lit≤ tt) (lit≤ tt) (word 2 s at)))
+    (when-cases Low _ (λ e. lit≤ tt) (λ e. when-cases Low _ (λ e. lit≤ tt) (λ e. lit≤ tt)))
 
 tasks-low : (s : List ℕ) (n at : ℕ) → Low (tasksFault s n at)
 unfolding tasksFault
@@ -50,10 +56,7 @@ tasks-low s (suc n) at = then-holds Low _ _ (task-low s at) (tasks-low s n (at +
 
 chain-low : (s : List ℕ) (at : ℕ) (t : Table) → Low (chainFault s at t)
 unfolding chainFault
-chain-low s at t =
-    when-cases Low _ (λ e. lit≤ tt) (λ e.
-    then-holds Low _ _ (head-low s at t)
-    (then-holds Low _ _ (when-cases Low _ (λ e. lit≤ tt) (λ e. list-low _ _)) (tasks-low s _ _)))
+chain-low s at t = then-holds Low _ _ (head-low s at t) (then-holds Low _ _ (list-low s at) (tasks-low s _ _))
 
 end-low : (s : List ℕ) (at : ℕ) (t : Table) → Low (endFault s at t)
 unfolding endFault
@@ -69,13 +72,9 @@ unless-low (suc f) r l h = l
 
 start-low : (s : List ℕ) (at : ℕ) (t : Table) (chain : Reading) → Numbered chain → Numbered (start s at t chain)
 unfolding start
-start-low s at t chain h = when-cases Numbered _ (λ e. lit≤ tt) (λ e. by (markOf (word 2 s at)))
-  where
-    by : (m : Mark) → Numbered (byMark m chain (unless refusal (endFault s at t) (accepted t)))
-    by Chain = h
-    by Task = lit≤ tt
-    by End = unless-low (endFault s at t) (accepted t) (end-low s at t) (lit≤ tt)
-    by Other = lit≤ tt
+start-low s at t chain h = when-cases Numbered _ (λ e. lit≤ tt) (λ e.
+    mark-cases (λ m. Numbered (byMark m chain (unless refusal (endFault s at t) (accepted t)))) h (lit≤ tt)
+    (unless-low (endFault s at t) (accepted t) (end-low s at t) (lit≤ tt)) (lit≤ tt) (word 2 s at))
 
 records-low : (left : ℕ) (s : List ℕ) (at : ℕ) (t : Table) → Numbered (records left s at t)
 unfolding records
@@ -100,7 +99,7 @@ unfolding Saves
 late-saves f low high = inr (inr (low, high))
 
 fault-saves : (buffer : List ℕ) (used : ℕ) (old new : List ℕ) → Saves (saveFault buffer used old new)
-unfolding saveFault changeFault resultFault Saves
+unfolding saveFault changeFault replaceFault resultFault Saves
 fault-saves buffer used old new =
     when-cases Saves _ (λ e. inr (inl (lit≤ tt, lit≤ tt))) (λ e.
     then-holds Saves _ _ (read-saves _)

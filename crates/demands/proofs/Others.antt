@@ -23,7 +23,7 @@ use Rattle.misses.specs.Overloads.{overloads}
 use Rattle.misses.specs.Misses.{missesBeside}
 use Rattle.misses.proofs.Views.{alike-misses}
 use Rattle.table.specs.Read.{tableOf}
-use Rattle.saving.proofs.Splits.{rowIn}
+use Rattle.saving.proofs.Parts.{rowIn}
 use Rattle.demands.specs.Stored.{IsTable, Has, at, chainOf, othersOf}
 use Rattle.demands.specs.Misses.{Right}
 use Rattle.demands.specs.Others.{segmentsOf, SameSegment, Agrees, Besides, SameBesides, Unmoved, Reordered, SameWork, SameActives, SplitTasks}

@@ -13,14 +13,15 @@ use Rattle.search.proofs.Pairing.{paired-set}
 use Rattle.table.specs.Limits.{maxDistances, maxTasks}
 use Rattle.table.specs.Bytes.{word, Bytes}
 use Rattle.table.specs.Record.{idAt, listedAt, tasksAt, priorityAt, costAt, distancesAt, prioritiesAt, costsAt, pad, rowAt}
-use Rattle.table.specs.Find.{none, rows}
+use Rattle.table.specs.Record.{blank}
+use Rattle.table.specs.Find.{rows}
 use Rattle.table.specs.declared.Reading.{Reading}
 use Rattle.saving.specs.Save.{numberOf, seenOf}
 use Rattle.table.specs.Read.{tableOf}
 use Rattle.saving.specs.Later.{State, stored, Edit, answer, after}
-use Rattle.saving.proofs.Alike.{Alike, every-alike, word-alike}
+use Rattle.saving.proofs.Moved.{SameBytes, spaced-moved, word-moved}
 use Rattle.saving.proofs.Verdicts.{read-accepted}
-use Rattle.saving.proofs.Splits.{rowIn}
+use Rattle.saving.proofs.Parts.{rowIn}
 use Rattle.saving.proofs.Records.{record-row}
 use Rattle.saving.proofs.After.{bytes-take, all-passed}
 use Rattle.saving.proofs.Promises.{OneReplaced, reads-back}
@@ -32,12 +33,12 @@ use Rattle.demands.proofs.Others.{Beside, beside-own, work-agrees, pair
 -- such a record makes a row with the same id and the same work
 module _ {old new : List ℕ} (h : DeadlineOrGap old new) where
   far : (n at : ℕ) → 14 ≤ at → word n new at ≡ word n old at
-  unfolding Alike
-  far n at l = word-alike new old n at at (λ i m. h .rest (at + i) (inr (omega arith)))
+  unfolding SameBytes
+  far n at l = word-moved new old n at at (λ i m. h .rest (at + i) (inr (omega arith)))
 
   same-id : idAt new 0 ≡ idAt old 0
-  unfolding Alike
-  same-id = word-alike new old 2 2 2 (λ i m. h .rest (2 + i) (inl (omega arith)))
+  unfolding SameBytes
+  same-id = word-moved new old 2 2 2 (λ i m. h .rest (2 + i) (inl (omega arith)))
 
   listed : listedAt new 0 ≡ listedAt old 0
   listed = h .rest 14 (inr (omega arith))
@@ -46,15 +47,15 @@ module _ {old new : List ℕ} (h : DeadlineOrGap old new) where
   tasks = h .rest 15 (inr (omega arith))
 
   same-distances : distancesAt new 0 ≡ distancesAt old 0
-  same-distances = rw listed (every-alike (word 4 new) (word 4 old) 4 (listedAt old 0) 16 16 (λ k l. far 4 (16 + 4 * k) (omega arith)))
+  same-distances = rw listed (spaced-moved (word 4 new) (word 4 old) 4 (listedAt old 0) 16 16 (λ k l. far 4 (16 + 4 * k) (omega arith)))
 
   same-priorities : prioritiesAt new 0 ≡ prioritiesAt old 0
   same-priorities =
-      rw (listed, tasks) (every-alike (priorityAt new) (priorityAt old) 8 (tasksAt old 0) (16 + 4 * listedAt old 0) (16 + 4 * listedAt old 0) (λ k l. far 2 (16 + 4 * listedAt old 0 + 8 * k + 2) (omega arith)))
+      rw (listed, tasks) (spaced-moved (priorityAt new) (priorityAt old) 8 (tasksAt old 0) (16 + 4 * listedAt old 0) (16 + 4 * listedAt old 0) (λ k l. far 2 (16 + 4 * listedAt old 0 + 8 * k + 2) (omega arith)))
 
   same-costs : costsAt new 0 ≡ costsAt old 0
   same-costs =
-      rw (listed, tasks) (every-alike (costAt new) (costAt old) 8 (tasksAt old 0) (16 + 4 * listedAt old 0) (16 + 4 * listedAt old 0) (λ k l. far 4 (16 + 4 * listedAt old 0 + 8 * k + 4) (omega arith)))
+      rw (listed, tasks) (spaced-moved (costAt new) (costAt old) 8 (tasksAt old 0) (16 + 4 * listedAt old 0) (16 + 4 * listedAt old 0) (λ k l. far 4 (16 + 4 * listedAt old 0 + 8 * k + 4) (omega arith)))
 
   same-work : SameWork (rowIn old) (rowIn new)
   unfolding rowAt
@@ -89,13 +90,13 @@ saved-deadline-or-gap x e bytes new-bytes ok h id n = paired-unmoved id one two 
       accepted = ap (λ (r : Reading). r .verdict) (read-accepted (stored (after x e)) (o .holding .right));
     }
 
-    replaced : getD (rows (tableOf (stored x))) (seenOf (stored x) (e .old)) none ≡ rowIn (e .old)
+    replaced : getD (rows (tableOf (stored x))) (seenOf (stored x) (e .old)) blank ≡ rowIn (e .old)
     replaced =
         let t = tableOf (stored x) in
-        getD-take (t .count) (t .row) (seenOf (stored x) (e .old)) none (o .place)
+        getD-take (t .count) (t .row) (seenOf (stored x) (e .old)) blank (o .place)
         ∙ sym (record-row (stored x) t (table-read one) (one .bytes) (seenOf (stored x) (e .old)) (o .place)) ∙ ap rowIn (o .seen)
 
     pairs : Paired (Beside id) (rows (tableOf (stored x))) (rows (tableOf (stored (after x e))))
     pairs =
         rw (o .replaced)
-        (paired-set (beside-own id) (rows (tableOf (stored x))) (seenOf (stored x) (e .old)) none (rowIn (e .new)) (rw replaced (beside h id n)))
+        (paired-set (beside-own id) (rows (tableOf (stored x))) (seenOf (stored x) (e .old)) blank (rowIn (e .new)) (rw replaced (beside h id n)))

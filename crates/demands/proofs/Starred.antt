@@ -10,7 +10,7 @@ use Rattle.search.specs.Lists.{sumOf}
 use Rattle.table.specs.Bytes.{word}
 use Rattle.table.specs.Record.{spaced, rowAt}
 use Rattle.table.specs.Find.{rowOf, findOf}
-use Rattle.table.specs.Fault.{_then_, markOf, headFault, falls, gapShort, listFault, taskFault, tasksFault, chainFault, endFault}
+use Rattle.table.specs.Fault.{_then_, markOf, identityFault, timesFault, countsFault, headFault, falls, distancesFault, gapShort, gapFault, listFault, taskMarkFault, taskRestFault, taskFault, tasksFault, chainFault, endFault}
 use Rattle.table.specs.Read.{unless, start, records, readTable, tableOf}
 use Rattle.table.specs.declared.Row.{Row}
 use Rattle.table.specs.declared.Table.{Table}
@@ -43,7 +43,7 @@ past-same = refl
 
 -- and the sample's rows are theirs
 table-same : tableOf sample ≡ windows.sampled
-unfolding sample windows.sampled readTable records start unless chainFault headFault listFault falls gapShort tasksFault taskFault endFault _then_ markOf word spaced rowAt findOf first _when_else_
+unfolding sample windows.sampled readTable records start unless chainFault headFault identityFault timesFault countsFault listFault distancesFault falls gapFault gapShort tasksFault taskFault taskMarkFault taskRestFault endFault _then_ markOf word spaced rowAt findOf first _when_else_
 table-same = refl
 
 finds : (findOf windows.sampled 1 ≡ 0) × (findOf windows.sampled 3 ≡ 2)

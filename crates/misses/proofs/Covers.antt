@@ -17,9 +17,8 @@ use Rattle.search.proofs.Choice.{when-yes, when-no, when-cases}
 use Rattle.search.proofs.Lists.{sum-append, perm-sum}
 use Rattle.table.specs.code.Good.{GoodRow}
 use Rattle.table.specs.declared.Row.{Row}
-use Rattle.arrivals.specs.code.Bounds.{GoodDistances}
+use Rattle.table.specs.code.Good.{GoodDistances}
 use Rattle.arrivals.proofs.Counts.{η-some}
-use Rattle.arrivals.proofs.Rows.{good-distances}
 use Rattle.segments.specs.Actives.{Active, activesOf}
 use Rattle.segments.specs.View.{View, viewOf, sum, allOf, dearestOf}
 use Rattle.segments.proofs.Lists.{sum-map, most-sum}
@@ -220,5 +219,5 @@ module _ (b : Row) (t : ℕ) (some : 1 ≤ t) where
             ap setCost p,
             sum-append (λ q. q .cost) own rest,
             chain-dearest a b n m (together-left own rest w),
-            dearest-term (viewOf a b) (subst GoodDistances (sym (view-list a b)) (good-distances (good .0))) t some,
+            dearest-term (viewOf a b) (subst GoodDistances (sym (view-list a b)) (good .0 .list)) t some,
           )

@@ -12,7 +12,8 @@ use lib.Seq.{take-suc, take-all, getD-take, take-take, length-take-le, set-out}
 use Rattle.search.specs.Choice.{_when_else_}
 use Rattle.search.proofs.Choice.{when-yes, when-no}
 use Rattle.table.specs.Limits.{maxTasks, maxOverloads, maxCapacity}
-use Rattle.table.specs.Find.{none, rowOf, rows}
+use Rattle.table.specs.Record.{blank}
+use Rattle.table.specs.Find.{rowOf, rows}
 use Rattle.table.specs.code.Good.{GoodTable}
 use Rattle.table.specs.declared.Row.{Row}
 use Rattle.table.specs.declared.Table.{Table}
@@ -181,8 +182,8 @@ module _ (table : Table) (b : Row) (t : ℕ) (good : GoodTable table) (p : Piece
   row-at =
       let n : table .count ≤ length (table .row) = omega (arith, good .few, good .size) in
       ap (λ k. take k (rows table)) (add-one j)
-      ∙ take-suc (rows table) j none (omega (arith, length-take-le (table .count) (table .row) n))
-      ∙ ap (λ r. take j (rows table) ++ (r ∷ [])) (getD-take (table .count) (table .row) j none more)
+      ∙ take-suc (rows table) j blank (omega (arith, length-take-le (table .count) (table .row) n))
+      ∙ ap (λ r. take j (rows table) ++ (r ∷ [])) (getD-take (table .count) (table .row) j blank more)
 
   before : List Overload
   before = overloads b (take j (rows table))

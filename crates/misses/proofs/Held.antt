@@ -15,7 +15,8 @@ use Rattle.search.proofs.Choice.{when-yes, when-cases, lt-or-le}
 use Rattle.search.proofs.Lists.{all-map, all-append}
 use Rattle.table.specs.Limits.{maxOverloads, maxCapacity}
 use Rattle.table.specs.Record.{pad}
-use Rattle.table.specs.Find.{none, rowOf, rows}
+use Rattle.table.specs.Record.{blank}
+use Rattle.table.specs.Find.{rowOf, rows}
 use Rattle.table.specs.code.Good.{GoodRow, GoodTable}
 use Rattle.table.specs.declared.Row.{Row}
 use Rattle.table.specs.declared.Table.{Table}
@@ -38,7 +39,7 @@ beside-others t good at h e =
     let b = rowOf t at in
     let n : length (rows t) ≡ t .count = length-take-le (t .count) (t .row) (omega (arith, good .few, good .size)) in
     let z : suc at ≡ at + 1 = omega arith in
-    ap (overloads b) (split-at (rows t) at none (omega arith) ∙ ap (λ r. take at (rows t) ++ (r ∷ drop (suc at) (rows t))) (getD-take (t .count) (t .row) at none h))
+    ap (overloads b) (split-at (rows t) at blank (omega arith) ∙ ap (λ r. take at (rows t) ++ (r ∷ drop (suc at) (rows t))) (getD-take (t .count) (t .row) at blank h))
     ∙ overloads-append b (take at (rows t)) (b ∷ drop (suc at) (rows t))
     ∙ ap (λ l. overloads b (take at (rows t)) ++ l) (when-yes _ _ (eq-eqb _ _ e) ∙ ap (λ k. overloads b (drop k (rows t))) z)
     ∙ sym (overloads-append b (take at (rows t)) (drop (at + 1) (rows t)))

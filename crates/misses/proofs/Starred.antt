@@ -18,12 +18,12 @@ use Rattle.table.specs.Limits.{horizon}
 use Rattle.table.specs.Bytes.{word}
 use Rattle.table.specs.Record.{spaced, rowAt, distances}
 use Rattle.table.specs.Find.{rowOf, findOf}
-use Rattle.table.specs.Fault.{_then_, markOf, headFault, falls, gapShort, listFault, taskFault, tasksFault, chainFault, endFault}
+use Rattle.table.specs.Fault.{_then_, markOf, identityFault, timesFault, countsFault, headFault, falls, distancesFault, gapShort, gapFault, listFault, taskMarkFault, taskRestFault, taskFault, tasksFault, chainFault, endFault}
 use Rattle.table.specs.Read.{accepted, unless, start, records, readTable}
 use Rattle.table.specs.declared.Row.{Row}
 use Rattle.table.specs.declared.Reading.{Reading}
 use Rattle.arrivals.specs.Arrivals.{asListed, δ, η, largest}
-use Rattle.arrivals.specs.code.Bounds.{GoodDistances}
+use Rattle.table.specs.code.Good.{GoodDistances}
 use Rattle.arrivals.proofs.Counts.{η-some, η-counts, η-stops}
 use Rattle.segments.specs.Tasks.{tasksFrom, lowest, before}
 use Rattle.segments.specs.Segments.{stretches, onward, around, nonempty, cuts, parts, cutSegments}
@@ -63,7 +63,7 @@ abbrev os : List Overload
 os = overloads b (others sampled 0)
 
 reads : readTable sample ≡ accepted sampled
-unfolding sample sampled recorded ended bytes flatten readTable records start unless chainFault headFault listFault falls gapShort tasksFault taskFault endFault _then_ markOf word spaced rowAt findOf first _when_else_
+unfolding sample sampled recorded ended bytes flatten readTable records start unless chainFault headFault identityFault timesFault countsFault listFault distancesFault falls gapFault gapShort tasksFault taskFault taskMarkFault taskRestFault endFault _then_ markOf word spaced rowAt findOf first _when_else_
 reads = refl
 
 finds : findOf sampled 1 ≡ 0

@@ -11,7 +11,8 @@ use lib.ListN.{length, drop}
 use lib.Seq.{drop-cons, getD-take, length-take-le}
 use borrow.Author.Tests.{lt-ltb, le-ltb, eq-eqb, ne-eqb}
 use Rattle.search.proofs.Choice.{when-yes, when-no, lt-or-le}
-use Rattle.table.specs.Find.{none, rowOf, rows}
+use Rattle.table.specs.Record.{blank}
+use Rattle.table.specs.Find.{rowOf, rows}
 use Rattle.table.specs.code.Good.{GoodTable}
 use Rattle.table.specs.declared.Row.{Row}
 use Rattle.table.specs.declared.Table.{Table}
@@ -50,7 +51,7 @@ module _ (b : Row) (table : Table) (good : GoodTable table) (t j : ℕ) where
       ≡ some (starts t) (overloads b (rowOf table j ∷ [])) || some (starts t) (overloads b (drop (j + 1) (rows table)))
   here h =
       ap (λ l. some (starts t) (overloads b l))
-      (drop-cons (rows table) j none (omega (arith, rows-size)) ∙ ap (λ r. r ∷ drop (suc j) (rows table)) (getD-take (table .count) (table .row) j none h)
+      (drop-cons (rows table) j blank (omega (arith, rows-size)) ∙ ap (λ r. r ∷ drop (suc j) (rows table)) (getD-take (table .count) (table .row) j blank h)
       ∙ ap (λ k. (rowOf table j ∷ []) ++ drop k (rows table)) (sym (add-one j)))
       ∙ ap (some (starts t)) (overloads-append b (rowOf table j ∷ []) (drop (j + 1) (rows table)))
       ∙ some-append (starts t) (overloads b (rowOf table j ∷ [])) (overloads b (drop (j + 1) (rows table)))

@@ -7,7 +7,8 @@ use mathlib.Core.List.{List, [], _∷_, _++_, append-assoc, append-nil, flatMap}
 use lib.ListN.{length, take, drop, length-append}
 use lib.Seq.{take-suc, take-at}
 use Rattle.table.specs.Bytes.{Bytes}
-use Rattle.table.specs.Find.{none, rowOf, rows, findOf}
+use Rattle.table.specs.Record.{blank}
+use Rattle.table.specs.Find.{rowOf, rows, findOf}
 use Rattle.table.specs.code.Good.{GoodTable}
 use Rattle.table.specs.Read.{byVerdict, readTable}
 use Rattle.table.specs.declared.Table.{Table}
@@ -67,7 +68,7 @@ module _ (s : List ℕ) (bytes : Bytes s) (yes : readTable s .verdict ≡ Accept
   lines-are zero h = refl
   lines-are (suc n) h =
       let l : n < length (t .row) = omega (arith, h, good .size, good .few) in
-      ap (flatMap (lineOf s)) (take-suc (t .row) n none l) ∙ flatMap-more (lineOf s) (take n (t .row)) (rowOf t n)
+      ap (flatMap (lineOf s)) (take-suc (t .row) n blank l) ∙ flatMap-more (lineOf s) (take n (t .row)) (rowOf t n)
       ∙ ap₂ (λ a b. a ++ b) (lines-are n (omega arith)) (line-is n (omega arith))
 
   -- the report of an accepted table

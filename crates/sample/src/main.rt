@@ -8,26 +8,38 @@ fn say(label: &[u8], n: u64) {
     io::print_decimal(libc::STDOUT_FILENO, n);
 }
 
-fn show_list(r: Row) {
-    io::write_all(libc::STDOUT_FILENO, b" list");
-    let mut k: usize = 0;
-    while k < Table::DISTANCES {
-        if k < r.listed {
-            say(b" ", r.list[k] as u64);
-        }
-        k += 1;
+// What of a row is listed.
+enum Part {
+    Distances,
+    Tasks,
+}
+
+fn show_distance(r: Row, i: usize) {
+    if i < r.listed && i < Table::DISTANCES {
+        say(b" ", r.list[i] as u64);
     }
 }
 
-fn show_tasks(r: Row) {
-    io::write_all(libc::STDOUT_FILENO, b" tasks");
-    let mut k: usize = 0;
-    while k < Table::TASKS {
-        if k < r.tasks {
-            say(b" ", r.priority[k] as u64);
-            say(b"/", r.cost[k] as u64);
-        }
-        k += 1;
+fn show_task(r: Row, i: usize) {
+    if i < r.tasks && i < Table::TASKS {
+        say(b" ", r.priority[i] as u64);
+        say(b"/", r.cost[i] as u64);
+    }
+}
+
+// The distance or the task i, nothing past the last.
+fn show_at(r: Row, part: Part, i: usize) {
+    match part {
+        Part::Distances => show_distance(r, i),
+        Part::Tasks => show_task(r, i),
+    }
+}
+
+fn show_part(r: Row, part: Part) {
+    let mut i: usize = 0;
+    while i < Table::TASKS {
+        show_at(r, part, i);
+        i += 1;
     }
 }
 
@@ -37,18 +49,20 @@ fn show(r: Row) {
     say(b" overload ", r.overload as u64);
     say(b" deadline ", r.deadline as u64);
     say(b" gap ", r.gap as u64);
-    show_list(r);
-    show_tasks(r);
+    io::write_all(libc::STDOUT_FILENO, b" list");
+    show_part(r, Part::Distances);
+    io::write_all(libc::STDOUT_FILENO, b" tasks");
+    show_part(r, Part::Tasks);
     io::write_all(libc::STDOUT_FILENO, b"\n");
 }
 
 fn show_table(t: Table) {
-    let mut k: usize = 0;
-    while k < Table::CHAINS {
-        if k < t.count {
-            show(t.row[k]);
+    let mut chain: usize = 0;
+    while chain < Table::CHAINS {
+        if chain < t.count {
+            show(t.row[chain]);
         }
-        k += 1;
+        chain += 1;
     }
 }
 

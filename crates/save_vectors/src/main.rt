@@ -3,8 +3,10 @@
 use libc::STDIN_FILENO;
 use libc::STDOUT_FILENO;
 use saving::Saved;
-ghost use Prim.Native.Nat.{_<_};
 ghost use Rattle.io.specs.Counts.{Counts};
+
+// Room for each of a case's byte strings; a case with a longer one is not as expected.
+const ROOM: usize = 8192;
 
 // How a case went; `End` where none is left.
 enum Outcome {
@@ -23,11 +25,17 @@ fn filled(buffer: &mut [u8], n: usize) -> usize
     io::read_full(STDIN_FILENO, &mut buffer[..n])
 }
 
+// What a case expects: the refusal number, 0 for none, and the new used length.
+struct Expected {
+    number: u32,
+    length: u32,
+}
+
 // Whether the answer has the expected number, and figure where it is accepted.
-fn answers(saved: Saved, number: u32, length: u32) -> bool {
+fn answers(saved: Saved, expected: Expected) -> bool {
     match saved {
-        Saved::Used(n) => number == 0 && n == length,
-        Saved::Refused(n) => number == n && 0 < n,
+        Saved::Used(n) => expected.number == 0 && n == expected.length,
+        Saved::Refused(n) => expected.number == n && 0 < n,
     }
 }
 
@@ -37,23 +45,22 @@ fn as_expected(
     used: u64,
     old: &[u8],
     new: &[u8],
-    number: u32,
-    length: u32,
+    expected: Expected,
     after: &[u8],
 ) -> bool {
     let saved = saving::save(buffer, used, old, new);
-    if !answers(saved, number, length) {
+    if !answers(saved, expected) {
         return false;
     }
     check::same(buffer, after)
 }
 
 // Reads the bytes of a case and runs it.
-fn run(n: usize, used: u64, o: usize, m: usize, number: u32, length: u32) -> Outcome {
-    let mut buffer = [0u8; 8192];
-    let mut old = [0u8; 8192];
-    let mut new = [0u8; 8192];
-    let mut after = [0u8; 8192];
+fn run(n: usize, used: u64, o: usize, m: usize, expected: Expected) -> Outcome {
+    let mut buffer = [0u8; ROOM];
+    let mut old = [0u8; ROOM];
+    let mut new = [0u8; ROOM];
+    let mut after = [0u8; ROOM];
     let b = filled(&mut buffer, n);
     let c = filled(&mut old, o);
     let d = filled(&mut new, m);
@@ -66,20 +73,13 @@ fn run(n: usize, used: u64, o: usize, m: usize, number: u32, length: u32) -> Out
         used,
         &old[..c],
         &new[..d],
-        number,
-        length,
+        expected,
         &after[..e],
     ) {
         Outcome::Right
     } else {
         Outcome::Wrong
     }
-}
-
-fn wide(x: u32) -> u64
-    ensures { λ r. ⌜ r < 4294967296 ⌝ }
-{
-    x as u64
 }
 
 // Reads the numbers of a case, and then the rest of it.
@@ -89,17 +89,13 @@ fn case() -> Outcome {
         return Outcome::End;
     }
     let n = table::u32_at(&head, 0) as usize;
-    let used = wide(table::u32_at(&head, 4)) + wide(table::u32_at(&head, 8)) * 4_294_967_296;
+    let used = table::u64_from_u32(table::u32_at(&head, 4))
+        + table::u64_from_u32(table::u32_at(&head, 8)) * 4_294_967_296;
     let o = table::u32_at(&head, 12) as usize;
     let m = table::u32_at(&head, 16) as usize;
-    run(
-        n,
-        used,
-        o,
-        m,
-        table::u32_at(&head, 20),
-        table::u32_at(&head, 24),
-    )
+    let number = table::u32_at(&head, 20);
+    let length = table::u32_at(&head, 24);
+    run(n, used, o, m, Expected { number, length })
 }
 
 fn say_wrong(case: u64) {

@@ -5,57 +5,46 @@ use mathlib.Core.Path.{_≡_, refl, ap, sym, _∙_}
 use mathlib.Core.List.{List, [], _∷_, _++_, append-assoc}
 use lib.ListN.{length, take, drop, replicate, length-append, length-drop, length-replicate}
 use lib.Seq.{take-at, getD-drop}
-use lib.Dec.{eqb}
-use borrow.Author.Tests.{ltb-false, ne-eqb}
-use Rattle.search.specs.Choice.{_when_else_}
+use borrow.Author.Tests.{ltb-false}
 use Rattle.table.specs.Bytes.{Bytes}
 use Rattle.table.specs.Find.{rowOf}
 use Rattle.table.specs.Place.{lengthOf, placeOf}
-use Rattle.table.specs.Read.{tableOf}
-use Rattle.search.proofs.Choice.{when-yes, when-no}
+use Rattle.table.specs.Read.{unless, tableOf}
 use Rattle.table.proofs.Firsts.{when-zero}
-use Rattle.saving.specs.Save.{numberOf, figuresOf, seenOf, resultOf, saveFault, answerOf, written, savedOf}
+use Rattle.saving.specs.Save.{numberOf, seenOf, resultOf, saveFault, written, savedOf}
 use Rattle.saving.specs.Later.{State, stored, Holding, Edit, usedAfter, answer, after}
-use Rattle.saving.specs.declared.Saved.the-variants.{Used}
+use Rattle.saving.specs.declared.Saved.the-variants.{Used, Refused}
 use Rattle.saving.proofs.Faults.{Passed, passed, change-none, save-within, accepts}
 
 -- the answer in the paper's terms: the fault's number, and the new used length where there is none
 module _ (buffer : List ℕ) (used : ℕ) (old new : List ℕ) where
   pub saved-number : numberOf (savedOf buffer used old new) ≡ saveFault buffer used old new
-  unfolding savedOf answerOf
+  unfolding savedOf unless
   saved-number = by (saveFault buffer used old new)
     where
-      by : (f : ℕ) → numberOf (answerOf f (length (resultOf (take used buffer) old new))) ≡ f
+      by : (f : ℕ) → numberOf (unless Refused f (Used (length (resultOf (take used buffer) old new)))) ≡ f
       by zero = refl
       by (suc f) = refl
 
-  pub saved-figures : figuresOf (savedOf buffer used old new) ≡ (length (resultOf (take used buffer) old new) ∷ [] when eqb (saveFault buffer used old new) 0 else [])
-  unfolding savedOf answerOf
-  saved-figures = by (saveFault buffer used old new)
-    where
-      by : (f : ℕ) → figuresOf (answerOf f (length (resultOf (take used buffer) old new))) ≡ (length (resultOf (take used buffer) old new) ∷ [] when eqb f 0 else [])
-      by zero = sym (when-yes _ [] refl)
-      by (suc f) = sym (when-no _ [] (ne-eqb (suc f) 0 (λ z. omega (arith, z))))
-
 -- bytes
 pub bytes-append : (a b : List ℕ) → Bytes a → Bytes b → Bytes (a ++ b)
-bytes-append [] b ha hb k = hb k
+bytes-append [] b ha hb i = hb i
 bytes-append (x ∷ a) b ha hb zero = ha 0
-bytes-append (x ∷ a) b ha hb (suc k) = bytes-append a b (λ j. ha (suc j)) hb k
+bytes-append (x ∷ a) b ha hb (suc i) = bytes-append a b (λ j. ha (suc j)) hb i
 
 pub bytes-take : (n : ℕ) (l : List ℕ) → Bytes l → Bytes (take n l)
-bytes-take zero l h k = omega arith
-bytes-take (suc n) [] h k = omega arith
+bytes-take zero l h i = omega arith
+bytes-take (suc n) [] h i = omega arith
 bytes-take (suc n) (x ∷ l) h zero = h 0
-bytes-take (suc n) (x ∷ l) h (suc k) = bytes-take n l (λ j. h (suc j)) k
+bytes-take (suc n) (x ∷ l) h (suc i) = bytes-take n l (λ j. h (suc j)) i
 
 pub bytes-drop : (n : ℕ) (l : List ℕ) → Bytes l → Bytes (drop n l)
-bytes-drop n l h k = rw getD-drop (h (n + k))
+bytes-drop n l h i = rw getD-drop (h (n + i))
 
 bytes-zeros : (n : ℕ) → Bytes (replicate n 0)
-bytes-zeros zero k = omega arith
+bytes-zeros zero i = omega arith
 bytes-zeros (suc n) zero = omega arith
-bytes-zeros (suc n) (suc k) = bytes-zeros n k
+bytes-zeros (suc n) (suc i) = bytes-zeros n i
 
 pub bytes-result : (s old new : List ℕ) → Bytes s → Bytes new → Bytes (resultOf s old new)
 unfolding resultOf

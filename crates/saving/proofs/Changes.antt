@@ -16,7 +16,7 @@ use Rattle.table.specs.Fault.{markOf}
 use Rattle.table.specs.Read.{accepted, readTable, tableOf}
 use Rattle.table.specs.Place.{lengthOf, placeOf}
 use Rattle.table.specs.declared.Mark.{Mark}
-use Rattle.table.specs.declared.Mark.the-variants.{Chain, Task, End, Other}
+use Rattle.table.specs.declared.Mark.the-variants.{Chain, Task, End, Refused as Unknown}
 use Rattle.table.specs.declared.Table.{Table}
 use Rattle.search.proofs.Choice.{true-not-false}
 use Rattle.table.proofs.Firsts.{none-or}
@@ -27,16 +27,16 @@ use Rattle.saving.proofs.Verdicts.{read-accepted}
 use Rattle.saving.proofs.Stored.{record-is}
 use Rattle.saving.proofs.Seen.{seen-le, seen-is, seen-by, seen-record}
 use Rattle.saving.proofs.Faults.{Passed}
-use Rattle.saving.proofs.Splits.{Whole, Split, rowIn, map-set}
-use Rattle.saving.proofs.Parsed.{split-rows}
-use Rattle.saving.proofs.Records.{recordsFrom, length-records, records-at, record-whole, record-id, record-alone, split-of, split-count, split-record, split-put}
+use Rattle.saving.proofs.Parts.{Whole, Parts, rowIn, map-set}
+use Rattle.saving.proofs.Parsed.{parts-rows}
+use Rattle.saving.proofs.Records.{recordsFrom, length-records, records-at, record-whole, record-id, record-alone, parts-of, parts-count, parts-record, parts-put}
 use Rattle.saving.proofs.After.{bytes-result}
 
 chain-mark : (m : Mark) → isChain m ≡ true → m ≡ Chain
 chain-mark Chain e = refl
 chain-mark Task e = absurd (true-not-false e refl)
 chain-mark End e = absurd (true-not-false e refl)
-chain-mark Other e = absurd (true-not-false e refl)
+chain-mark (Unknown n) e = absurd (true-not-false e refl)
 
 -- a new record that is fit is whole, and bears the id
 pub fit-whole : (new : List ℕ) (id : ℕ) → unfit new id ≡ false → Whole new × (idAt new 0 ≡ id)
@@ -54,38 +54,38 @@ pub whole-fit : (r : List ℕ) (id : ℕ) → Whole r → idAt r 0 ≡ id → un
 unfolding unfit
 whole-fit r id w e = rw (le-ltb (length r) 16 (omega (arith, w .long)), w .mark, eq-eqb _ _ (w .long), eq-eqb _ _ e)
 
+-- a stored record over itself
 -- the result by its parts
 result-splice : (s old new : List ℕ) → resultOf s old new ≡ splice s (placeOf (tableOf s) (seenOf s old)) (lengthOf (rowOf (tableOf s) (seenOf s old))) new
 unfolding resultOf
 result-splice s old new = refl
 
--- a stored record over itself
 module _ (s : List ℕ) (none : readFault s ≡ 0) where
-  module _ (k : ℕ) (l : k < tableOf s .count) where
-    own-seen : seenOf s (recordOf s k) < tableOf s .count
-    own-seen = omega (arith, l, seen-by s (recordOf s k) k l refl)
+  module _ (chain : ℕ) (l : chain < tableOf s .count) where
+    own-seen : seenOf s (recordOf s chain) < tableOf s .count
+    own-seen = omega (arith, l, seen-by s (recordOf s chain) chain l refl)
 
-    own-there : recordOf s (seenOf s (recordOf s k)) ≡ recordOf s k
-    own-there = seen-record s (recordOf s k) own-seen
+    own-there : recordOf s (seenOf s (recordOf s chain)) ≡ recordOf s chain
+    own-there = seen-record s (recordOf s chain) own-seen
 
-    pub own-result : resultOf s (recordOf s k) (recordOf s k) ≡ s
+    pub own-result : resultOf s (recordOf s chain) (recordOf s chain) ≡ s
     own-result =
-        let j = seenOf s (recordOf s k) in
-        result-splice s (recordOf s k) (recordOf s k)
+        let j = seenOf s (recordOf s chain) in
+        result-splice s (recordOf s chain) (recordOf s chain)
         ∙ ap (splice s (placeOf (tableOf s) j) (lengthOf (rowOf (tableOf s) j))) (sym own-there ∙ record-is s (tableOf s) (read-accepted s none) j)
         ∙ splice-same s (placeOf (tableOf s) j) (lengthOf (rowOf (tableOf s) j))
 
-  pub own-passes : Bytes s → (k : ℕ) (l : k < tableOf s .count) (room : ℕ) → length s ≤ room → Passed room s (recordOf s k) (recordOf s k)
-  own-passes bytes k l room h =
+  pub own-passes : Bytes s → (chain : ℕ) (l : chain < tableOf s .count) (room : ℕ) → length s ≤ room → Passed room s (recordOf s chain) (recordOf s chain)
+  own-passes bytes chain l room h =
       let read = read-accepted s none in
-      let j = seenOf s (recordOf s k) in
+      let j = seenOf s (recordOf s chain) in
       record {
         table = none;
-        seen = λ z. omega (arith, z, own-seen k l);
-        fit = subst (λ (q : List ℕ). unfit q (rowOf (tableOf s) j .id) ≡ false) (own-there k l)
-            (whole-fit (recordOf s j) _ (record-whole s (tableOf s) read bytes j (own-seen k l)) (record-id s (tableOf s) read bytes j (own-seen k l)));
-        fits = rw (own-result k l) h;
-        result = rw (own-result k l) none;
+        seen = λ z. omega (arith, z, own-seen chain l);
+        fit = subst (λ (q : List ℕ). unfit q (rowOf (tableOf s) j .id) ≡ false) (own-there chain l)
+            (whole-fit (recordOf s j) _ (record-whole s (tableOf s) read bytes j (own-seen chain l)) (record-id s (tableOf s) read bytes j (own-seen chain l)));
+        fits = rw (own-result chain l) h;
+        result = rw (own-result chain l) none;
       }
 
 -- an accepted change
@@ -93,8 +93,8 @@ module _ (room : ℕ) (s old new : List ℕ) (p : Passed room s old new) (bytes 
   abbrev t : Table
   t = tableOf s
 
-  abbrev k : ℕ
-  k = seenOf s old
+  abbrev chain : ℕ
+  chain = seenOf s old
 
   abbrev result : List ℕ
   result = resultOf s old new
@@ -105,16 +105,16 @@ module _ (room : ℕ) (s old new : List ℕ) (p : Passed room s old new) (bytes 
   is-read : readTable result ≡ accepted (tableOf result)
   is-read = read-accepted result (p .result)
 
-  pub is-seen : k < t .count
+  pub is-seen : chain < t .count
   is-seen = omega (arith, seen-le s old, p .seen)
 
-  pub seen-old : recordOf s k ≡ old
+  pub seen-old : recordOf s chain ≡ old
   seen-old = seen-record s old is-seen
 
   new-whole : Whole new
   new-whole = fit-whole new _ (p .fit) .0
 
-  new-id : idAt new 0 ≡ rowOf t k .id
+  new-id : idAt new 0 ≡ rowOf t chain .id
   new-id = fit-whole new _ (p .fit) .1
 
   -- the result is the old records but for one
@@ -124,69 +124,69 @@ module _ (room : ℕ) (s old new : List ℕ) (p : Passed room s old new) (bytes 
   abbrev end : List ℕ
   end = drop (placeOf t (t .count)) s
 
-  split : Split result (set rs k new) end
+  parts : Parts result (set rs chain new) end
   unfolding resultOf
-  split = split-put s t was-read bytes rs end (split-of s t was-read bytes) k is-seen new new-whole
+  parts = parts-put s t was-read bytes rs end (parts-of s t was-read bytes) chain is-seen new new-whole
 
   result-bytes : Bytes result
   result-bytes = bytes-result s old new bytes new-bytes
 
   pub count-kept : tableOf result .count ≡ t .count
-  count-kept = split-count result (tableOf result) is-read result-bytes (set rs k new) end split ∙ simp (length-set, length-records)
+  count-kept = parts-count result (tableOf result) is-read result-bytes (set rs chain new) end parts ∙ simp (length-set, length-records)
 
   stored-record : (j : ℕ) → j < t .count → getD rs j [] ≡ recordOf s j
   stored-record j h = let e : 0 + j ≡ j = omega arith in records-at s (t .count) 0 j h ∙ rw e
 
-  record-then : (j : ℕ) → j < t .count → recordOf result j ≡ getD (set rs k new) j []
-  record-then j h = split-record result (tableOf result) is-read result-bytes (set rs k new) end split j (omega (arith, count-kept))
+  record-then : (j : ℕ) → j < t .count → recordOf result j ≡ getD (set rs chain new) j []
+  record-then j h = parts-record result (tableOf result) is-read result-bytes (set rs chain new) end parts j (omega (arith, count-kept))
 
-  pub record-changed : recordOf result k ≡ new
-  record-changed = record-then k is-seen ∙ getD-set-same rs k new [] (omega (arith, is-seen, length-records s (t .count) 0))
+  pub record-changed : recordOf result chain ≡ new
+  record-changed = record-then chain is-seen ∙ getD-set-same rs chain new [] (omega (arith, is-seen, length-records s (t .count) 0))
 
-  pub record-kept : (j : ℕ) → j < t .count → (j ≡ k → ⊥) → recordOf result j ≡ recordOf s j
-  record-kept j h n = record-then j h ∙ getD-set-other rs k j new [] n ∙ stored-record j h
+  pub record-kept : (j : ℕ) → j < t .count → (j ≡ chain → ⊥) → recordOf result j ≡ recordOf s j
+  record-kept j h n = record-then j h ∙ getD-set-other rs chain j new [] n ∙ stored-record j h
 
-  pub rows-kept : rows (tableOf result) ≡ set (rows t) k (rowIn new)
+  pub rows-kept : rows (tableOf result) ≡ set (rows t) chain (rowIn new)
   rows-kept =
-      split-rows result (tableOf result) is-read (set rs k new) end split
-      ∙ map-set rowIn rs k new
-      ∙ ap (λ (l : List _). set l k (rowIn new)) (sym (split-rows s t was-read rs end (split-of s t was-read bytes)))
+      parts-rows result (tableOf result) is-read (set rs chain new) end parts
+      ∙ map-set rowIn rs chain new
+      ∙ ap (λ (l : List _). set l chain (rowIn new)) (sym (parts-rows s t was-read rs end (parts-of s t was-read bytes)))
 
   -- the old record in the new one's place again
   old-whole : Whole old
-  old-whole = subst Whole seen-old (record-whole s t was-read bytes k is-seen)
+  old-whole = subst Whole seen-old (record-whole s t was-read bytes chain is-seen)
 
-  old-id : idAt old 0 ≡ rowOf t k .id
-  old-id = ap (λ (r : List ℕ). idAt r 0) (sym seen-old) ∙ record-id s t was-read bytes k is-seen
+  old-id : idAt old 0 ≡ rowOf t chain .id
+  old-id = ap (λ (r : List ℕ). idAt r 0) (sym seen-old) ∙ record-id s t was-read bytes chain is-seen
 
-  id-kept : rowOf (tableOf result) k .id ≡ rowOf t k .id
+  id-kept : rowOf (tableOf result) chain .id ≡ rowOf t chain .id
   id-kept =
-      sym (record-id result (tableOf result) is-read result-bytes k (omega (arith, is-seen, count-kept)))
+      sym (record-id result (tableOf result) is-read result-bytes chain (omega (arith, is-seen, count-kept)))
       ∙ ap (λ (r : List ℕ). idAt r 0) record-changed ∙ new-id
 
-  new-seen : seenOf result new ≡ k
+  new-seen : seenOf result new ≡ chain
   new-seen =
-      let there : k < tableOf result .count = omega (arith, is-seen, count-kept) in
-      seen-is result new k there (same-yes _ new record-changed)
+      let there : chain < tableOf result .count = omega (arith, is-seen, count-kept) in
+      seen-is result new chain there (same-yes _ new record-changed)
       (λ j l e. let f = same-true _ new e ∙ sym record-changed in
-      omega (arith, l, record-alone result (tableOf result) is-read result-bytes j k (omega (arith, l, there)) there (ap (λ (r : List ℕ). idAt r 0) f)))
+      omega (arith, l, record-alone result (tableOf result) is-read result-bytes j chain (omega (arith, l, there)) there (ap (λ (r : List ℕ). idAt r 0) f)))
 
   pub result-back : resultOf result new old ≡ s
   result-back =
       let u = tableOf result in
-      let same-again : set (set rs k new) k old ≡ rs = set-set rs k new old ∙ ap (set rs k) (sym (stored-record k is-seen ∙ seen-old)) ∙ set-getD rs k [] in
+      let same-again : set (set rs chain new) chain old ≡ rs = set-set rs chain new old ∙ ap (set rs chain) (sym (stored-record chain is-seen ∙ seen-old)) ∙ set-getD rs chain [] in
       result-splice result new old
       ∙ ap (λ (j : ℕ). splice result (placeOf u j) (lengthOf (rowOf u j)) old) new-seen
-      ∙ split-put result u is-read result-bytes (set rs k new) end split k (omega (arith, is-seen, count-kept)) old old-whole .bytes
+      ∙ parts-put result u is-read result-bytes (set rs chain new) end parts chain (omega (arith, is-seen, count-kept)) old old-whole .bytes
       ∙ ap (λ (l : List (List ℕ)). flatten l ++ end) same-again
-      ∙ sym (split-of s t was-read bytes .bytes)
+      ∙ sym (parts-of s t was-read bytes .bytes)
 
   -- and it is accepted there, wherever the table had room
   pub back-passes : (more : ℕ) → length s ≤ more → Passed more result new old
   back-passes more h = record {
     table = p .result;
     seen = λ z. omega (arith, z, new-seen, is-seen, count-kept);
-    fit = rw new-seen (whole-fit old (rowOf (tableOf result) k .id) old-whole (old-id ∙ sym id-kept));
+    fit = rw new-seen (whole-fit old (rowOf (tableOf result) chain .id) old-whole (old-id ∙ sym id-kept));
     fits = rw result-back h;
     result = rw result-back (p .table);
   }

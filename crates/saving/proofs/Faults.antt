@@ -1,4 +1,4 @@
--- The order of the refusals: what `changeFault` is at each step, and what a save then answers and leaves. Assumes nothing.
+-- The order of the refusals: what the fault is at each step, and what a save then answers and leaves. Assumes nothing.
 use Prim.Native.Nat.{ℕ, zero, suc, _<_, _≤_}
 use mathlib.Core.Path.{_≡_, refl, _∙_}
 use mathlib.Core.List.{List}
@@ -7,10 +7,10 @@ use lib.ListN.{length, take}
 use borrow.Author.Tests.{lt-ltb, le-ltb, eq-eqb, ne-eqb, ltb-false, eqb-false}
 use Rattle.search.specs.Choice.{_when_else_}
 use Rattle.table.specs.Find.{rowOf}
-use Rattle.table.specs.Read.{tableOf}
+use Rattle.table.specs.Read.{unless, tableOf}
 use Rattle.search.proofs.Choice.{when-yes, when-no}
 use Rattle.table.proofs.Firsts.{then-stop, then-go, then-zero, when-zero}
-use Rattle.saving.specs.Save.{readFault, seenOf, unfit, resultOf, resultFault, changeFault, saveFault, answerOf, written, savedOf, bufferAfter, Saves}
+use Rattle.saving.specs.Save.{readFault, seenOf, unfit, resultOf, resultFault, replaceFault, changeFault, saveFault, written, savedOf, bufferAfter, Saves}
 use Rattle.saving.specs.declared.Saved.the-variants.{Used, Refused}
 
 -- the result
@@ -23,24 +23,28 @@ module _ (room : ℕ) (result : List ℕ) where
   unfolding resultFault _when_else_
   result-read h = rw (le-ltb _ _ h)
 
--- the table's own fault
-pub change-unread : (room : ℕ) (s old new : List ℕ) → (readFault s ≡ 0 → ⊥) → changeFault room s old new ≡ readFault s
-unfolding changeFault
-change-unread room s old new h = then-stop _ _ h
-
-module _ (room : ℕ) (s old new : List ℕ) (none : readFault s ≡ 0) where
-  pub change-unseen : seenOf s old ≡ tableOf s .count → changeFault room s old new ≡ 22
+module _ (room : ℕ) (s old new : List ℕ) where
+  -- the table's own fault comes first
+  pub change-unread : (readFault s ≡ 0 → ⊥) → changeFault room s old new ≡ readFault s
   unfolding changeFault
-  change-unseen e = then-go _ _ none ∙ when-yes 22 _ (eq-eqb _ _ e)
+  change-unread h = then-stop _ _ h
+
+  pub change-read : readFault s ≡ 0 → changeFault room s old new ≡ replaceFault room s old new
+  unfolding changeFault
+  change-read e = then-go _ _ e
+
+  pub replace-unseen : seenOf s old ≡ tableOf s .count → replaceFault room s old new ≡ 22
+  unfolding replaceFault
+  replace-unseen e = when-yes 22 _ (eq-eqb _ _ e)
 
   module _ (seen : seenOf s old ≡ tableOf s .count → ⊥) where
-    pub change-unfit : unfit new (rowOf (tableOf s) (seenOf s old) .id) ≡ true → changeFault room s old new ≡ 23
-    unfolding changeFault
-    change-unfit e = then-go _ _ none ∙ when-no 22 _ (ne-eqb _ _ seen) ∙ when-yes 23 _ e
+    pub replace-unfit : unfit new (rowOf (tableOf s) (seenOf s old) .id) ≡ true → replaceFault room s old new ≡ 23
+    unfolding replaceFault
+    replace-unfit e = when-no 22 _ (ne-eqb _ _ seen) ∙ when-yes 23 _ e
 
-    pub change-result : unfit new (rowOf (tableOf s) (seenOf s old) .id) ≡ false → changeFault room s old new ≡ resultFault room (resultOf s old new)
-    unfolding changeFault
-    change-result e = then-go _ _ none ∙ when-no 22 _ (ne-eqb _ _ seen) ∙ when-no 23 _ e
+    pub replace-result : unfit new (rowOf (tableOf s) (seenOf s old) .id) ≡ false → replaceFault room s old new ≡ resultFault room (resultOf s old new)
+    unfolding replaceFault
+    replace-result e = when-no 22 _ (ne-eqb _ _ seen) ∙ when-no 23 _ e
 
 -- no fault: what it says
 pub record Passed (room : ℕ) (s old new : List ℕ) : Type 0 where
@@ -51,7 +55,7 @@ pub record Passed (room : ℕ) (s old new : List ℕ) : Type 0 where
   pub result : readFault (resultOf s old new) ≡ 0
 
 pub passed : (room : ℕ) (s old new : List ℕ) → changeFault room s old new ≡ 0 → Passed room s old new
-unfolding changeFault resultFault
+unfolding changeFault replaceFault resultFault
 passed room s old new e =
     let e1 = then-zero _ _ e in
     let e22 = when-zero 21 _ _ (e1 .1) in
@@ -60,9 +64,8 @@ passed room s old new e =
     record { table = e1 .0; seen = eqb-false _ _ (e22 .0); fit = e23 .0; fits = ltb-false _ _ (e24 .0); result = e24 .1 }
 
 pub change-none : (room : ℕ) (s old new : List ℕ) → Passed room s old new → changeFault room s old new ≡ 0
-unfolding changeFault
 change-none room s old new p =
-    then-go _ _ (p .table) ∙ when-no 22 _ (ne-eqb _ _ (p .seen)) ∙ when-no 23 _ (p .fit) ∙ result-read room _ (p .fits) ∙ p .result
+    change-read room s old new (p .table) ∙ replace-result room s old new (p .seen) (p .fit) ∙ result-read room _ (p .fits) ∙ p .result
 
 -- the save
 module _ (buffer : List ℕ) (used : ℕ) (old new : List ℕ) where
@@ -76,11 +79,11 @@ module _ (buffer : List ℕ) (used : ℕ) (old new : List ℕ) where
 
   -- a refusal leaves every byte
   pub refuses : (f : ℕ) → saveFault buffer used old new ≡ f → (f ≡ 0 → ⊥) → Saves buffer used old new (Refused f) buffer
-  unfolding savedOf bufferAfter answerOf _when_else_
+  unfolding savedOf bufferAfter unless _when_else_
   refuses zero e h = absurd (h refl)
   refuses (suc f) e h = record { answers = rw e; leaves = rw (e, ne-eqb (suc f) 0 h) }
 
   pub accepts : saveFault buffer used old new ≡ 0
       → Saves buffer used old new (Used (length (resultOf (take used buffer) old new))) (written buffer used (resultOf (take used buffer) old new))
-  unfolding savedOf bufferAfter answerOf _when_else_
+  unfolding savedOf bufferAfter unless _when_else_
   accepts e = record { answers = rw e; leaves = rw e }

@@ -4,8 +4,8 @@ pub mod Verdicts
 pub mod Stored
 pub mod Seen
 pub mod Faults
-pub mod Alike
-pub mod Splits
+pub mod Moved
+pub mod Parts
 pub mod Parsed
 pub mod Records
 pub mod After

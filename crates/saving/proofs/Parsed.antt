@@ -9,7 +9,6 @@ use mathlib.Core.Logic.{⊎-elim}
 use lib.ListN.{length, drop, length-append, length-drop, length-set, List·getD-append}
 use lib.Seq.{getD-drop, drop-drop, drop-at, take-suc-set}
 use lib.Dec.{eqb, ltb}
-use borrow.Author.Tests.{ltb-false}
 use Rattle.search.specs.Lists.{All}
 use Rattle.search.proofs.Choice.{when-cases, lt-or-le}
 use Rattle.table.specs.Limits.{maxChains, maxBytes}
@@ -21,16 +20,16 @@ use Rattle.table.specs.Read.{empty, plus, refusal, accepted, unless, byMark, re
 use Rattle.table.specs.declared.Reading.{Reading}
 use Rattle.table.specs.declared.Table.{Table}
 use Rattle.table.specs.declared.Mark.{Mark}
-use Rattle.table.specs.declared.Mark.the-variants.{Chain, Task, End, Other}
+use Rattle.table.specs.declared.Mark.the-variants.{Chain, Task, End, Refused as Unknown}
 use Rattle.table.specs.declared.Verdict.the-variants.{Accepted}
-use Rattle.table.proofs.Firsts.{when-zero}
+use Rattle.table.proofs.Faultless.{chain-right}
 use Rattle.table.proofs.Steps.{records-mark, records-full, records-chain}
-use Rattle.saving.proofs.Alike.{Alike, length-alike, mark-alike, row-alike}
-use Rattle.saving.proofs.Splits.{Whole, Split, rowIn}
+use Rattle.saving.proofs.Moved.{SameBytes, length-moved, mark-moved, row-moved}
+use Rattle.saving.proofs.Parts.{Whole, Parts, rowIn}
 
 -- a record stands where the bytes go on with it
-stands : (s : List ℕ) (at : ℕ) (r rest : List ℕ) → drop at s ≡ r ++ rest → Whole r → Alike s r at 0 (lengthAt r 0)
-unfolding Alike
+stands : (s : List ℕ) (at : ℕ) (r rest : List ℕ) → drop at s ≡ r ++ rest → Whole r → SameBytes s r at 0 (lengthAt r 0)
+unfolding SameBytes
 stands s at r rest e w i h =
     let f : 0 + i ≡ i = omega arith in
     rw (f, ← getD-drop at s i 0, e) (List·getD-append r rest 0 i (omega (arith, w .long)))
@@ -73,18 +72,15 @@ module _ (s : List ℕ) where
         by Chain e = absurd (c e)
         by Task e = absurd (not-refused 3 (passes (refusal 3) (marked Task e)))
         by End e = ap (λ (r : Reading). r .table) (marked End e ∙ unless-passed (endFault s at t) (accepted t) (passes _ (marked End e)) .1)
-        by Other e = absurd (not-refused 3 (passes (refusal 3) (marked Other e)))
+        by (Unknown n) e = absurd (not-refused n (passes (refusal n) (marked (Unknown n) e)))
 
   -- four bytes are no chain
   ended : (at : ℕ) (t : Table) → length s ≡ at + 4 → t .count ≤ maxChains → go at t .verdict ≡ Accepted → go at t .table ≡ t
-  unfolding chainFault
   ended at t n few a =
       let there : at + 2 ≤ length s = omega arith in
       end-read at t few there a
       (λ m. let f = chain-read at t few there a m .1 in
-      let g = when-zero 1 _ _ f .0 in
-      let h : at + 16 ≤ length s = ltb-false _ _ g in
-      omega arith)
+      omega (arith, chain-right s at t f .head .there))
 
   -- each record adds its row
   grown : (rs : List (List ℕ)) (at : ℕ) (t : Table) (e : List ℕ) → drop at s ≡ flatten rs ++ e → All Whole rs → length e ≡ 4
@@ -95,14 +91,14 @@ module _ (s : List ℕ) where
       let d′ : drop at s ≡ r ++ (flatten rs ++ e) = d ∙ append-assoc r (flatten rs) e in
       let h = stands s at r (flatten rs ++ e) d′ (w .0) in
       let long : at + length r ≤ length s = omega (arith, length-drop at s, ap length d′, length-append r (flatten rs ++ e), length-append (flatten rs) e, w .0 .long) in
-      let c = chain-read at t few (omega (arith, w .0 .long)) a (ap markOf (mark-alike s r at 0 h) ∙ w .0 .mark) in
+      let c = chain-read at t few (omega (arith, w .0 .long)) a (ap markOf (mark-moved s r at 0 h) ∙ w .0 .mark) in
       let next = at + lengthAt s at in
       let more = plus t (rowAt s at) in
-      let size : lengthAt s at ≡ length r = length-alike s r at 0 h ∙ sym (w .0 .long) in
+      let size : lengthAt s at ≡ length r = length-moved s r at 0 h ∙ sym (w .0 .long) in
       let rest : drop next s ≡ flatten rs ++ e = rw (size, ← drop-drop (length r) at s, d′) (drop-at r (flatten rs ++ e) (length r) refl) in
       let on = grown rs next more e rest (w .1) n (omega (arith, c .0)) (simp length-set l) (passes at t few (omega (arith, w .0 .long)) a (go next more) (c .2)) in
       let added : rows more ≡ rows t ++ (rowAt s at ∷ []) = rw (add-one, take-suc-set (t .row) (t .count) (rowAt s at) (omega (arith, l, c .0))) in
-      ap (λ (x : Reading). rows (x .table)) (c .2) ∙ on ∙ rw (added, row-alike s r at 0 h, append-assoc)
+      ap (λ (x : Reading). rows (x .table)) (c .2) ∙ on ∙ rw (added, row-moved s r at 0 h, append-assoc)
 
 -- reading starts without a row
 started : (s : List ℕ) (t : Table) → readTable s ≡ accepted t → records maxChains s 0 empty ≡ accepted t
@@ -112,7 +108,7 @@ started s t =
     (λ e f. absurd (not-refused 1 (ap (λ (r : Reading). r .verdict) f))) (λ e f. f)
 
 -- the rows of an accepted table are those of its records
-pub split-rows : (s : List ℕ) (t : Table) → readTable s ≡ accepted t → (rs : List (List ℕ)) (e : List ℕ) → Split s rs e → rows t ≡ map rowIn rs
-split-rows s t read rs e p =
+pub parts-rows : (s : List ℕ) (t : Table) → readTable s ≡ accepted t → (rs : List (List ℕ)) (e : List ℕ) → Parts s rs e → rows t ≡ map rowIn rs
+parts-rows s t read rs e p =
     let f = started s t read in
     ap (λ (r : Reading). rows (r .table)) (sym f) ∙ grown s rs 0 empty e (p .bytes) (p .whole) (p .last) (omega arith) refl (ap (λ (r : Reading). r .verdict) f)

@@ -5,33 +5,25 @@ use native.Mathlib.Omega.{arith}
 use native.Mathlib.Decide.{ℕ-discrete}
 use mathlib.Core.Path.{_≡_, refl, ap, ap₂, sym, subst, _∙_}
 use mathlib.Core.List.{List, [], _∷_}
-use mathlib.Core.Logic.{_⊎_, inl, inr, ⊎-elim}
 use lib.ListN.{length, getD, set}
 use lib.Seq.{length-take-le}
 use Rattle.search.specs.Lists.{All}
-use Rattle.search.proofs.Choice.{lt-or-le}
-use Rattle.table.specs.Limits.{maxBytes}
 use Rattle.table.specs.Bytes.{Bytes}
 use Rattle.table.specs.Record.{idAt}
 use Rattle.table.specs.Find.{rowOf, rows}
-use Rattle.table.specs.Read.{accepted, readTable, tableOf}
-use Rattle.saving.specs.Save.{numberOf, saveFault, recordOf, seenOf, resultOf, changeFault, answerOf, written, savedOf, Saves}
+use Rattle.table.specs.Read.{unless, accepted, readTable, tableOf}
+use Rattle.saving.specs.Save.{numberOf, saveFault, recordOf, seenOf, resultOf, changeFault, written, savedOf}
 use Rattle.saving.specs.Later.{State, stored, Holding, Edit, answer, after, afterAll, Never}
-use Rattle.saving.specs.declared.Saved.{Saved}
 use Rattle.saving.specs.declared.Saved.the-variants.{Used, Refused}
 use Rattle.saving.proofs.Same.{same-true}
 use Rattle.saving.proofs.Splices.{written-same}
-use Rattle.saving.proofs.Verdicts.{read-accepted, read-out}
+use Rattle.saving.proofs.Verdicts.{read-accepted}
 use Rattle.saving.proofs.Seen.{seen-none}
-use Rattle.saving.proofs.Faults.{Passed, change-unread, change-unseen, save-beyond, save-within, refuses}
-use Rattle.saving.proofs.Splits.{rowIn}
+use Rattle.saving.proofs.Faults.{Passed, change-read, replace-unseen, save-within, refuses}
+use Rattle.saving.proofs.Parts.{rowIn}
 use Rattle.saving.proofs.Records.{record-id, record-alone}
 use Rattle.saving.proofs.After.{saved-number, bytes-take, passed-accepted, used-within, all-passed, after-answer, after-buffer, after-used, after-stored, after-length, after-holding}
 use Rattle.saving.proofs.Changes.{own-result, own-passes, was-read, is-seen, seen-old, count-kept, record-changed, record-kept, rows-kept, result-back, back-passes}
-
--- two results that the contract allows are equal
-pub one-result : {buffer old new : List ℕ} {used : ℕ} {r q : Saved} {a b : List ℕ} → Saves buffer used old new r a → Saves buffer used old new q b → (r ≡ q) × (a ≡ b)
-one-result f g = (f .answers ∙ sym (g .answers), f .leaves ∙ sym (g .leaves))
 
 -- a refused save changes nothing
 pub refused-leaves : (x : State) (e : Edit) → (numberOf (answer x e) ≡ 0 → ⊥) → after x e ≡ x
@@ -39,17 +31,6 @@ refused-leaves x e h =
     let n = saved-number (x .buffer) (x .used) (e .old) (e .new) in
     let r = refuses (x .buffer) (x .used) (e .old) (e .new) (saveFault (x .buffer) (x .used) (e .old) (e .new)) refl (λ z. h (n ∙ z)) in
     rw (← r .leaves, ← r .answers)
-
--- a used length of 0, above the limit or above the buffer is refused with 1
-pub length-refused : (x : State) (e : Edit) → (x .used ≡ 0) ⊎ ((maxBytes < x .used) ⊎ (length (x .buffer) < x .used)) → answer x e ≡ Refused 1
-length-refused x e h =
-    sym (refuses (x .buffer) (x .used) (e .old) (e .new) 1 (⊎-elim (save-beyond (x .buffer) (x .used) (e .old) (e .new)) within (lt-or-le (length (x .buffer)) (x .used))) (λ z. omega (arith, z)) .answers)
-  where
-    within : x .used ≤ length (x .buffer) → saveFault (x .buffer) (x .used) (e .old) (e .new) ≡ 1
-    within l =
-        let n = length-take-le (x .used) (x .buffer) l in
-        let out = read-out (stored x) (⊎-elim (λ z. inl (n ∙ z)) (⊎-elim (λ z. inr (omega (arith, z, n))) (λ z. absurd (omega (arith, z, l)))) h) in
-        save-within (x .buffer) (x .used) (e .old) (e .new) l ∙ change-unread (length (x .buffer)) (stored x) (e .old) (e .new) (λ z. omega (arith, z, out)) ∙ out
 
 -- what is accepted reads back as an accepted table whose rows are the old ones with exactly one replaced
 pub record OneReplaced (x : State) (e : Edit) : Type 0 where
@@ -71,16 +52,16 @@ reads-back x e bytes new-bytes ok =
 
 -- saving the record that is there changes nothing
 abbrev pub own : State → ℕ → Edit
-own x k = record { old = recordOf (stored x) k; new = recordOf (stored x) k }
+own x chain = record { old = recordOf (stored x) chain; new = recordOf (stored x) chain }
 
-pub own-saved : (x : State) → Holding x → (k : ℕ) → k < tableOf (stored x) .count → (answer x (own x k) ≡ Used (x .used)) × (after x (own x k) ≡ x)
-own-saved x h k l =
+pub own-saved : (x : State) → Holding x → (chain : ℕ) → chain < tableOf (stored x) .count → (answer x (own x chain) ≡ Used (x .used)) × (after x (own x chain) ≡ x)
+own-saved x h chain l =
     let n = length-take-le (x .used) (x .buffer) (h .within) in
-    let passes = own-passes (stored x) (h .right) (bytes-take (x .used) (x .buffer) (h .bytes)) k l (length (x .buffer)) (omega (arith, n, h .within)) in
-    let same-result = own-result (stored x) (h .right) k l in
-    let taken = passed-accepted x (own x k) (h .within) passes in
-    let same-used = after-answer x (own x k) taken ∙ ap Used (ap length same-result ∙ n) in
-    let same-buffer = after-buffer x (own x k) taken ∙ ap (written (x .buffer) (x .used)) same-result ∙ written-same (x .buffer) (x .used) (h .within) in
+    let passes = own-passes (stored x) (h .right) (bytes-take (x .used) (x .buffer) (h .bytes)) chain l (length (x .buffer)) (omega (arith, n, h .within)) in
+    let same-result = own-result (stored x) (h .right) chain l in
+    let taken = passed-accepted x (own x chain) (h .within) passes in
+    let same-used = after-answer x (own x chain) taken ∙ ap Used (ap length same-result ∙ n) in
+    let same-buffer = after-buffer x (own x chain) taken ∙ ap (written (x .buffer) (x .used)) same-result ∙ written-same (x .buffer) (x .used) (h .within) in
     (same-used, rw (same-buffer, same-used))
 
 module _ (x : State) (h : Holding x) where
@@ -94,23 +75,23 @@ module _ (x : State) (h : Holding x) where
   bytes = bytes-take (x .used) (x .buffer) (h .bytes)
 
   -- a save whose old record is none of the stored ones is refused with 22
-  pub unseen-refused : (e : Edit) → ((k : ℕ) → k < tableOf s .count → recordOf s k ≡ e .old → ⊥) → answer x e ≡ Refused 22
+  pub unseen-refused : (e : Edit) → ((chain : ℕ) → chain < tableOf s .count → recordOf s chain ≡ e .old → ⊥) → answer x e ≡ Refused 22
   unseen-refused e n =
       let none = seen-none s (e .old) (λ j l z. n j l (same-true _ _ z)) in
-      let f = save-within (x .buffer) (x .used) (e .old) (e .new) (h .within) ∙ change-unseen (length (x .buffer)) s (e .old) (e .new) (h .right) none in
+      let f = save-within (x .buffer) (x .used) (e .old) (e .new) (h .within) ∙ change-read (length (x .buffer)) s (e .old) (e .new) (h .right) ∙ replace-unseen (length (x .buffer)) s (e .old) (e .new) none in
       sym (refuses (x .buffer) (x .used) (e .old) (e .new) 22 f (λ z. omega (arith, z)) .answers)
 
   -- so it is where the old record differs from the stored one of that id
-  pub differing-refused : (e : Edit) (k : ℕ) → k < tableOf s .count → idAt (e .old) 0 ≡ rowOf (tableOf s) k .id → (e .old ≡ recordOf s k → ⊥) → answer x e ≡ Refused 22
-  differing-refused e k l id n =
+  pub differing-refused : (e : Edit) (chain : ℕ) → chain < tableOf s .count → idAt (e .old) 0 ≡ rowOf (tableOf s) chain .id → (e .old ≡ recordOf s chain → ⊥) → answer x e ≡ Refused 22
+  differing-refused e chain l id n =
       unseen-refused e
-      (λ j m z. n (sym z ∙ ap (recordOf s) (record-alone s (tableOf s) read bytes j k m l
-      (ap (λ (q : List ℕ). idAt q 0) z ∙ id ∙ sym (record-id s (tableOf s) read bytes k l)))))
+      (λ j m z. n (sym z ∙ ap (recordOf s) (record-alone s (tableOf s) read bytes j chain m l
+      (ap (λ (q : List ℕ). idAt q 0) z ∙ id ∙ sym (record-id s (tableOf s) read bytes chain l)))))
 
   -- in any byte
-  pub byte-refused : (e : Edit) (k : ℕ) → k < tableOf s .count → idAt (e .old) 0 ≡ rowOf (tableOf s) k .id
-      → (i : ℕ) → (getD (e .old) i 0 ≡ getD (recordOf s k) i 0 → ⊥) → answer x e ≡ Refused 22
-  byte-refused e k l id i n = differing-refused e k l id (λ z. n (ap (λ (q : List ℕ). getD q i 0) z))
+  pub byte-refused : (e : Edit) (chain : ℕ) → chain < tableOf s .count → idAt (e .old) 0 ≡ rowOf (tableOf s) chain .id
+      → (i : ℕ) → (getD (e .old) i 0 ≡ getD (recordOf s chain) i 0 → ⊥) → answer x e ≡ Refused 22
+  byte-refused e chain l id i n = differing-refused e chain l id (λ z. n (ap (λ (q : List ℕ). getD q i 0) z))
 
 -- none of a state's stored records is r
 Absent : List ℕ → State → Type 0
@@ -123,12 +104,12 @@ unfolding Absent
 absent-after x e bytes new-bytes ok r n others =
     let p = all-passed x e ok in
     let b = bytes-take (x .used) (x .buffer) bytes in
-    let k = seenOf (stored x) (e .old) in
+    let chain = seenOf (stored x) (e .old) in
     let changed = record-changed _ (stored x) (e .old) (e .new) p b new-bytes in
     let kept = record-kept _ (stored x) (e .old) (e .new) p b new-bytes in
     rw (after-stored x e ok) (λ j l z.
     let m : j < tableOf (stored x) .count = omega (arith, l, count-kept _ (stored x) (e .old) (e .new) p b new-bytes) in
-    elim (ℕ-discrete j k) [ yes q ↦ n (sym changed ∙ ap (recordOf (resultOf (stored x) (e .old) (e .new))) (sym q) ∙ z) | no q ↦ others j m q (sym (kept j m q) ∙ z) ])
+    elim (ℕ-discrete j chain) [ yes q ↦ n (sym changed ∙ ap (recordOf (resultOf (stored x) (e .old) (e .new))) (sym q) ∙ z) | no q ↦ others j m q (sym (kept j m q) ∙ z) ])
 
 -- and so it stays, whatever is saved, while no accepted save stores r
 once : (r : List ℕ) (x : State) (e : Edit) → Holding x → Absent r x → Bytes (e .new) → (numberOf (answer x e) ≡ 0 → e .new ≡ r → ⊥)
@@ -165,9 +146,9 @@ stale-until-back x e bytes new-bytes ok n es b never new =
 
 -- a record changed away and changed back counts as the one seen
 answer-is : (x : State) (e : Edit) → x .used ≤ length (x .buffer)
-    → answer x e ≡ answerOf (changeFault (length (x .buffer)) (stored x) (e .old) (e .new)) (length (resultOf (stored x) (e .old) (e .new)))
+    → answer x e ≡ unless Refused (changeFault (length (x .buffer)) (stored x) (e .old) (e .new)) (Used (length (resultOf (stored x) (e .old) (e .new))))
 unfolding savedOf
-answer-is x e h = ap (λ (f : ℕ). answerOf f (length (resultOf (stored x) (e .old) (e .new)))) (save-within (x .buffer) (x .used) (e .old) (e .new) h)
+answer-is x e h = ap (λ (f : ℕ). unless Refused f (Used (length (resultOf (stored x) (e .old) (e .new))))) (save-within (x .buffer) (x .used) (e .old) (e .new) h)
 
 pub record ChangedBack (x : State) (e : Edit) (back : Edit) : Type 0 where
   pub taken : numberOf (answer (after x e) back) ≡ 0
@@ -195,6 +176,6 @@ changed-back x e bytes new-bytes ok =
       used = same-used;
       seen = λ new.
           answer-is (after y back) (record { old = e .old; new = new }) (omega (arith, same-used, same-room, used-within x e ok))
-          ∙ ap₂ (λ (m : ℕ) (q : List ℕ). answerOf (changeFault m q (e .old) new) (length (resultOf q (e .old) new))) same-room same-table
+          ∙ ap₂ (λ (m : ℕ) (q : List ℕ). unless Refused (changeFault m q (e .old) new) (Used (length (resultOf q (e .old) new)))) same-room same-table
           ∙ sym (answer-is x (record { old = e .old; new = new }) (used-within x e ok));
     }

@@ -18,10 +18,10 @@ use Rattle.saving.proofs.Stored.{stored-holds, record-size}
 
 module _ (s old : List ℕ) where
   -- the first chain whose record is the old one
-  pub seen-is : (k : ℕ) → k < tableOf s .count → same (recordOf s k) old ≡ true → ((j : ℕ) → j < k → same (recordOf s j) old ≡ true → ⊥) → seenOf s old ≡ k
+  pub seen-is : (chain : ℕ) → chain < tableOf s .count → same (recordOf s chain) old ≡ true → ((j : ℕ) → j < chain → same (recordOf s j) old ≡ true → ⊥) → seenOf s old ≡ chain
   unfolding seenOf
-  seen-is k h e before =
-      first-is (λ j. same (recordOf s j) old) 0 (tableOf s .count) k (omega arith) (omega arith) e (λ j a l. before j l)
+  seen-is chain h e before =
+      first-is (λ j. same (recordOf s j) old) 0 (tableOf s .count) chain (omega arith) (omega arith) e (λ j a l. before j l)
 
   -- no chain's record is
   pub seen-none : ((j : ℕ) → j < tableOf s .count → same (recordOf s j) old ≡ true → ⊥) → seenOf s old ≡ tableOf s .count
@@ -40,10 +40,10 @@ module _ (s old : List ℕ) where
   seen-record h = same-true _ old (first-hit (λ j. same (recordOf s j) old) 0 (tableOf s .count) (omega (arith, h)))
 
   -- a stored record is seen, no later than where it stands
-  pub seen-by : (k : ℕ) → k < tableOf s .count → recordOf s k ≡ old → seenOf s old ≤ k
+  pub seen-by : (chain : ℕ) → chain < tableOf s .count → recordOf s chain ≡ old → seenOf s old ≤ chain
   unfolding seenOf
-  seen-by k h e =
-      let n : ¬ (k < seenOf s old) = λ l. true-not-false (same-yes _ old e) (first-miss (λ j. same (recordOf s j) old) 0 (tableOf s .count) k (omega arith) l) in
+  seen-by chain h e =
+      let n : ¬ (chain < seenOf s old) = λ l. true-not-false (same-yes _ old e) (first-miss (λ j. same (recordOf s j) old) 0 (tableOf s .count) chain (omega arith) l) in
       omega arith
 
   -- where one is, it takes as many bytes as the old one, and the result is the new one in their place

@@ -60,6 +60,6 @@ unfolding written
 written-shorter buffer used result b zeros h room e z =
     let n = length result in
     let l : length (take (used - n) (drop n b)) ≡ used - n = rw (length-take, length-drop, e, splice-length buffer 0 n result (omega arith)) (omega arith) in
-    let k : n + (used - n) ≡ used = omega arith in
+    let u : n + (used - n) ≡ used = omega arith in
     let m : max used n ≡ used = omega arith in
-    rw (z, l, e, written-first buffer result, take-at result (drop n buffer) n refl, drop-at result (drop n buffer) n refl, drop-drop, k, m, ← append-assoc)
+    rw (z, l, e, written-first buffer result, take-at result (drop n buffer) n refl, drop-at result (drop n buffer) n refl, drop-drop, u, m, ← append-assoc)

@@ -19,9 +19,9 @@ module _ (s : List ℕ) (t : Table) (read : readTable s ≡ accepted t) where
   pub table-is : tableOf s ≡ t
   table-is = ap (λ (r : Reading). r .table) read
 
-  pub record-is : (k : ℕ) → recordOf s k ≡ take (lengthOf (rowOf t k)) (drop (placeOf t k) s)
+  pub record-is : (chain : ℕ) → recordOf s chain ≡ take (lengthOf (rowOf t chain)) (drop (placeOf t chain) s)
   unfolding recordOf
-  record-is k = rw table-is
+  record-is chain = rw table-is
 
   pub stored-taken : Bytes s → Taken s
   stored-taken bytes = taken s bytes (ap (λ (r : Reading). r .verdict) read)
@@ -33,5 +33,5 @@ module _ (s : List ℕ) (t : Table) (read : readTable s ≡ accepted t) where
   stored-holds bytes = subst (Holds s) table-is (stored-taken bytes .holds)
 
   -- a stored record is whole
-  pub record-size : Bytes s → (k : ℕ) → k < t .count → length (recordOf s k) ≡ lengthOf (rowOf t k)
-  record-size bytes k h = rw (record-is k, length-take, length-drop) (omega (arith, stored-holds bytes .inside k h))
+  pub record-size : Bytes s → (chain : ℕ) → chain < t .count → length (recordOf s chain) ≡ lengthOf (rowOf t chain)
+  record-size bytes chain h = rw (record-is chain, length-take, length-drop) (omega (arith, stored-holds bytes .inside chain h))

@@ -1,7 +1,7 @@
 -- A reading whose number is 0 is accepted: no table is refused with 0. Assumes nothing.
 use Prim.Native.Nat.{ℕ, zero, suc, _+_, _<_, _≤_}
 use native.Mathlib.Omega.{arith}
-use mathlib.Core.Path.{_≡_, refl}
+use mathlib.Core.Path.{_≡_, refl, ap, sym, _∙_}
 use mathlib.Core.List.{List}
 use mathlib.Core.Bool.{_||_}
 use mathlib.Core.Logic.{_⊎_, inr, ⊎-elim}
@@ -12,14 +12,13 @@ use Rattle.search.proofs.Choice.{when-cases, lt-or-le}
 use Rattle.table.specs.Limits.{maxChains, maxBytes}
 use Rattle.table.specs.Bytes.{word}
 use Rattle.table.specs.Record.{rowAt, lengthAt}
-use Rattle.table.specs.Fault.{markOf, chainFault, endFault}
+use Rattle.table.specs.Fault.{chainFault, endFault}
 use Rattle.table.specs.Read.{empty, plus, refusal, accepted, unless, byMark, start, records, readTable, numberOf, tableOf}
 use Rattle.table.specs.declared.Reading.{Reading}
 use Rattle.table.specs.declared.Table.{Table}
-use Rattle.table.specs.declared.Mark.{Mark}
-use Rattle.table.specs.declared.Mark.the-variants.{Chain, Task, End, Other}
+use Rattle.table.specs.declared.Verdict.the-variants.{Refused}
 use Rattle.table.proofs.Firsts.{or-left, or-right}
-use Rattle.table.proofs.Steps.{read-long}
+use Rattle.table.proofs.Steps.{mark-cases, read-long}
 use Rattle.saving.specs.Save.{readFault}
 
 Right : Reading → Type 0
@@ -36,16 +35,8 @@ unless-right (suc n) r h = refused n
 
 start-right : (s : List ℕ) (at : ℕ) (t : Table) (chain : Reading) → Right chain → Right (start s at t chain)
 unfolding start Right
-start-right s at t chain h = when-cases Right (ltb (length s) (at + 2)) (λ e. refused 1) (λ e. by (markOf (word 2 s at)))
-  where
-    end : Right (accepted t)
-    end e = refl
-
-    by : (m : Mark) → Right (byMark m chain (unless refusal (endFault s at t) (accepted t)))
-    by Chain = h
-    by Task = refused 2
-    by End = unless-right (endFault s at t) (accepted t) end
-    by Other = refused 2
+start-right s at t chain h = when-cases Right (ltb (length s) (at + 2)) (λ e. refused 1) (λ e.
+    mark-cases (λ m. Right (byMark m chain (unless refusal (endFault s at t) (accepted t)))) h (refused 2) (unless-right (endFault s at t) (accepted t) (λ z. refl)) (refused 2) (word 2 s at))
 
 records-right : (left : ℕ) (s : List ℕ) (at : ℕ) (t : Table) → Right (records left s at t)
 unfolding records
@@ -68,3 +59,10 @@ read-out s h = rw (read-long s (⊎-elim (λ z. or-left _ (ltb maxBytes (length 
 
 pub read-within : (s : List ℕ) → readFault s ≡ 0 → length s ≤ maxBytes
 read-within s e = ⊎-elim (λ h. absurd (omega (arith, e, read-out s (inr h)))) (λ h. h) (lt-or-le maxBytes (length s))
+
+-- a refusal is a fault above 0
+pub refused-some : (s : List ℕ) (n : ℕ) → readTable s .verdict ≡ Refused n → readFault s ≡ 0 → ⊥
+refused-some s n e none =
+    let a = sym e ∙ ap (λ (r : Reading). r .verdict) (read-accepted s none) in
+    let z : _≡_ {A = ℕ} 0 1 = cc in
+    omega arith

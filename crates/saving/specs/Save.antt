@@ -1,5 +1,5 @@
 -- Saving one record: given a buffer, the used length, the old record as the editor saw it, and the new (01, 'Saving one record').
-use Prim.Native.Nat.{ℕ, zero, suc, max, _+_, _-_}
+use Prim.Native.Nat.{ℕ, max, _+_, _-_}
 use mathlib.Core.Path.{_≡_}
 use mathlib.Core.List.{List, [], _∷_, _++_}
 use mathlib.Core.Bool.{Bool, true, false, not, _&&_, _||_}
@@ -11,10 +11,10 @@ use Rattle.table.specs.Bytes.{word}
 use Rattle.table.specs.Record.{idAt, lengthAt}
 use Rattle.table.specs.Find.{rowOf}
 use Rattle.table.specs.Fault.{_then_, markOf}
-use Rattle.table.specs.Read.{numberOf as verdictNumber, readTable, tableOf}
+use Rattle.table.specs.Read.{numberOf as verdictNumber, unless, readTable, tableOf}
 use Rattle.table.specs.Place.{lengthOf, placeOf}
 use Rattle.table.specs.declared.Mark.{Mark}
-use Rattle.table.specs.declared.Mark.the-variants.{Chain, Task, End, Other}
+use Rattle.table.specs.declared.Mark.the-variants.{Chain, Task, End, Refused as Unknown}
 use Rattle.saving.specs.declared.Saved.{Saved}
 use Rattle.saving.specs.declared.Saved.the-variants.{Used, Refused}
 
@@ -39,19 +39,19 @@ same [] (b ∷ t) = false
 same (a ∷ s) [] = false
 same (a ∷ s) (b ∷ t) = eqb a b && same s t
 
--- the whole stored record of the chain k
+-- the whole stored record of a chain, by its number from 0
 unfoldable pub recordOf : List ℕ → ℕ → List ℕ
-recordOf s k = take (lengthOf (rowOf (tableOf s) k)) (drop (placeOf (tableOf s) k) s)
+recordOf s chain = take (lengthOf (rowOf (tableOf s) chain)) (drop (placeOf (tableOf s) chain) s)
 
 -- the number of the first chain whose stored record equals the old one, the count of chains if none does
 unfoldable pub seenOf : List ℕ → List ℕ → ℕ
-seenOf s old = first (λ k. same (recordOf s k) old) 0 (tableOf s .count)
+seenOf s old = first (λ chain. same (recordOf s chain) old) 0 (tableOf s .count)
 
 abbrev pub isChain : Mark → Bool
 isChain Chain = true
 isChain Task = false
 isChain End = false
-isChain Other = false
+isChain (Unknown n) = false
 
 -- the new record is under 16 bytes, lacks mark `CH`, is not exactly as long as its own list length and task count say, or
 -- bears another id
@@ -71,23 +71,21 @@ resultOf s old new = splice s (placeOf (tableOf s) (seenOf s old)) (lengthOf (ro
 unfoldable pub resultFault : ℕ → List ℕ → ℕ
 resultFault room result = 24 when ltb room (length result) else readFault result
 
--- the order: 1 to 11 on the table, 22, 23, 24, 1 to 11 on the result
-unfoldable pub changeFault : ℕ → List ℕ → List ℕ → List ℕ → ℕ
-changeFault room s old new =
-    readFault s then
-    (22 when eqb (seenOf s old) (tableOf s .count) else
+-- on an accepted table: 22, 23, 24, then 1 to 11 on the result
+unfoldable pub replaceFault : ℕ → List ℕ → List ℕ → List ℕ → ℕ
+replaceFault room s old new =
+    22 when eqb (seenOf s old) (tableOf s .count) else
     23 when unfit new (rowOf (tableOf s) (seenOf s old) .id) else
-    resultFault room (resultOf s old new))
+    resultFault room (resultOf s old new)
+
+-- 1 to 11 on the table come first
+unfoldable pub changeFault : ℕ → List ℕ → List ℕ → List ℕ → ℕ
+changeFault room s old new = readFault s then replaceFault room s old new
 
 -- the table is the first `used` bytes of the buffer; 1 where those are more than it has
 unfoldable pub saveFault : List ℕ → ℕ → List ℕ → List ℕ → ℕ
 saveFault buffer used old new =
     1 when ltb (length buffer) used else changeFault (length buffer) (take used buffer) old new
-
--- no fault answers the new used length, any other that refusal
-unfoldable pub answerOf : ℕ → ℕ → Saved
-answerOf zero n = Used n
-answerOf (suc fault) n = Refused (suc fault)
 
 -- the result first; bytes between a shorter end and the former end become 0; bytes past both ends stay
 unfoldable pub written : List ℕ → ℕ → List ℕ → List ℕ
@@ -96,7 +94,7 @@ written buffer used result = result ++ replicate (used - length result) 0 ++ dro
 -- The answer, and the whole buffer afterwards: refused, every byte stays
 
 unfoldable pub savedOf : List ℕ → ℕ → List ℕ → List ℕ → Saved
-savedOf buffer used old new = answerOf (saveFault buffer used old new) (length (resultOf (take used buffer) old new))
+savedOf buffer used old new = unless Refused (saveFault buffer used old new) (Used (length (resultOf (take used buffer) old new)))
 
 unfoldable pub bufferAfter : List ℕ → ℕ → List ℕ → List ℕ → List ℕ
 bufferAfter buffer used old new =

@@ -8,10 +8,11 @@ ghost use mathlib.Core.Path.{_≡_};
 ghost use Prim.Native.Nat.{_+_, _≤_};
 ghost use lib.ListN.{length};
 ghost use Rattle.table.specs.Limits.{maxBytes};
-ghost use Rattle.table.specs.Read.{numberOf};
+ghost use Rattle.table.specs.Read.{numberOf, readTable};
 ghost use Rattle.table.specs.code.Taken.{Taken};
-ghost use Rattle.saving.specs.Save.{seenOf, isChain, unfit as unfitOf, splice, resultOf, resultFault, changeFault};
-ghost use Rattle.saving.specs.code.Begins.{Begins};
+ghost use Rattle.table.specs.declared.Verdict.the-variants.{Accepted};
+ghost use Rattle.saving.specs.Save.{seenOf, isChain, unfit as unfitOf, splice, resultOf, resultFault, replaceFault, changeFault};
+ghost use Rattle.saving.specs.code.Begins.{Ready};
 
 // A verdict as its number, 0 where the table is accepted.
 fn number_of(v: Verdict) -> u32
@@ -30,7 +31,7 @@ fn is_chain(m: Mark) -> bool
         Mark::Chain => true,
         Mark::Task => false,
         Mark::End => false,
-        Mark::Other => false,
+        Mark::Refused(_) => false,
     }
 }
 
@@ -41,16 +42,16 @@ fn seen(s: &[u8], old: &[u8]) -> usize
 {
     let chains = table::count(s);
     let mut at: usize = 0;
-    let mut k: usize = 0;
-    while k < chains {
+    let mut chain: usize = 0;
+    while chain < chains {
         let end = at + table::record_length(s, at);
         if same(&s[at..end], old) {
-            return k;
+            return chain;
         }
         at = end;
-        k += 1;
+        chain += 1;
     }
-    k
+    chain
 }
 
 // 23: whether the new record is no chain record by itself, or bears another id.
@@ -73,7 +74,7 @@ fn unfit(new: &[u8], id: u16) -> bool
 // limit is built, in `out`.
 fn result(s: &[u8], at: usize, gone: usize, new: &[u8], room: usize, out: &mut [u8]) -> u32
     requires { ⌜ (at + gone ≤ length (now s)) × (length (now out) ≡ maxBytes) ⌝ }
-    ensures { λ r. ⌜ (r ≡ resultFault room (splice (now (s .entry)) at gone (now (new .entry)))) × (r ≡ 0 → Begins (now (out .exit)) (splice (now (s .entry)) at gone (now (new .entry)))) ⌝ }
+    ensures { λ r. ⌜ Ready (resultFault room (splice (now (s .entry)) at gone (now (new .entry)))) (splice (now (s .entry)) at gone (now (new .entry))) (now (out .exit)) r ⌝ }
 {
     let n = s.len() - gone + new.len();
     if room < n {
@@ -86,22 +87,28 @@ fn result(s: &[u8], at: usize, gone: usize, new: &[u8], room: usize, out: &mut [
     number_of(table::judge(&out[..n]))
 }
 
-// 1 to 11 on the table, 22, 23, 24, 1 to 11 on the result: the first of them. Where there is none, `out`
-// begins with the result.
-pub fn judged(s: &[u8], room: usize, old: &[u8], new: &[u8], out: &mut [u8; Table::BYTES]) -> u32
-    ensures { λ r. ⌜ (r ≡ changeFault room (now (s .entry)) (now (old .entry)) (now (new .entry))) × (r ≡ 0 → Begins (now (out .exit)) (resultOf (now (s .entry)) (now (old .entry)) (now (new .entry)))) ⌝ }
+// 22, 23, 24, then 1 to 11 on the result: `new` in the place of the record `old` of an accepted table.
+fn replaced(s: &[u8], room: usize, old: &[u8], new: &[u8], out: &mut [u8; Table::BYTES]) -> u32
+    requires { ⌜ readTable (now s) .verdict ≡ Accepted ⌝ }
+    ensures { λ r. ⌜ Ready (replaceFault room (now (s .entry)) (now (old .entry)) (now (new .entry))) (resultOf (now (s .entry)) (now (old .entry)) (now (new .entry))) (now (out .exit)) r ⌝ }
 {
-    let fault = number_of(table::judge(s));
-    if fault != 0 {
-        return fault;
-    }
-    let k = seen(s, old);
-    if k == table::count(s) {
+    let chain = seen(s, old);
+    if chain == table::count(s) {
         return 22;
     }
-    let at = table::place(s, k);
+    let at = table::place(s, chain);
     if unfit(new, table::id_at(s, at)) {
         return 23;
     }
     result(s, at, old.len(), new, room, out)
+}
+
+// 1 to 11 on the table come first. Where there is no fault, `out` begins with the result.
+pub fn judged(s: &[u8], room: usize, old: &[u8], new: &[u8], out: &mut [u8; Table::BYTES]) -> u32
+    ensures { λ r. ⌜ Ready (changeFault room (now (s .entry)) (now (old .entry)) (now (new .entry))) (resultOf (now (s .entry)) (now (old .entry)) (now (new .entry))) (now (out .exit)) r ⌝ }
+{
+    match table::judge(s) {
+        Verdict::Accepted => replaced(s, room, old, new, out),
+        Verdict::Refused(fault) => fault,
+    }
 }

@@ -25,11 +25,12 @@ pub fn save(buffer: &mut [u8], used: u64, old: &[u8], new: &[u8]) -> Saved
     }
     let end = used as usize;
     let mut bytes = [0u8; Table::BYTES];
-    let fault = judged(&buffer[..end], room, old, new, &mut bytes);
-    if fault != 0 {
-        return Saved::Refused(fault);
+    match judged(&buffer[..end], room, old, new, &mut bytes) {
+        0 => {
+            let n = end - old.len() + new.len();
+            store(buffer, end, &bytes[..n]);
+            Saved::Used(n as u32)
+        }
+        fault => Saved::Refused(fault),
     }
-    let n = end - old.len() + new.len();
-    store(buffer, end, &bytes[..n]);
-    Saved::Used(n as u32)
 }

@@ -1,29 +1,17 @@
--- Laws of the two searches, and that there is one greatest and one least. Assumes nothing.
+-- Laws of the two searches, and that there is one greatest. Assumes nothing.
 use Prim.Native.Nat.{ℕ, zero, suc, _+_, _≤_, _<_}
 use mathlib.Core.Path.{_≡_, refl, sym, ap, _∙_}
 use mathlib.Core.Bool.{Bool, true, false}
 use mathlib.Core.Logic.{⊎-elim}
 use native.Mathlib.Omega.{arith}
 use native.Mathlib.Nat.{eq-or-lt-of-le, le-of-suc-le-suc}
-use Rattle.search.specs.Find.{first, last, Greatest, Least}
-use Rattle.search.proofs.Choice.{when-yes, when-no, when-cases, true-not-false}
+use Rattle.search.specs.Find.{first, last, Greatest}
+use Rattle.search.proofs.Choice.{when-cases, true-not-false}
 
 pub greatest-unique : {P : ℕ → Type 0} {m n : ℕ} → Greatest P m → Greatest P n → m ≡ n
 greatest-unique {m = m} {n = n} a b = omega (arith, b .above m (a .holds), a .above n (b .holds))
 
-pub least-unique : {P : ℕ → Type 0} {m n : ℕ} → Least P m → Least P n → m ≡ n
-least-unique {m = m} {n = n} a b = omega (arith, b .below m (a .holds), a .below n (b .holds))
-
 module _ (p : ℕ → Bool) where
-  -- a step of `last`, by the test
-  pub last-yes : (n : ℕ) → p n ≡ true → last p (suc n) ≡ suc n
-  unfolding last
-  last-yes n e = when-yes _ _ e
-
-  pub last-no : (n : ℕ) → p n ≡ false → last p (suc n) ≡ last p n
-  unfolding last
-  last-no n e = when-no _ _ e
-
   pub last-le : (n : ℕ) → last p n ≤ n
   unfolding last
   last-le zero = omega arith

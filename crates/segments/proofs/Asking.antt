@@ -96,4 +96,4 @@ pub place-max : (t : Table) → GoodTable t → (chain : ℕ) → chain ≤ t .c
 place-max t good zero h = omega (arith, place-none t)
 place-max t good (suc chain) h =
     let r = good .row chain (omega arith) in
-    rw (← add-one chain) (omega (arith, place-max t good chain (omega arith), place-on t chain (omega (arith, good .few, good .size)), r .list .few, r .tasks .few))
+    rw (← add-one chain) (omega (arith, place-max t good chain (omega arith), place-on t chain (omega (arith, good .few, good .size)), r .list .few, r .listed, r .tasks .few))

@@ -16,10 +16,10 @@ use Rattle.search.proofs.Find.{first-miss}
 use Rattle.search.proofs.Lists.{sum-append}
 use Rattle.table.specs.Limits.{maxChains, maxAllTasks, maxBytes}
 use Rattle.table.specs.Bytes.{word, Bytes}
-use Rattle.table.specs.Record.{idAt, afterList, lengthAt, rowAt}
-use Rattle.table.specs.Find.{none, rowOf, rows, findOf, used}
+use Rattle.table.specs.Record.{blank, idAt, afterList, lengthAt, rowAt}
+use Rattle.table.specs.Find.{rowOf, rows, findOf, used}
 use Rattle.table.specs.Fault.{markOf, chainFault, endFault}
-use Rattle.table.specs.Read.{blank, empty, plus, refusal, accepted, unless, byMark, start, records, readTable}
+use Rattle.table.specs.Read.{empty, plus, refusal, accepted, unless, byMark, start, records, readTable}
 use Rattle.table.specs.Place.{lengthOf, placeOf}
 use Rattle.table.specs.code.Good.{GoodRow, GoodTable}
 use Rattle.table.specs.code.Taken.{Taken, Holds}
@@ -27,7 +27,7 @@ use Rattle.table.specs.declared.Row.{Row}
 use Rattle.table.specs.declared.Table.{Table}
 use Rattle.table.specs.declared.Reading.{Reading}
 use Rattle.table.specs.declared.Mark.{Mark}
-use Rattle.table.specs.declared.Mark.the-variants.{Chain, Task, End, Other}
+use Rattle.table.specs.declared.Mark.the-variants.{Chain, Task, End, Refused as Unknown}
 use Rattle.table.specs.declared.Verdict.the-variants.{Accepted}
 use Rattle.table.proofs.Firsts.{when-zero}
 use Rattle.table.proofs.Faultless.{chain-right}
@@ -38,40 +38,40 @@ use Rattle.table.proofs.Standing.{place-none}
 record Kept (s : List ℕ) (at : ℕ) (t : Table) : Type 0 where
   few : t .count ≤ maxChains
   long : length (t .row) ≡ maxChains
-  row : (k : ℕ) → k < t .count → GoodRow (rowOf t k)
-  ids : (j k : ℕ) → j < t .count → k < t .count → rowOf t j .id ≡ rowOf t k .id → j ≡ k
-  past : (k : ℕ) → t .count ≤ k → k < maxChains → rowOf t k ≡ blank
+  row : (chain : ℕ) → chain < t .count → GoodRow (rowOf t chain)
+  ids : (other chain : ℕ) → other < t .count → chain < t .count → rowOf t other .id ≡ rowOf t chain .id → other ≡ chain
+  past : (chain : ℕ) → t .count ≤ chain → chain < maxChains → rowOf t chain ≡ blank
   tasks : t .tasks ≡ sumOf (λ r. r .tasks) (rows t)
   tasks-max : t .tasks ≤ maxAllTasks
   place : at ≡ placeOf t (t .count)
-  marks : (k : ℕ) → k < t .count → markOf (word 2 s (placeOf t k)) ≡ Chain
-  makes : (k : ℕ) → k < t .count → rowAt s (placeOf t k) ≡ rowOf t k
-  task-marks : (k : ℕ) → k < t .count → (i : ℕ) → i < rowOf t k .tasks → markOf (word 2 s (afterList (placeOf t k) (rowOf t k .listed) + 8 * i)) ≡ Task
-  inside : (k : ℕ) → k < t .count → placeOf t k + lengthOf (rowOf t k) ≤ length s
+  marks : (chain : ℕ) → chain < t .count → markOf (word 2 s (placeOf t chain)) ≡ Chain
+  makes : (chain : ℕ) → chain < t .count → rowAt s (placeOf t chain) ≡ rowOf t chain
+  task-marks : (chain : ℕ) → chain < t .count → (i : ℕ) → i < rowOf t chain .tasks → markOf (word 2 s (afterList (placeOf t chain) (rowOf t chain .listed) + 8 * i)) ≡ Task
+  inside : (chain : ℕ) → chain < t .count → placeOf t chain + lengthOf (rowOf t chain) ≤ length s
 
 kept-empty : (s : List ℕ) → Kept s 0 empty
 unfolding sumOf
 kept-empty s = record {
   few = omega arith;
   long = length-replicate maxChains blank;
-  row = λ k h. absurd (omega (arith, h));
-  ids = λ j k h g e. absurd (omega (arith, h));
-  past = λ k h g. getD-replicate maxChains k blank none g;
+  row = λ chain h. absurd (omega (arith, h));
+  ids = λ other chain h g e. absurd (omega (arith, h));
+  past = λ chain h g. getD-replicate maxChains chain blank blank g;
   tasks = refl;
   tasks-max = omega arith;
   place = place-none empty;
-  marks = λ k h. absurd (omega (arith, h));
-  makes = λ k h. absurd (omega (arith, h));
-  task-marks = λ k h. absurd (omega (arith, h));
-  inside = λ k h. absurd (omega (arith, h));
+  marks = λ chain h. absurd (omega (arith, h));
+  makes = λ chain h. absurd (omega (arith, h));
+  task-marks = λ chain h. absurd (omega (arith, h));
+  inside = λ chain h. absurd (omega (arith, h));
 }
 
 -- an id that is not used is no earlier row's
-fresh : (t : Table) (id : ℕ) → used t id ≡ false → (k : ℕ) → k < t .count → rowOf t k .id ≡ id → ⊥
+fresh : (t : Table) (id : ℕ) → used t id ≡ false → (chain : ℕ) → chain < t .count → rowOf t chain .id ≡ id → ⊥
 unfolding findOf
-fresh t id e k h =
+fresh t id e chain h =
     let g : t .count ≤ findOf t id = ltb-false _ _ e in
-    eqb-false _ _ (first-miss (λ j. eqb (rowOf t j .id) id) 0 (t .count) k (omega arith) (omega arith))
+    eqb-false _ _ (first-miss (λ other. eqb (rowOf t other .id) id) 0 (t .count) chain (omega arith) (omega arith))
 
 -- one row more
 module _ (s : List ℕ) (at : ℕ) (t : Table) (g : Kept s at t) (bytes : Bytes s) (room : t .count < maxChains)
@@ -79,15 +79,15 @@ module _ (s : List ℕ) (at : ℕ) (t : Table) (g : Kept s at t) (bytes : Bytes 
   abbrev r : Row
   r = rowAt s at
 
-  old : (k : ℕ) → k < t .count → rowOf (plus t r) k ≡ rowOf t k
-  old k h = getD-set-other (t .row) (t .count) k r none (λ e. omega (arith, e))
+  old : (chain : ℕ) → chain < t .count → rowOf (plus t r) chain ≡ rowOf t chain
+  old chain h = getD-set-other (t .row) (t .count) chain r blank (λ e. omega (arith, e))
 
   new : rowOf (plus t r) (t .count) ≡ r
-  new = getD-set-same (t .row) (t .count) r none (omega (arith, g .long))
+  new = getD-set-same (t .row) (t .count) r blank (omega (arith, g .long))
 
-  before : (k : ℕ) → k ≤ t .count → placeOf (plus t r) k ≡ placeOf t k
+  before : (chain : ℕ) → chain ≤ t .count → placeOf (plus t r) chain ≡ placeOf t chain
   unfolding placeOf
-  before k h = ap (sumOf lengthOf) (take-set-le k (t .row) (t .count) r h)
+  before chain h = ap (sumOf lengthOf) (take-set-le chain (t .row) (t .count) r h)
 
   here : placeOf (plus t r) (t .count) ≡ at
   here = before (t .count) (omega arith) ∙ sym (g .place)
@@ -97,7 +97,7 @@ module _ (s : List ℕ) (at : ℕ) (t : Table) (g : Kept s at t) (bytes : Bytes 
   sums f = rw (add-one, take-suc-set (t .row) (t .count) r (omega (arith, g .long)), sum-append f) (omega arith)
 
   -- a fact of each row, of the old ones and of the new one
-  more : (P : ℕ → Type 0) → ((k : ℕ) → k < t .count → P k) → P (t .count) → (k : ℕ) → k < t .count + 1 → P k
+  more : (P : ℕ → Type 0) → ((chain : ℕ) → chain < t .count → P chain) → P (t .count) → (chain : ℕ) → chain < t .count + 1 → P chain
   more P f h = below-more P (t .count) f h
 
   kept-plus : Kept s (at + lengthAt s at) (plus t r)
@@ -107,30 +107,30 @@ module _ (s : List ℕ) (at : ℕ) (t : Table) (g : Kept s at t) (bytes : Bytes 
       record {
         few = omega arith;
         long = simp length-set (g .long);
-        row = more (λ k. GoodRow (rowOf (plus t r) k)) (λ k h. rw (old k h) (g .row k h)) (rw new (row-good s at t bytes right));
+        row = more (λ chain. GoodRow (rowOf (plus t r) chain)) (λ chain h. rw (old chain h) (g .row chain h)) (rw new (row-good s at t bytes right));
         ids = ids;
-        past = λ k h l. getD-set-other (t .row) (t .count) k r none (λ e. omega (arith, e, h)) ∙ g .past k (omega (arith, h)) l;
+        past = λ chain h l. getD-set-other (t .row) (t .count) chain r blank (λ e. omega (arith, e, h)) ∙ g .past chain (omega (arith, h)) l;
         tasks = tasks;
         tasks-max = c .head .all;
         place = place;
-        marks = more (λ k. markOf (word 2 s (placeOf (plus t r) k)) ≡ Chain) (λ k h. rw (before k (omega arith)) (g .marks k h)) (rw here mark);
-        makes = more (λ k. rowAt s (placeOf (plus t r) k) ≡ rowOf (plus t r) k) (λ k h. rw (before k (omega arith), old k h) (g .makes k h)) (rw (here, new));
+        marks = more (λ chain. markOf (word 2 s (placeOf (plus t r) chain)) ≡ Chain) (λ chain h. rw (before chain (omega arith)) (g .marks chain h)) (rw here mark);
+        makes = more (λ chain. rowAt s (placeOf (plus t r) chain) ≡ rowOf (plus t r) chain) (λ chain h. rw (before chain (omega arith), old chain h) (g .makes chain h)) (rw (here, new));
         task-marks =
-            more (λ k. (i : ℕ) → i < rowOf (plus t r) k .tasks → markOf (word 2 s (afterList (placeOf (plus t r) k) (rowOf (plus t r) k .listed) + 8 * i)) ≡ Task)
-            (λ k h. rw (before k (omega arith), old k h) (g .task-marks k h)) (rw (here, new) (λ i h. c .tasks i h .mark));
-        inside = more (λ k. placeOf (plus t r) k + lengthOf (rowOf (plus t r) k) ≤ length s) (λ k h. rw (before k (omega arith), old k h) (g .inside k h)) (rw (here, new) (c .there));
+            more (λ chain. (i : ℕ) → i < rowOf (plus t r) chain .tasks → markOf (word 2 s (afterList (placeOf (plus t r) chain) (rowOf (plus t r) chain .listed) + 8 * i)) ≡ Task)
+            (λ chain h. rw (before chain (omega arith), old chain h) (g .task-marks chain h)) (rw (here, new) (λ i h. c .tasks i h .mark));
+        inside = more (λ chain. placeOf (plus t r) chain + lengthOf (rowOf (plus t r) chain) ≤ length s) (λ chain h. rw (before chain (omega arith), old chain h) (g .inside chain h)) (rw (here, new) (c .there));
       }
     where
-      id-new : (k : ℕ) → k < t .count → rowOf (plus t r) k .id ≡ rowOf (plus t r) (t .count) .id → ⊥
-      id-new k h e = fresh t (idAt s at) (chain-right s at t right .head .fresh) k h (ap (λ (x : Row). x .id) (sym (old k h)) ∙ e ∙ ap (λ (x : Row). x .id) new)
+      id-new : (chain : ℕ) → chain < t .count → rowOf (plus t r) chain .id ≡ rowOf (plus t r) (t .count) .id → ⊥
+      id-new chain h e = fresh t (idAt s at) (chain-right s at t right .head .fresh) chain h (ap (λ (x : Row). x .id) (sym (old chain h)) ∙ e ∙ ap (λ (x : Row). x .id) new)
 
-      ids : (j k : ℕ) → j < t .count + 1 → k < t .count + 1 → rowOf (plus t r) j .id ≡ rowOf (plus t r) k .id → j ≡ k
-      ids j k h l = more (λ j. (k : ℕ) → k < t .count + 1 → rowOf (plus t r) j .id ≡ rowOf (plus t r) k .id → j ≡ k)
-          (λ j h. more (λ k. rowOf (plus t r) j .id ≡ rowOf (plus t r) k .id → j ≡ k)
-          (λ k l e. g .ids j k h l (ap (λ (x : Row). x .id) (sym (old j h)) ∙ e ∙ ap (λ (x : Row). x .id) (old k l)))
-          (λ e. absurd (id-new j h e)))
-          (more (λ k. rowOf (plus t r) (t .count) .id ≡ rowOf (plus t r) k .id → t .count ≡ k) (λ k l e. absurd (id-new k l (sym e))) (λ e. refl))
-          j h k l
+      ids : (other chain : ℕ) → other < t .count + 1 → chain < t .count + 1 → rowOf (plus t r) other .id ≡ rowOf (plus t r) chain .id → other ≡ chain
+      ids other chain h l = more (λ other. (chain : ℕ) → chain < t .count + 1 → rowOf (plus t r) other .id ≡ rowOf (plus t r) chain .id → other ≡ chain)
+          (λ other h. more (λ chain. rowOf (plus t r) other .id ≡ rowOf (plus t r) chain .id → other ≡ chain)
+          (λ chain l e. g .ids other chain h l (ap (λ (x : Row). x .id) (sym (old other h)) ∙ e ∙ ap (λ (x : Row). x .id) (old chain l)))
+          (λ e. absurd (id-new other h e)))
+          (more (λ chain. rowOf (plus t r) (t .count) .id ≡ rowOf (plus t r) chain .id → t .count ≡ chain) (λ chain l e. absurd (id-new chain l (sym e))) (λ e. refl))
+          other h chain l
 
       tasks : t .tasks + r .tasks ≡ sumOf (λ r. r .tasks) (rows (plus t r))
       tasks = omega (arith, g .tasks, sums (λ r. r .tasks))
@@ -184,7 +184,7 @@ start-sound s at t chain g f =
     by Chain e = f e
     by Task e = refused s 3
     by End e = unless-sound s (endFault s at t) (accepted t) (end-sound s at t g)
-    by Other e = refused s 3
+    by (Unknown n) e = refused s n
 
 records-sound : (left : ℕ) (s : List ℕ) (at : ℕ) (t : Table) → Bytes s → Kept s at t → t .count + left ≤ maxChains → Sound s (records left s at t)
 unfolding records

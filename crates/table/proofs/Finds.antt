@@ -1,10 +1,10 @@
--- A chain by its id: there is one, or none bears it. Assumes nothing.
+-- A chain by its id. Assumes nothing.
 use Prim.Native.Nat.{ℕ, _<_, _≤_}
 use native.Mathlib.Omega.{arith}
 use mathlib.Core.Path.{_≡_, refl}
-use borrow.Author.Tests.{eq-eqb, eqb-true, eqb-false}
+use borrow.Author.Tests.{eq-eqb, eqb-true}
 use lib.Dec.{eqb}
-use Rattle.search.proofs.Find.{first-le, first-hit, first-miss, first-is}
+use Rattle.search.proofs.Find.{first-le, first-is}
 use Rattle.table.specs.Find.{rowOf, findOf}
 use Rattle.table.specs.code.Good.{GoodTable}
 use Rattle.table.specs.declared.Table.{Table}
@@ -12,21 +12,11 @@ use Rattle.table.specs.declared.Table.{Table}
 module _ (t : Table) (id : ℕ) where
   pub find-le : findOf t id ≤ t .count
   unfolding findOf
-  find-le = omega (arith, first-le (λ k. eqb (rowOf t k .id) id) 0 (t .count))
-
-  -- the chain found bears the id
-  pub find-bears : findOf t id < t .count → rowOf t (findOf t id) .id ≡ id
-  unfolding findOf
-  find-bears h = eqb-true _ _ (first-hit (λ k. eqb (rowOf t k .id) id) 0 (t .count) (omega arith))
-
-  -- no chain before the one found bears it: none at all where the count of chains is found
-  pub find-none : (k : ℕ) → k < findOf t id → rowOf t k .id ≡ id → ⊥
-  unfolding findOf
-  find-none k h = eqb-false _ _ (first-miss (λ j. eqb (rowOf t j .id) id) 0 (t .count) k (omega arith) h)
+  find-le = omega (arith, first-le (λ chain. eqb (rowOf t chain .id) id) 0 (t .count))
 
 -- in a good table each chain is found by its id
-pub find-is : (t : Table) → GoodTable t → (k : ℕ) → k < t .count → findOf t (rowOf t k .id) ≡ k
+pub find-is : (t : Table) → GoodTable t → (chain : ℕ) → chain < t .count → findOf t (rowOf t chain .id) ≡ chain
 unfolding findOf
-find-is t good k h =
-    first-is (λ j. eqb (rowOf t j .id) (rowOf t k .id)) 0 (t .count) k (omega arith) (omega arith) (eq-eqb (rowOf t k .id) (rowOf t k .id) refl)
-    (λ j a l e. omega (arith, good .ids j k (omega arith) h (eqb-true _ _ e)))
+find-is t good chain h =
+    first-is (λ i. eqb (rowOf t i .id) (rowOf t chain .id)) 0 (t .count) chain (omega arith) (omega arith) (eq-eqb (rowOf t chain .id) (rowOf t chain .id) refl)
+    (λ i a l e. omega (arith, good .ids i chain (omega arith) h (eqb-true _ _ e)))

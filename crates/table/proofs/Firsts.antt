@@ -5,8 +5,7 @@ use mathlib.Core.Bool.{Bool, true, false, _||_}
 use native.Mathlib.Omega.{arith}
 use Rattle.search.specs.Choice.{_when_else_}
 use Rattle.table.specs.Fault.{_then_}
-use Rattle.table.specs.Read.{refusal, unless}
-use Rattle.table.specs.declared.Reading.{Reading}
+use Rattle.table.specs.Read.{unless}
 
 -- what a test gives where an earlier one has not
 pub or-left : (a b : Bool) → a ≡ true → (a || b) ≡ true
@@ -43,12 +42,12 @@ unfolding _then_
 then-zero zero b e = (refl, e)
 then-zero (suc a) b e = absurd (omega (arith, e))
 
--- a fault number and the reading
-pub unless-fault : (n : ℕ) (r : Reading) → (n ≡ 0 → ⊥) → unless refusal n r ≡ refusal n
+-- a fault refuses; where there is blank, what follows is the answer
+pub unless-fault : {A : Type 0} (refuse : ℕ → A) (n : ℕ) (rest : A) → (n ≡ 0 → ⊥) → unless refuse n rest ≡ refuse n
 unfolding unless
-unless-fault zero r h = absurd (h refl)
-unless-fault (suc n) r h = refl
+unless-fault refuse zero rest h = absurd (h refl)
+unless-fault refuse (suc n) rest h = refl
 
-pub unless-none : (n : ℕ) (r : Reading) → n ≡ 0 → unless refusal n r ≡ r
+pub unless-none : {A : Type 0} (refuse : ℕ → A) (n : ℕ) (rest : A) → n ≡ 0 → unless refuse n rest ≡ rest
 unfolding unless
-unless-none n r e = rw e
+unless-none refuse n rest e = rw e

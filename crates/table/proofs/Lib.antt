@@ -1,7 +1,7 @@
 pub mod Words
 pub mod Lists
 pub mod Firsts
-pub mod Before
+pub mod Earlier
 pub mod Faultless
 pub mod Goods
 pub mod Steps

@@ -14,48 +14,48 @@ use Rattle.table.specs.Fault.{_then_, outside, falls, gapShort, taskFaul
 use Rattle.table.specs.Record.{spaced, pad}
 
 module _ (f : ℕ → ℕ) (step : ℕ) where
-  next : (at k : ℕ) → at + step * k + step ≡ at + step * (k + 1)
-  next at k = rw add-one (omega (arith, mul-suc step k))
+  next : (at i : ℕ) → at + step * i + step ≡ at + step * (i + 1)
+  next at i = rw add-one (omega (arith, mul-suc step i))
 
-  -- what is left after k, of n
-  pub every-on : (n k at : ℕ) → k < n
-      → spaced f step (n - k) (at + step * k) ≡ f (at + step * k) ∷ spaced f step (n - (k + 1)) (at + step * (k + 1))
+  -- what is left after i, of n
+  pub spaced-on : (n i at : ℕ) → i < n
+      → spaced f step (n - i) (at + step * i) ≡ f (at + step * i) ∷ spaced f step (n - (i + 1)) (at + step * (i + 1))
   unfolding spaced
-  every-on n k at h =
-      let e : n - k ≡ suc (n - (k + 1)) = omega arith in
-      rw (e, ← next at k)
+  spaced-on n i at h =
+      let e : n - i ≡ suc (n - (i + 1)) = omega arith in
+      rw (e, ← next at i)
 
-  pub every-end : (n k at : ℕ) → n ≤ k → spaced f step (n - k) at ≡ []
+  pub spaced-end : (n i at : ℕ) → n ≤ i → spaced f step (n - i) at ≡ []
   unfolding spaced
-  every-end n k at h = let e : n - k ≡ 0 = omega arith in rw e
+  spaced-end n i at h = let e : n - i ≡ 0 = omega arith in rw e
 
-  pub length-every : (n at : ℕ) → length (spaced f step n at) ≡ n
+  pub length-spaced : (n at : ℕ) → length (spaced f step n at) ≡ n
   unfolding spaced
-  length-every zero at = refl
-  length-every (suc n) at = ap suc (length-every n (at + step))
+  length-spaced zero at = refl
+  length-spaced (suc n) at = ap suc (length-spaced n (at + step))
 
-  pub every-at : (n k at : ℕ) → k < n → getD (spaced f step n at) k 0 ≡ f (at + step * k)
+  pub spaced-at : (n i at : ℕ) → i < n → getD (spaced f step n at) i 0 ≡ f (at + step * i)
   unfolding spaced
-  every-at zero k at h = absurd (omega arith)
-  every-at (suc n) zero at h = simp (mul-zero, add-zero)
-  every-at (suc n) (suc k) at h =
-      let e : at + step + step * k ≡ at + step * suc k = omega (arith, mul-suc step k) in
-      rw (← e) (every-at n k (at + step) (omega arith))
+  spaced-at zero i at h = absurd (omega arith)
+  spaced-at (suc n) zero at h = simp (mul-zero, add-zero)
+  spaced-at (suc n) (suc i) at h =
+      let e : at + step + step * i ≡ at + step * suc i = omega (arith, mul-suc step i) in
+      rw (← e) (spaced-at n i (at + step) (omega arith))
 
   -- one more at the end
-  every-more : (n at : ℕ) → spaced f step (suc n) at ≡ spaced f step n at ++ (f (at + step * n) ∷ [])
+  spaced-more : (n at : ℕ) → spaced f step (suc n) at ≡ spaced f step n at ++ (f (at + step * n) ∷ [])
   unfolding spaced
-  every-more zero at = simp (mul-zero, add-zero)
-  every-more (suc n) at =
+  spaced-more zero at = simp (mul-zero, add-zero)
+  spaced-more (suc n) at =
       let e : at + step + step * n ≡ at + step * suc n = omega (arith, mul-suc step n) in
-      rw (← e) (ap (λ (l : List ℕ). f at ∷ l) (every-more n (at + step)))
+      rw (← e) (ap (λ (l : List ℕ). f at ∷ l) (spaced-more n (at + step)))
 
   -- a store of the next number into what is filled up with 0
-  pub pad-on : (m k at : ℕ) → k < m
-      → set (pad m (spaced f step k at)) k (f (at + step * k)) ≡ pad m (spaced f step (k + 1) at)
-  pad-on m k at h =
-      let e : m - k ≡ suc (m - (k + 1)) = omega arith in
-      rw (add-one, every-more, length-append, length-every, e, set-at (spaced f step k at) 0 (replicate (m - (k + 1)) 0) (f (at + step * k)) k (length-every k at), append-assoc)
+  pub pad-on : (m i at : ℕ) → i < m
+      → set (pad m (spaced f step i at)) i (f (at + step * i)) ≡ pad m (spaced f step (i + 1) at)
+  pad-on m i at h =
+      let e : m - i ≡ suc (m - (i + 1)) = omega arith in
+      rw (add-one, spaced-more, length-append, length-spaced, e, set-at (spaced f step i at) 0 (replicate (m - (i + 1)) 0) (f (at + step * i)) i (length-spaced i at), append-assoc)
       refl
 
   -- from nothing
@@ -64,14 +64,14 @@ module _ (f : ℕ → ℕ) (step : ℕ) where
   pad-none m at = let e : m - 0 ≡ m = omega arith in rw e
 
   -- from the first on
-  pub every-start : (n at : ℕ) → spaced f step (n - 0) (at + step * 0) ≡ spaced f step n at
-  every-start n at =
+  pub spaced-start : (n at : ℕ) → spaced f step (n - 0) (at + step * 0) ≡ spaced f step n at
+  spaced-start n at =
       let e : n - 0 ≡ n = omega arith in
       let g : at + step * 0 ≡ at = omega arith in
       rw (e, g)
 
-  pub every-last : (n at : ℕ) → 0 < n → getD (spaced f step n at) (length (spaced f step n at) - 1) 0 ≡ f (at + step * (n - 1))
-  every-last n at h = rw (length-every n at) (every-at n (n - 1) at (omega arith))
+  pub spaced-last : (n at : ℕ) → 0 < n → getD (spaced f step n at) (length (spaced f step n at) - 1) 0 ≡ f (at + step * (n - 1))
+  spaced-last n at h = rw (length-spaced n at) (spaced-at n (n - 1) at (omega arith))
 
 -- the list judged, one distance at a time
 module _ (before d : ℕ) (ds : List ℕ) where
@@ -101,14 +101,14 @@ unfolding gapShort
 gap-end gap n = refl
 
 -- the tasks judged, one at a time
-pub tasks-on : (s : List ℕ) (n k at : ℕ) → k < n
-    → tasksFault s (n - k) (at + 8 * k) ≡ (taskFault s (at + 8 * k) then tasksFault s (n - (k + 1)) (at + 8 * (k + 1)))
+pub tasks-on : (s : List ℕ) (n i at : ℕ) → i < n
+    → tasksFault s (n - i) (at + 8 * i) ≡ (taskFault s (at + 8 * i) then tasksFault s (n - (i + 1)) (at + 8 * (i + 1)))
 unfolding tasksFault
-tasks-on s n k at h =
-    let e : n - k ≡ suc (n - (k + 1)) = omega arith in
-    let f : at + 8 * k + 8 ≡ at + 8 * (k + 1) = omega arith in
+tasks-on s n i at h =
+    let e : n - i ≡ suc (n - (i + 1)) = omega arith in
+    let f : at + 8 * i + 8 ≡ at + 8 * (i + 1) = omega arith in
     rw (e, ← f)
 
-pub tasks-end : (s : List ℕ) (n k at : ℕ) → n ≤ k → tasksFault s (n - k) at ≡ 0
+pub tasks-end : (s : List ℕ) (n i at : ℕ) → n ≤ i → tasksFault s (n - i) at ≡ 0
 unfolding tasksFault
-tasks-end s n k at h = let e : n - k ≡ 0 = omega arith in rw e
+tasks-end s n i at h = let e : n - i ≡ 0 = omega arith in rw e

@@ -15,15 +15,15 @@ use Rattle.search.proofs.Choice.{when-cases, lt-or-le}
 use Rattle.search.proofs.Lists.{sum-append}
 use Rattle.table.specs.Limits.{maxChains, maxTasks, maxBytes}
 use Rattle.table.specs.Bytes.{word}
-use Rattle.table.specs.Record.{lengthAt, rowAt}
-use Rattle.table.specs.Find.{none, rowOf}
+use Rattle.table.specs.Record.{blank, lengthAt, rowAt}
+use Rattle.table.specs.Find.{rowOf}
 use Rattle.table.specs.Fault.{markOf, chainFault, endFault}
-use Rattle.table.specs.Read.{blank, empty, plus, refusal, accepted, unless, byMark, start, records, readTable}
+use Rattle.table.specs.Read.{empty, plus, refusal, accepted, unless, byMark, start, records, readTable}
 use Rattle.table.specs.code.Good.{GoodTable}
 use Rattle.table.specs.declared.Row.{Row}
 use Rattle.table.specs.declared.Table.{Table}
 use Rattle.table.specs.declared.Mark.{Mark}
-use Rattle.table.specs.declared.Mark.the-variants.{Chain, Task, End, Other}
+use Rattle.table.specs.declared.Mark.the-variants.{Chain, Task, End, Refused as Unknown}
 use Rattle.table.specs.declared.Verdict.the-variants.{Refused}
 use Rattle.table.specs.declared.Reading.{Reading}
 
@@ -33,8 +33,8 @@ pub record Decoded (all t : Table) : Type 0 where
   pub size : length (t .row) ≡ maxChains
   pub total : t .tasks ≡ sumOf (λ r. r .tasks) (take (t .count) (all .row))
   pub small : t .tasks ≤ maxTasks * t .count
-  pub row : (k : ℕ) → k < t .count → rowOf t k ≡ rowOf all k
-  pub rest : (k : ℕ) → t .count ≤ k → k < maxChains → rowOf t k ≡ blank
+  pub row : (chain : ℕ) → chain < t .count → rowOf t chain ≡ rowOf all chain
+  pub rest : (chain : ℕ) → t .count ≤ chain → chain < maxChains → rowOf t chain ≡ blank
 
 module _ {all : Table} (good : GoodTable all) where
   pub decoded-none : Decoded all empty
@@ -44,8 +44,8 @@ module _ {all : Table} (good : GoodTable all) where
     size = length-replicate maxChains blank;
     total = refl;
     small = omega arith;
-    row = λ k h. absurd (omega (arith, h));
-    rest = λ k h l. getD-replicate maxChains k blank none l;
+    row = λ chain h. absurd (omega (arith, h));
+    rest = λ chain h l. getD-replicate maxChains chain blank blank l;
   }
 
   module _ {t : Table} (d : Decoded all t) where
@@ -55,23 +55,23 @@ module _ {all : Table} (good : GoodTable all) where
     decoded-on h r e =
         let few : r .tasks ≤ maxTasks = omega (arith, ap (λ (x : Row). x .tasks) e, good .row (t .count) h .tasks .few) in
         let sums : sumOf (λ r. r .tasks) (take (t .count + 1) (all .row)) ≡ sumOf (λ r. r .tasks) (take (t .count) (all .row)) + rowOf all (t .count) .tasks =
-        rw (add-one, take-suc (all .row) (t .count) none (omega (arith, good .few, good .size)), sum-append (λ (x : Row). x .tasks)) (omega arith) in
+        rw (add-one, take-suc (all .row) (t .count) blank (omega (arith, good .few, good .size)), sum-append (λ (x : Row). x .tasks)) (omega arith) in
         record {
           few = omega arith;
           size = length-set (t .row) (t .count) r ∙ d .size;
           total = omega (arith, d .total, sums, ap (λ (x : Row). x .tasks) e);
           small = omega (arith, d .small, few);
-          row = below-more (λ k. rowOf (plus t r) k ≡ rowOf all k) (t .count)
-              (λ k l. getD-set-other (t .row) (t .count) k r none (λ q. omega (arith, l, q)) ∙ d .row k l)
-              (getD-set-same (t .row) (t .count) r none (omega (arith, d .size, good .few)) ∙ e);
-          rest = λ k l m. getD-set-other (t .row) (t .count) k r none (λ q. omega (arith, l, q)) ∙ d .rest k (omega (arith, l)) m;
+          row = below-more (λ chain. rowOf (plus t r) chain ≡ rowOf all chain) (t .count)
+              (λ chain l. getD-set-other (t .row) (t .count) chain r blank (λ q. omega (arith, l, q)) ∙ d .row chain l)
+              (getD-set-same (t .row) (t .count) r blank (omega (arith, d .size, good .few)) ∙ e);
+          rest = λ chain l m. getD-set-other (t .row) (t .count) chain r blank (λ q. omega (arith, l, q)) ∙ d .rest chain (omega (arith, l)) m;
         }
 
     -- all of them
     pub decoded-all : t .count ≡ all .count → t ≡ all
     decoded-all e =
-        let rows : t .row ≡ all .row = ext-getD none (t .row) (all .row) (d .size ∙ sym (good .size))
-        (λ k h. ⊎-elim (λ l. d .row k l) (λ l. d .rest k l (omega (arith, h, d .size)) ∙ sym (good .past k (omega (arith, l)) (omega (arith, h, d .size)))) (lt-or-le k (t .count))) in
+        let rows : t .row ≡ all .row = ext-getD blank (t .row) (all .row) (d .size ∙ sym (good .size))
+        (λ chain h. ⊎-elim (λ l. d .row chain l) (λ l. d .rest chain l (omega (arith, h, d .size)) ∙ sym (good .past chain (omega (arith, l)) (omega (arith, h, d .size)))) (lt-or-le chain (t .count))) in
         let tasks : t .tasks ≡ all .tasks = d .total ∙ ap (λ n. sumOf (λ r. r .tasks) (take n (all .row))) e ∙ sym (good .tasks) in
         ap (λ n. record { count = n; tasks = t .tasks; row = t .row }) e ∙ ap₂ (λ n l. record { count = all .count; tasks = n; row = l }) tasks rows
 
@@ -86,7 +86,7 @@ module _ (P : Reading → Type 0) (faulty : (n : ℕ) → P (refusal n)) (right 
   mark-is Chain chain end p q = p
   mark-is Task chain end p q = faulty 3
   mark-is End chain end p q = q
-  mark-is Other chain end p q = faulty 3
+  mark-is (Unknown n) chain end p q = faulty n
 
   start-is : (s : List ℕ) (at : ℕ) (t : Table) (chain : Reading) → P chain → P (start s at t chain)
   unfolding start

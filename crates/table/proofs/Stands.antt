@@ -12,7 +12,7 @@ use Rattle.table.specs.Place.{lengthOf, placeOf}
 use Rattle.table.specs.code.Good.{GoodRow}
 use Rattle.table.specs.code.Taken.{Taken, Stands}
 use Rattle.table.specs.Read.{tableOf}
-use Rattle.table.proofs.Lists.{every-at}
+use Rattle.table.proofs.Lists.{spaced-at}
 use Rattle.table.proofs.Goods.{pad-at}
 use Rattle.table.proofs.Standing.{place-on}
 
@@ -20,33 +20,33 @@ use Rattle.table.proofs.Standing.{place-on}
 module _ (s : List ℕ) (at : ℕ) where
   pub list-at : (j : ℕ) → j < listedAt s at → getD (rowAt s at .list) j 0 ≡ word 4 s (at + 16 + 4 * j)
   unfolding rowAt
-  list-at j h = pad-at maxDistances (distancesAt s at) j ∙ every-at (word 4 s) 4 (listedAt s at) j (at + 16) h
+  list-at j h = pad-at maxDistances (distancesAt s at) j ∙ spaced-at (word 4 s) 4 (listedAt s at) j (at + 16) h
 
-  pub priority-at : (k : ℕ) → k < tasksAt s at → getD (rowAt s at .priority) k 0 ≡ priorityAt s (firstTask s at + 8 * k)
+  pub priority-at : (i : ℕ) → i < tasksAt s at → getD (rowAt s at .priority) i 0 ≡ priorityAt s (firstTask s at + 8 * i)
   unfolding rowAt
-  priority-at k h = pad-at maxTasks (prioritiesAt s at) k ∙ every-at (priorityAt s) 8 (tasksAt s at) k (firstTask s at) h
+  priority-at i h = pad-at maxTasks (prioritiesAt s at) i ∙ spaced-at (priorityAt s) 8 (tasksAt s at) i (firstTask s at) h
 
-  pub cost-at : (k : ℕ) → k < tasksAt s at → getD (rowAt s at .cost) k 0 ≡ costAt s (firstTask s at + 8 * k)
+  pub cost-at : (i : ℕ) → i < tasksAt s at → getD (rowAt s at .cost) i 0 ≡ costAt s (firstTask s at + 8 * i)
   unfolding rowAt
-  cost-at k h = pad-at maxTasks (costsAt s at) k ∙ every-at (costAt s) 8 (tasksAt s at) k (firstTask s at) h
+  cost-at i h = pad-at maxTasks (costsAt s at) i ∙ spaced-at (costAt s) 8 (tasksAt s at) i (firstTask s at) h
 
   -- a record is as long as its row's counts say
   pub length-at : lengthAt s at ≡ lengthOf (rowAt s at)
   unfolding rowAt
   length-at = refl
 
--- the chain k of an accepted table, at its place
-module _ {s : List ℕ} (t : Taken s) {k at : ℕ} (e : at ≡ placeOf (tableOf s) k) (h : k < tableOf s .count) where
-  pub row-there : rowAt s at ≡ rowOf (tableOf s) k
-  row-there = ap (rowAt s) e ∙ t .holds .makes k h
+-- a chain of an accepted table, at its place
+module _ {s : List ℕ} (t : Taken s) {chain at : ℕ} (e : at ≡ placeOf (tableOf s) chain) (h : chain < tableOf s .count) where
+  pub row-there : rowAt s at ≡ rowOf (tableOf s) chain
+  row-there = ap (rowAt s) e ∙ t .holds .makes chain h
 
   pub stands : Stands s at
   stands =
       record {
-        there = omega (arith, t .holds .inside k h, length-at s at, ap lengthOf row-there);
-        good = subst GoodRow (sym row-there) (t .good .row k h);
+        there = omega (arith, t .holds .inside chain h, length-at s at, ap lengthOf row-there);
+        good = subst GoodRow (sym row-there) (t .good .row chain h);
       }
 
   -- the next one starts where its record ends
-  pub place-next : at + lengthAt s at ≡ placeOf (tableOf s) (k + 1)
-  place-next = omega (arith, place-on (tableOf s) k (omega (arith, t .good .few, t .good .size)), length-at s at, ap lengthOf row-there)
+  pub place-next : at + lengthAt s at ≡ placeOf (tableOf s) (chain + 1)
+  place-next = omega (arith, place-on (tableOf s) chain (omega (arith, t .good .few, t .good .size)), length-at s at, ap lengthOf row-there)

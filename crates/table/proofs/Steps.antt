@@ -8,6 +8,7 @@ use lib.ListN.{length}
 use lib.Dec.{ltb, eqb}
 use borrow.Author.Tests.{lt-ltb, le-ltb}
 use Rattle.search.specs.Choice.{_when_else_}
+use Rattle.search.proofs.Choice.{when-cases}
 use Rattle.table.specs.Limits.{maxChains, maxBytes}
 use Rattle.table.specs.Bytes.{word}
 use Rattle.table.specs.Record.{rowAt, lengthAt}
@@ -15,7 +16,13 @@ use Rattle.table.specs.Fault.{markOf, chainFault, endFault}
 use Rattle.table.specs.Read.{empty, plus, refusal, accepted, unless, byMark, start, records, readTable}
 use Rattle.table.specs.declared.Table.{Table}
 use Rattle.table.specs.declared.Mark.{Mark}
-use Rattle.table.specs.declared.Mark.the-variants.{Chain, Task, End, Other}
+use Rattle.table.specs.declared.Mark.the-variants.{Chain, Task, End, Refused as Unknown}
+
+-- what holds of each mark, and of refusal 3, holds of any two bytes
+pub mark-cases : (P : Mark → Type 0) → P Chain → P Task → P End → P (Unknown 3) → (m : ℕ) → P (markOf m)
+unfolding markOf
+mark-cases P chain task end unknown m =
+    when-cases P (eqb m 18499) (λ e. chain) (λ e. when-cases P (eqb m 19284) (λ e. task) (λ e. when-cases P (eqb m 20037) (λ e. end) (λ e. unknown)))
 
 -- the length is judged first
 pub read-long : (s : List ℕ) → (eqb (length s) 0 || ltb maxBytes (length s)) ≡ true → readTable s ≡ refusal 1
@@ -42,8 +49,8 @@ module _ (s : List ℕ) (at : ℕ) (t : Table) where
     records-mark (suc left) Task e h = rw (le-ltb _ _ there, e)
     records-mark zero End e h = rw (le-ltb _ _ there, e)
     records-mark (suc left) End e h = rw (le-ltb _ _ there, e)
-    records-mark zero Other e h = rw (le-ltb _ _ there, e)
-    records-mark (suc left) Other e h = rw (le-ltb _ _ there, e)
+    records-mark zero (Unknown n) e h = rw (le-ltb _ _ there, e)
+    records-mark (suc left) (Unknown n) e h = rw (le-ltb _ _ there, e)
 
     module _ (chain : markOf (word 2 s at) ≡ Chain) where
       pub records-full : t .count ≡ maxChains → records (maxChains - t .count) s at t ≡ refusal 11

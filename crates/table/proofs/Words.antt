@@ -27,17 +27,17 @@ word-below zero s at h = omega arith
 word-below (suc n) s at h = omega (arith, h at, word-below n s (at + 1) h, pow-suc 256 n)
 
 -- the same number has the same bytes
-pub word-same : (n : ℕ) (s r : List ℕ) (at to : ℕ) → Bytes s → Bytes r → word n s at ≡ word n r to → (k : ℕ) → k < n → getD s (at + k) 0 ≡ getD r (to + k) 0
+pub word-same : (n : ℕ) (s r : List ℕ) (at to : ℕ) → Bytes s → Bytes r → word n s at ≡ word n r to → (i : ℕ) → i < n → getD s (at + i) 0 ≡ getD r (to + i) 0
 unfolding word
-word-same zero s r at to b c e k h = absurd (omega arith)
+word-same zero s r at to b c e i h = absurd (omega arith)
 word-same (suc n) s r at to b c e zero h =
     let f : at + 0 ≡ at = omega arith in
     let g : to + 0 ≡ to = omega arith in
     rw (f, g) (omega (arith, e, b at, c to))
-word-same (suc n) s r at to b c e (suc k) h =
-    let f : at + 1 + k ≡ at + suc k = omega arith in
-    let g : to + 1 + k ≡ to + suc k = omega arith in
-    rw (← f, ← g) (word-same n s r (at + 1) (to + 1) b c (omega (arith, e, b at, c to)) k (omega arith))
+word-same (suc n) s r at to b c e (suc i) h =
+    let f : at + 1 + i ≡ at + suc i = omega arith in
+    let g : to + 1 + i ≡ to + suc i = omega arith in
+    rw (← f, ← g) (word-same n s r (at + 1) (to + 1) b c (omega (arith, e, b at, c to)) i (omega arith))
 
 -- a number's bytes are as many as asked for, and are read back as the number
 pub length-bytes : (n x : ℕ) → length (bytesOf n x) ≡ n
@@ -55,6 +55,6 @@ word-bytes (suc n) x l r h =
     let f : l ++ x % 256 ∷ rest ≡ first ++ rest = sym (append-assoc l (x % 256 ∷ []) rest) in
     let g : length l + 1 ≡ length first = sym (length-append l (x % 256 ∷ [])) in
     let w : word n (l ++ x % 256 ∷ rest) (length l + 1) ≡ x / 256 =
-    ap (λ (k : ℕ). word n (l ++ x % 256 ∷ rest) k) g ∙ ap (λ (s : List ℕ). word n s (length first)) f
+    ap (λ (i : ℕ). word n (l ++ x % 256 ∷ rest) i) g ∙ ap (λ (s : List ℕ). word n s (length first)) f
     ∙ word-bytes n (x / 256) first r (omega (arith, pow-suc 256 n)) in
     omega (arith, e, w)

@@ -15,4 +15,4 @@ bytesOf (suc n) x = x % 256 ∷ bytesOf n (x / 256)
 
 -- each number of the list is a byte
 abbrev pub Bytes : List ℕ → Type 0
-Bytes s = (k : ℕ) → getD s k 0 < 256
+Bytes s = (i : ℕ) → getD s i 0 < 256

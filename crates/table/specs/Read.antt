@@ -5,22 +5,19 @@ use mathlib.Core.Bool.{_||_}
 use lib.ListN.{length, set, replicate}
 use lib.Dec.{ltb, eqb}
 use Rattle.search.specs.Choice.{_when_else_}
-use Rattle.table.specs.Limits.{maxChains, maxTasks, maxDistances, maxBytes}
+use Rattle.table.specs.Limits.{maxChains, maxBytes}
 use Rattle.table.specs.Bytes.{word}
-use Rattle.table.specs.Record.{rowAt, lengthAt}
+use Rattle.table.specs.Record.{blank, rowAt, lengthAt}
 use Rattle.table.specs.Fault.{markOf, chainFault, endFault}
 use Rattle.table.specs.declared.Row.{Row}
 use Rattle.table.specs.declared.Table.{Table}
 use Rattle.table.specs.declared.Mark.{Mark}
-use Rattle.table.specs.declared.Mark.the-variants.{Chain, Task, End, Other}
+use Rattle.table.specs.declared.Mark.the-variants.{Chain, Task, End, Refused as Unknown}
 use Rattle.table.specs.declared.Verdict.{Verdict}
 use Rattle.table.specs.declared.Verdict.the-variants.{Accepted, Refused}
 use Rattle.table.specs.declared.Reading.{Reading}
 
--- a row of 0s, and the table without a chain
-abbrev pub blank : Row
-blank = record { id = 0; kind = 0; overload = 0; deadline = 0; gap = 0; listed = 0; tasks = 0; list = replicate maxDistances 0; priority = replicate maxTasks 0; cost = replicate maxTasks 0 }
-
+-- the table without a chain
 abbrev pub empty : Table
 empty = record { count = 0; tasks = 0; row = replicate maxChains blank }
 
@@ -55,7 +52,7 @@ abbrev pub byMark : Mark → Reading → Reading → Reading
 byMark Chain chain end = chain
 byMark End chain end = end
 byMark Task chain end = refusal 3
-byMark Other chain end = refusal 3
+byMark (Unknown n) chain end = refusal n
 
 -- the record that starts at `at`, after the rows of t, where `chain` is what a chain leads to
 unfoldable pub start : List ℕ → ℕ → Table → Reading → Reading

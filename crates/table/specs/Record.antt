@@ -86,6 +86,22 @@ rowAt s at =
       cost = pad maxTasks (costsAt s at);
     }
 
+-- a row of 0s: what stands past the rows of a table
+abbrev pub blank : Row
+blank =
+    record {
+      id = 0;
+      kind = 0;
+      overload = 0;
+      deadline = 0;
+      gap = 0;
+      listed = 0;
+      tasks = 0;
+      list = replicate maxDistances 0;
+      priority = replicate maxTasks 0;
+      cost = replicate maxTasks 0;
+    }
+
 -- a chain's listed distances: δ(2), δ(3), ..
 abbrev pub distances : Row → List ℕ
 distances r = take (r .listed) (r .list)

@@ -1,35 +1,24 @@
 // Little-endian numbers in a slice.
+use crate::wide::u16_from_u8;
+use crate::wide::u32_from_u16;
 ghost use mathlib.Core.Path.{_≡_};
 ghost use Prim.Native.Nat.{_+_, _≤_, _<_};
 ghost use lib.ListN.{length, getD, take, drop};
 ghost use mathlib.Core.List.{_++_};
 ghost use Rattle.table.specs.Bytes.{word, bytesOf};
 
-// A byte as a wider number: a cast that asks nothing of its caller.
-fn wide(x: u8) -> u16
-    ensures { λ r. ⌜ (r ≡ x) × (r < 256) ⌝ }
-{
-    x as u16
-}
-
-fn wide16(x: u16) -> u32
-    ensures { λ r. ⌜ (r ≡ x) × (r < 65536) ⌝ }
-{
-    x as u32
-}
-
 pub fn u16_at(s: &[u8], at: usize) -> u16
     requires { ⌜ at + 2 ≤ length (now s) ⌝ }
     ensures { λ r. ⌜ r ≡ word 2 (now (s .entry)) at ⌝ }
 {
-    wide(s[at]) + wide(s[at + 1]) * 256
+    u16_from_u8(s[at]) + u16_from_u8(s[at + 1]) * 256
 }
 
 pub fn u32_at(s: &[u8], at: usize) -> u32
     requires { ⌜ at + 4 ≤ length (now s) ⌝ }
     ensures { λ r. ⌜ r ≡ word 4 (now (s .entry)) at ⌝ }
 {
-    wide16(u16_at(s, at)) + wide16(u16_at(s, at + 2)) * 65536
+    u32_from_u16(u16_at(s, at)) + u32_from_u16(u16_at(s, at + 2)) * 65536
 }
 
 // A byte as a count.

@@ -31,10 +31,10 @@ fn list_of(s: &[u8], from: usize, n: usize) -> [u32; Table::DISTANCES]
     ensures { λ r. ⌜ r ≡ pad maxDistances (spaced (word 4 (now (s .entry))) 4 n from) ⌝ }
 {
     let mut list = [0u32; Table::DISTANCES];
-    let mut k: usize = 0;
-    while k < n {
-        list[k] = u32_at(s, from + 4 * k);
-        k += 1;
+    let mut i: usize = 0;
+    while i < n {
+        list[i] = u32_at(s, from + 4 * i);
+        i += 1;
     }
     list
 }
@@ -52,11 +52,11 @@ fn tasks_of(s: &[u8], from: usize, n: usize) -> Tasks
 {
     let mut priority = [0u16; Table::TASKS];
     let mut cost = [0u32; Table::TASKS];
-    let mut k: usize = 0;
-    while k < n {
-        priority[k] = u16_at(s, from + 8 * k + 2);
-        cost[k] = u32_at(s, from + 8 * k + 4);
-        k += 1;
+    let mut i: usize = 0;
+    while i < n {
+        priority[i] = u16_at(s, from + 8 * i + 2);
+        cost[i] = u32_at(s, from + 8 * i + 4);
+        i += 1;
     }
     Tasks { priority, cost }
 }
@@ -95,12 +95,12 @@ fn rows(s: &[u8]) -> Table
     let mut t = Table::empty();
     let mut at: usize = 0;
     while t.count < chains {
-        let k = t.count;
+        let chain = t.count;
         let row = row_of(s, at);
         at = at + record_length(s, at);
         t.tasks = t.tasks + row.tasks;
-        t.row[k] = row;
-        t.count = k + 1;
+        t.row[chain] = row;
+        t.count = chain + 1;
     }
     t
 }

@@ -2,14 +2,17 @@
 // and all of it as rows.
 ghost use mathlib.Core.Path.{_≡_};
 ghost use Rattle.table.specs.Limits.{limits as allLimits};
-ghost use Rattle.table.specs.Read.{blank as blankRow, empty as emptyTable};
+ghost use Rattle.table.specs.Record.{blank as blankRow};
+ghost use Rattle.table.specs.Read.{empty as emptyTable};
 
+mod before;
 mod bytes;
 mod decode;
 mod fault;
 mod places;
 mod reader;
 mod record;
+mod wide;
 
 pub use bytes::put_u32;
 pub use bytes::u16_at;
@@ -32,6 +35,11 @@ pub use record::overload_at;
 pub use record::priority_at;
 pub use record::record_length;
 pub use record::tasks_at;
+pub use wide::u16_from_u8;
+pub use wide::u32_from_u8;
+pub use wide::u32_from_u16;
+pub use wide::u64_from_u8;
+pub use wide::u64_from_u32;
 
 // A chain as it is stored: `listed` distances and `tasks` tasks; places past a count are 0.
 pub struct Row {
@@ -84,16 +92,16 @@ pub struct Limits {
     pub bytes: usize,
 }
 
-// What the two bytes of a mark, as a number, stand for.
+// What the two bytes of a mark, as a number, stand for; any other number is refused.
 pub enum Mark {
     Chain,
     Task,
     End,
-    Other,
+    Refused(u32),
 }
 
 impl Row {
-    pub fn blank() -> Self
+    fn blank() -> Self
         ensures { λ r. ⌜ r ≡ blankRow ⌝ }
     {
         Row {
@@ -166,7 +174,7 @@ impl Table {
     }
 
     // The table without a chain.
-    pub fn empty() -> Self
+    fn empty() -> Self
         ensures { λ r. ⌜ r ≡ emptyTable ⌝ }
     {
         let blank = Row::blank();

@@ -2,18 +2,13 @@
 use crate::bytes::u16_at;
 use crate::record::id_at;
 use crate::record::record_length;
+use crate::wide::u32_from_u16;
 ghost use mathlib.Core.Path.{_≡_};
 ghost use Prim.Native.Nat.{_≤_, _<_};
 ghost use Rattle.table.specs.Find.{findOf};
 ghost use Rattle.table.specs.Place.{placeOf};
 ghost use Rattle.table.specs.code.Taken.{Taken};
 ghost use Rattle.table.specs.Read.{tableOf};
-
-fn wide(x: u16) -> u32
-    ensures { λ r. ⌜ (r ≡ x) × (r < 65536) ⌝ }
-{
-    x as u32
-}
 
 // How many chains there are: the last two bytes say so.
 pub fn count(s: &[u8]) -> usize
@@ -30,27 +25,27 @@ pub fn find(s: &[u8], id: u32) -> usize
 {
     let chains = count(s);
     let mut at: usize = 0;
-    let mut k: usize = 0;
-    while k < chains {
-        if wide(id_at(s, at)) == id {
-            return k;
+    let mut chain: usize = 0;
+    while chain < chains {
+        if u32_from_u16(id_at(s, at)) == id {
+            return chain;
         }
         at = at + record_length(s, at);
-        k += 1;
+        chain += 1;
     }
-    k
+    chain
 }
 
-// Where the record of the chain k starts.
-pub fn place(s: &[u8], k: usize) -> usize
-    requires { ⌜ Taken (now s) × (k ≤ tableOf (now s) .count) ⌝ }
-    ensures { λ r. ⌜ r ≡ placeOf (tableOf (now (s .entry))) k ⌝ }
+// Where the record of a chain, by its number from 0, starts.
+pub fn place(s: &[u8], chain: usize) -> usize
+    requires { ⌜ Taken (now s) × (chain ≤ tableOf (now s) .count) ⌝ }
+    ensures { λ r. ⌜ r ≡ placeOf (tableOf (now (s .entry))) chain ⌝ }
 {
     let mut at: usize = 0;
-    let mut j: usize = 0;
-    while j < k {
+    let mut i: usize = 0;
+    while i < chain {
         at = at + record_length(s, at);
-        j += 1;
+        i += 1;
     }
     at
 }

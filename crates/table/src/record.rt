@@ -2,6 +2,7 @@
 use crate::bytes::count_at;
 use crate::bytes::u16_at;
 use crate::bytes::u32_at;
+use crate::wide::u32_from_u16;
 ghost use mathlib.Core.Path.{_≡_};
 ghost use Prim.Native.Nat.{_+_, _≤_, _<_};
 ghost use lib.ListN.{length, getD};
@@ -83,18 +84,18 @@ pub fn distance_at(s: &[u8], at: usize, j: usize) -> u32
     u32_at(s, at + 16 + 4 * j)
 }
 
-// The priority of its task k, as a wider number, which has room for a level above every priority.
-pub fn priority_at(s: &[u8], at: usize, k: usize) -> u32
-    requires { ⌜ Stands (now s) at × (k < tasksAt (now s) at) ⌝ }
-    ensures { λ r. ⌜ (r ≡ getD (rowAt (now (s .entry)) at .priority) k 0) × (r < 65536) ⌝ }
+// The priority of its task i, as a wider number, which has room for a level above every priority.
+pub fn priority_at(s: &[u8], at: usize, i: usize) -> u32
+    requires { ⌜ Stands (now s) at × (i < tasksAt (now s) at) ⌝ }
+    ensures { λ r. ⌜ (r ≡ getD (rowAt (now (s .entry)) at .priority) i 0) × (r < 65536) ⌝ }
 {
-    u16_at(s, first_task(s, at) + 8 * k + 2) as u32
+    u32_from_u16(u16_at(s, first_task(s, at) + 8 * i + 2))
 }
 
-// The cost of its task k.
-pub fn cost_at(s: &[u8], at: usize, k: usize) -> u32
-    requires { ⌜ Stands (now s) at × (k < tasksAt (now s) at) ⌝ }
-    ensures { λ r. ⌜ r ≡ getD (rowAt (now (s .entry)) at .cost) k 0 ⌝ }
+// The cost of its task i.
+pub fn cost_at(s: &[u8], at: usize, i: usize) -> u32
+    requires { ⌜ Stands (now s) at × (i < tasksAt (now s) at) ⌝ }
+    ensures { λ r. ⌜ r ≡ getD (rowAt (now (s .entry)) at .cost) i 0 ⌝ }
 {
-    u32_at(s, first_task(s, at) + 8 * k + 4)
+    u32_at(s, first_task(s, at) + 8 * i + 4)
 }

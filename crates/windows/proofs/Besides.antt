@@ -14,12 +14,12 @@ use Rattle.search.specs.Choice.{_when_else_}
 use Rattle.search.specs.Lists.{All}
 use Rattle.search.proofs.Choice.{when-yes, when-no, when-cases}
 use Rattle.search.proofs.Lists.{all-append}
-use Rattle.table.specs.Find.{none, rowOf, rows}
+use Rattle.table.specs.Record.{blank}
+use Rattle.table.specs.Find.{rowOf, rows}
 use Rattle.table.specs.code.Good.{GoodRow, GoodTable}
 use Rattle.table.specs.declared.Row.{Row}
 use Rattle.table.specs.declared.Table.{Table}
-use Rattle.arrivals.specs.code.Bounds.{GoodDistances}
-use Rattle.arrivals.proofs.Rows.{good-distances}
+use Rattle.table.specs.code.Good.{GoodDistances}
 use Rattle.segments.specs.View.{View, viewOf}
 use Rattle.segments.proofs.Views.{view-overload, view-list}
 use Rattle.windows.specs.Demand.{others, viewsOf, typical}
@@ -93,8 +93,8 @@ module _ (all : Bool) (t : Table) (b : Row) (good : GoodTable t) where
     views-on : viewsFrom all t b from (j + 1) ≡ viewsFrom all t b from j ++ counted all (viewOf (rowOf t j) b ∷ [])
     views-on =
         ap (λ l. counted all (map (λ a. viewOf a b) l))
-        (slice-more from j (rows t) none low (omega (arith, rows-length t good))
-        ∙ ap (λ r. slice from j (rows t) ++ (r ∷ [])) (getD-take (t .count) (t .row) j none high))
+        (slice-more from j (rows t) blank low (omega (arith, rows-length t good))
+        ∙ ap (λ r. slice from j (rows t) ++ (r ∷ [])) (getD-take (t .count) (t .row) j blank high))
         ∙ ap (counted all) (map-append (λ a. viewOf a b) (slice from j (rows t)) (rowOf t j ∷ []))
         ∙ counted-append all (map (λ a. viewOf a b) (slice from j (rows t))) (viewOf (rowOf t j) b ∷ [])
 
@@ -138,8 +138,8 @@ all-drop P (suc k) (a ∷ l) h = all-drop P k l (h .1)
 module _ (t : Table) (good : GoodTable t) where
   pub others-good : (k : ℕ) → All GoodRow (others t k)
   others-good k =
-      let rows-good : All GoodRow (rows t) = all-at GoodRow (rows t) none
-      (λ j h. let l : j < t .count = omega (arith, rows-length t good) in rw (getD-take (t .count) (t .row) j none l) (good .row j l)) in
+      let rows-good : All GoodRow (rows t) = all-at GoodRow (rows t) blank
+      (λ j h. let l : j < t .count = omega (arith, rows-length t good) in rw (getD-take (t .count) (t .row) j blank l) (good .row j l)) in
       all-append GoodRow (take k (rows t)) (drop (k + 1) (rows t)) (all-take GoodRow k (rows t) rows-good) (all-drop GoodRow (k + 1) (rows t) rows-good)
 
   pub others-paced : (k : ℕ) → Paced (viewsOf t k)
@@ -148,4 +148,4 @@ module _ (t : Table) (good : GoodTable t) where
     where
       go : (l : List Row) → All GoodRow l → Paced (map (λ a. viewOf a (rowOf t k)) l)
       go [] h = tt
-      go (a ∷ l) h = (subst GoodDistances (sym (view-list a (rowOf t k))) (good-distances (h .0)), go l (h .1))
+      go (a ∷ l) h = (subst GoodDistances (sym (view-list a (rowOf t k))) (h .0 .list), go l (h .1))

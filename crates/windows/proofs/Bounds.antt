@@ -8,9 +8,8 @@ use native.Mathlib.Nat.{le-trans, le-refl, mul-le-mul, mul-le-mul-left}
 use lib.ListN.{getD}
 use Rattle.table.specs.Limits.{horizon, maxActivations, maxDistances}
 use Rattle.arrivals.specs.Arrivals.{η}
-use Rattle.arrivals.specs.code.Bounds.{GoodDistances}
+use Rattle.table.specs.code.Good.{GoodDistances}
 use Rattle.arrivals.proofs.Counts.{η-near}
-use Rattle.arrivals.proofs.Rows.{good-distances}
 use Rattle.windows.specs.code.Load.{heldAt, heldOf, Held}
 use Rattle.segments.specs.code.Held.{dearest}
 use Rattle.windows.proofs.Growth.{held-fewer}
@@ -38,5 +37,5 @@ module _ (s rates places : List ℕ) where
       omega (
         arith,
         held-le n t (held-fewer s rates places n h) l,
-        turns-le (good-distances (h .stands n (le-refl (suc n)) .good)) (η (heldAt s places n) t) (getD rates n 0) t (le-refl _) (h .cheap n (le-refl (suc n))) l,
+        turns-le (h .stands n (le-refl (suc n)) .good .list) (η (heldAt s places n) t) (getD rates n 0) t (le-refl _) (h .cheap n (le-refl (suc n))) l,
       )

@@ -12,7 +12,7 @@ use Rattle.search.proofs.Choice.{when-yes, when-no, true-not-false, lt-or-le}
 use Rattle.search.proofs.Find.{first-ge, first-hit, first-miss}
 use Rattle.table.specs.Limits.{maxActivations}
 use Rattle.arrivals.specs.Arrivals.{δ}
-use Rattle.arrivals.specs.code.Bounds.{GoodDistances}
+use Rattle.table.specs.code.Good.{GoodDistances}
 use Rattle.arrivals.proofs.Distances.{δ-one}
 use Rattle.windows.specs.Window.{windowOf}
 use Rattle.windows.specs.Latency.{ends, closeOf, latencyTo, lateTo, marginOf, refusal, endsWith, windowsOf}

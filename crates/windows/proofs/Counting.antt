@@ -10,7 +10,7 @@ use lib.Seq.{getD-set-same, getD-set-other}
 use Rattle.search.proofs.Choice.{lt-or-le}
 use Rattle.table.specs.Limits.{maxChains}
 use Rattle.arrivals.specs.Arrivals.{η}
-use Rattle.arrivals.specs.code.Bounds.{GoodDistances}
+use Rattle.table.specs.code.Good.{GoodDistances}
 use Rattle.arrivals.proofs.Counts.{η-mono}
 use Rattle.windows.specs.code.Load.{Load, heldAt, Behind, Counted, Sound}
 

@@ -12,10 +12,9 @@ use Rattle.search.proofs.Lists.{sum-mono, all-map}
 use Rattle.table.specs.code.Good.{GoodRow}
 use Rattle.table.specs.declared.Row.{Row}
 use Rattle.arrivals.specs.Arrivals.{η}
-use Rattle.arrivals.specs.code.Bounds.{GoodDistances}
+use Rattle.table.specs.code.Good.{GoodDistances}
 use Rattle.table.specs.Record.{distances}
 use Rattle.arrivals.proofs.Counts.{η-mono}
-use Rattle.arrivals.proofs.Rows.{good-distances}
 use Rattle.segments.specs.Tasks.{chainCost}
 use Rattle.segments.specs.View.{View, allOf, dearestOf}
 use Rattle.segments.proofs.Bounds.{own-less}
@@ -63,7 +62,7 @@ module _ (b : Row) (vs : List View) (good : GoodRow b) (paced : Paced vs) where
   demand-mono q s t h =
       omega (
         arith,
-        again-mono q (countedPart b) _ _ (η-mono (good-distances good) s t h),
+        again-mono q (countedPart b) _ _ (η-mono (good .list) s t h),
         sum-mono (λ v. termOf v s) (λ v. termOf v t) vs (all-map (λ v g. term-mono v g s t h) vs paced),
       )
 
@@ -98,7 +97,7 @@ module _ (s rates places : List ℕ) where
   unfolding heldOf
   held-mono zero t u h l = le-refl 0
   held-mono (suc n) t u h l =
-      omega (arith, held-mono n t u (held-fewer n h) l, mul-le-mul-right (getD rates n 0) (η-mono (good-distances (h .stands n (le-refl (suc n)) .good)) t u l))
+      omega (arith, held-mono n t u (held-fewer n h) l, mul-le-mul-right (getD rates n 0) (η-mono (h .stands n (le-refl (suc n)) .good .list) t u l))
 
 pub load-growing : (l : Load) → Sound l → Growing (demandIn l)
 unfolding demandIn
@@ -106,7 +105,7 @@ load-growing l ok = record {
   grows = λ q h. record {
     some = λ t k. omega (arith, mul-pos h (ok .some));
     mono = λ s t k.
-        omega (arith, again-mono q (l .part) _ _ (η-mono (good-distances (ok .stands .good)) s t k), held-mono (l .bytes) (l .rates) (l .places) (l .count) s t (ok .held) k);
+        omega (arith, again-mono q (l .part) _ _ (η-mono (ok .stands .good .list) s t k), held-mono (l .bytes) (l .rates) (l .places) (l .count) s t (ok .held) k);
   };
   more = λ q t. omega (arith, again-more q (l .part) (η (ownOf l) t), ok .part);
 }

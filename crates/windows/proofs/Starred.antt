@@ -17,15 +17,15 @@ use Rattle.table.specs.Limits.{maxTasks, maxDistances, horizon}
 use Rattle.table.specs.Bytes.{word, Bytes}
 use Rattle.table.specs.Record.{spaced, pad, rowAt, distances}
 use Rattle.table.specs.Find.{rowOf, findOf}
-use Rattle.table.specs.Fault.{_then_, markOf, headFault, falls, gapShort, listFault, taskFault, tasksFault, chainFault, endFault}
+use Rattle.table.specs.Fault.{_then_, markOf, identityFault, timesFault, countsFault, headFault, falls, distancesFault, gapShort, gapFault, listFault, taskMarkFault, taskRestFault, taskFault, tasksFault, chainFault, endFault}
 use Rattle.table.specs.code.Good.{GoodTable}
-use Rattle.table.specs.Read.{blank, accepted, unless, start, records, readTable}
+use Rattle.table.specs.Record.{blank}
+use Rattle.table.specs.Read.{accepted, unless, start, records, readTable}
 use Rattle.table.specs.declared.Row.{Row}
 use Rattle.table.specs.declared.Table.{Table}
 use Rattle.table.specs.declared.Reading.{Reading}
 use Rattle.table.proofs.Accepted.{taken}
 use Rattle.arrivals.specs.Arrivals.{asListed, δ, η}
-use Rattle.arrivals.proofs.Rows.{good-distances}
 use Rattle.segments.specs.Tasks.{tasksFrom, lowest, before}
 use Rattle.segments.specs.Segments.{stretches, onward, around, nonempty, cuts, parts, cutSegments}
 use Rattle.segments.specs.View.{viewOf}
@@ -174,7 +174,7 @@ module _ {s : List ℕ} {t : Table} (a : Stored s t) (id k : ℕ) (found : findO
       let count : 0 + overOf (x - 0) dl ≡ overOf x dl = omega (arith, ap (λ y. overOf y dl) whole) in
       answered
       ∙ ap (λ (w : Windows). w .answer)
-      (sym (walk-close (demandAt t k) ds dl growing (walk-start (demandAt t k) ds dl (good-distances (stored-good a .row k there))) (lit≤ tt) e best refl refl h))
+      (sym (walk-close (demandAt t k) ds dl growing (walk-start (demandAt t k) ds dl (stored-good a .row k there .list)) (lit≤ tt) e best refl refl h))
       ∙ ap (λ n. Figures 1 x n (marginOf dl x)) count
 
   refuses : windowOf (demandAt t k 1) ≡ Nothing → latencyOf s id ≡ Refused 16
@@ -184,18 +184,18 @@ module _ {s : List ℕ} {t : Table} (a : Stored s t) (id k : ℕ) (found : findO
       let dl = rowOf t k .deadline in
       answered
       ∙ ap (λ (w : Windows). w .answer)
-      (sym (walk-none (demandAt t k) ds dl growing (walk-start (demandAt t k) ds dl (good-distances (stored-good a .row k there))) (lit≤ tt) e))
+      (sym (walk-none (demandAt t k) ds dl growing (walk-start (demandAt t k) ds dl (stored-good a .row k there .list)) (lit≤ tt) e))
 
 sample-stored : Stored sample sampled
-unfolding small sample sampled recorded ended bytes flatten readTable records start unless chainFault headFault listFault falls gapShort tasksFault taskFault endFault _then_ markOf word spaced rowAt findOf first _when_else_
+unfolding small sample sampled recorded ended bytes flatten readTable records start unless chainFault headFault identityFault timesFault countsFault listFault distancesFault falls gapFault gapShort tasksFault taskFault taskMarkFault taskRestFault endFault _then_ markOf word spaced rowAt findOf first _when_else_
 sample-stored = record { are = refl; reads = refl }
 
 edge-stored : Stored edge edged
-unfolding small edge edged recorded ended bytes flatten readTable records start unless chainFault headFault listFault falls gapShort tasksFault taskFault endFault _then_ markOf word spaced rowAt findOf first _when_else_
+unfolding small edge edged recorded ended bytes flatten readTable records start unless chainFault headFault identityFault timesFault countsFault listFault distancesFault falls gapFault gapShort tasksFault taskFault taskMarkFault taskRestFault endFault _then_ markOf word spaced rowAt findOf first _when_else_
 edge-stored = record { are = refl; reads = refl }
 
 past-stored : Stored past passed
-unfolding small past passed recorded ended bytes flatten readTable records start unless chainFault headFault listFault falls gapShort tasksFault taskFault endFault _then_ markOf word spaced rowAt findOf first _when_else_
+unfolding small past passed recorded ended bytes flatten readTable records start unless chainFault headFault identityFault timesFault countsFault listFault distancesFault falls gapFault gapShort tasksFault taskFault taskMarkFault taskRestFault endFault _then_ markOf word spaced rowAt findOf first _when_else_
 past-stored = record { are = refl; reads = refl }
 
 -- where the ids are found

@@ -12,7 +12,7 @@ use Rattle.search.proofs.Choice.{when-yes, when-no}
 use Rattle.search.proofs.Find.{first-is, first-none}
 use Rattle.table.specs.Limits.{horizon, maxActivations}
 use Rattle.arrivals.specs.Arrivals.{δ}
-use Rattle.arrivals.specs.code.Bounds.{GoodDistances}
+use Rattle.table.specs.code.Good.{GoodDistances}
 use Rattle.arrivals.proofs.Distances.{δ-one}
 use Rattle.windows.specs.Window.{Solution, windowOf}
 use Rattle.windows.specs.code.Load.{Under}

@@ -11,7 +11,7 @@ use Rattle.table.specs.Record.{rowAt, distances}
 use Rattle.arrivals.specs.Arrivals.{asListed, δ}
 use Rattle.arrivals.proofs.Turns.{δ-at, δ-single}
 use Rattle.arrivals.proofs.Distances.{δ-near}
-use Rattle.arrivals.proofs.Rows.{stands-distances, stands-length}
+use Rattle.arrivals.proofs.Rows.{stands-length}
 use Rattle.arrivals.proofs.delta.Statement.{statement}
 use Rattle.arrivals.proofs.delta.Tie as tie
 
@@ -28,7 +28,7 @@ one : (c : tie.After-as-listed) → (c .before .before .before .before .args .n 
 one c =
     let s = c .before .before .before .before in
     ap (λ x. (s .args .n - 1) * x) (c .as-listed .ensures)
-    ∙ sym (δ-single (stands-distances (s .pre .0)) (sym (listed (c .before .before)) ∙ c .before .if1 .taken) (s .args .n) (omega (arith, s .pre .1)))
+    ∙ sym (δ-single (s .pre .0 .good .list) (sym (listed (c .before .before)) ∙ c .before .if1 .taken) (s .args .n) (omega (arith, s .pre .1)))
 
 turns : (c : tie.After-as-listed2)
     → (c .before .before .before .before .args .n - 1) / c .before .before .listed-at .result * c .as-listed2 .result ≡ (c .before .before .before .before .args .n - 1) / length (ds (c .before .before .before .before)) * asListed (ds (c .before .before .before .before)) (length (ds (c .before .before .before .before)))
@@ -53,7 +53,7 @@ as-listed-requires : tie.Need-as-listed-requires
 as-listed-requires c κs = (c .before .before .before .pre .0, omega (arith, c .before .listed-at .ensures .0, c .if1 .taken))
 
 mul-result : tie.Need-mul-result
-mul-result c = let s = c .before .before .before .before in omega (arith, one c, δ-near (stands-distances (s .pre .0)) (s .args .n), s .pre .2)
+mul-result c = let s = c .before .before .before .before in omega (arith, one c, δ-near (s .pre .0 .good .list) (s .args .n), s .pre .2)
 
 returns : tie.Need-returns
 returns c = one c
@@ -62,7 +62,7 @@ sub-steps : tie.Need-sub-steps
 sub-steps c = search needs
 
 div-turns : tie.Need-div-turns
-div-turns c = omega (arith, listed (c .before), stands-distances (c .before .before .before .pre .0) .some)
+div-turns c = omega (arith, listed (c .before), (c .before .before .before .pre .0 .good .list) .some)
 
 as-listed-requires-2 : tie.Need-as-listed-requires-2
 as-listed-requires-2 c κs = (c .before .before .before .pre .0, omega (arith, c .before .listed-at .ensures .0))
@@ -70,19 +70,19 @@ as-listed-requires-2 c κs = (c .before .before .before .pre .0, omega (arith, c
 mul-result-2 : tie.Need-mul-result-2
 mul-result-2 c =
     let s = c .before .before .before .before in
-    omega (arith, turns c, δ-at (ds s) (s .args .n) (omega (arith, s .pre .1)), δ-near (stands-distances (s .pre .0)) (s .args .n), s .pre .2)
+    omega (arith, turns c, δ-at (ds s) (s .args .n) (omega (arith, s .pre .1)), δ-near (s .pre .0 .good .list) (s .args .n), s .pre .2)
 
 rem-as-listed : tie.Need-rem-as-listed
-rem-as-listed c = omega (arith, listed (c .before .before), stands-distances (c .before .before .before .before .pre .0) .some)
+rem-as-listed c = omega (arith, listed (c .before .before), (c .before .before .before .before .pre .0 .good .list) .some)
 
 as-listed-requires-3 : tie.Need-as-listed-requires-3
 as-listed-requires-3 c κs =
     let s = c .before .before .before .before in
-    let h : 1 ≤ c .before .before .listed-at .result = omega (arith, listed (c .before .before), stands-distances (s .pre .0) .some) in
+    let h : 1 ≤ c .before .before .listed-at .result = omega (arith, listed (c .before .before), (s .pre .0 .good .list) .some) in
     (s .pre .0, omega (arith, c .before .before .listed-at .ensures .0, mod-lt (s .args .n - 1) h))
 
 add-result : tie.Need-add-result
-add-result c = let s = c .before .before .before .before .before in omega (arith, all c, δ-near (stands-distances (s .pre .0)) (s .args .n), s .pre .2)
+add-result c = let s = c .before .before .before .before .before in omega (arith, all c, δ-near (s .pre .0 .good .list) (s .args .n), s .pre .2)
 
 returns-2 : tie.Need-returns-2
 returns-2 c = all c

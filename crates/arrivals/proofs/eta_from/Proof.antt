@@ -9,9 +9,10 @@ use lib.ListN.{length}
 use Rattle.table.specs.Limits.{maxDistances}
 use Rattle.table.specs.Record.{rowAt, distances}
 use Rattle.arrivals.specs.Arrivals.{η}
-use Rattle.arrivals.specs.code.Bounds.{GoodDistances, longestSpan}
+use Rattle.table.specs.code.Good.{GoodDistances}
+use Rattle.arrivals.specs.code.Bounds.{longestSpan}
 use Rattle.arrivals.proofs.Counts.{η-reach, η-stops, η-counts}
-use Rattle.arrivals.proofs.Rows.{stands-distances, stands-length}
+use Rattle.arrivals.proofs.Rows.{stands-length}
 use Rattle.arrivals.proofs.eta_from.Statement.{statement}
 use Rattle.arrivals.proofs.eta_from.Tie as tie
 
@@ -26,7 +27,7 @@ abbrev ds : tie.Start Inv-loop μ-loop → List ℕ
 ds s = distances (rowAt (now (s .args .s)) (s .args .at))
 
 good : (s : tie.Start Inv-loop μ-loop) → GoodDistances (ds s)
-good s = stands-distances (s .pre .0)
+good s = (s .pre .0 .good .list)
 
 -- L·t, as it was read, and that it fits
 most : (c : tie.After-listed-at Inv-loop μ-loop) → c .listed-at .result * c .before .before .args .t ≡ length (ds (c .before .before)) * c .before .before .args .t

@@ -10,8 +10,8 @@ use borrow.Author.Needs.{needs}
 use borrow.Author.Tests.{ltb-true, ltb-false}
 use Rattle.table.specs.Limits.{maxDistance}
 use Rattle.table.specs.Record.{rowAt, distances}
-use Rattle.arrivals.specs.code.Bounds.{GoodDistances}
-use Rattle.arrivals.proofs.Rows.{distances-at, stands-distances, stands-length}
+use Rattle.table.specs.code.Good.{GoodDistances}
+use Rattle.arrivals.proofs.Rows.{distances-at, stands-length}
 use Rattle.arrivals.proofs.Walk.{Counted, counted-none, turns-le, counted-most, counted-all, counted-on, counted-turn}
 use Rattle.arrivals.proofs.eta_up_to.Statement.{statement}
 use Rattle.arrivals.proofs.eta_up_to.Tie as tie
@@ -27,7 +27,7 @@ abbrev ds : tie.Start Inv-loop μ-loop → List ℕ
 ds s = distances (rowAt (now (s .args .s)) (s .args .at))
 
 good : (s : tie.Start Inv-loop μ-loop) → GoodDistances (ds s)
-good s = stands-distances (s .pre .0)
+good s = (s .pre .0 .good .list)
 
 -- where the loop goes on, the activation that comes next lies in the window
 soon : (c : tie.Then1 Inv-loop μ-loop) → c .before .before .loop .next < c .before .before .before .before .before .args .t

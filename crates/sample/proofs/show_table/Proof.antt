@@ -1,14 +1,14 @@
--- The place k is within the rows.
+-- The number `chain` is within the rows.
 use Prim.Native.Nat.{_≤_, _-_}
 use borrow.Author.Needs.{needs}
 use Rattle.sample.proofs.show_table.Statement.{statement}
 use Rattle.sample.proofs.show_table.Tie as tie
 
 abbrev Inv-loop : tie.InvT-loop
-Inv-loop t k₀ k = k ≤ 16
+Inv-loop t chain₀ chain = chain ≤ 16
 
 abbrev μ-loop : tie.MeasureT-loop
-μ-loop t k₀ k = 16 - k
+μ-loop t chain₀ chain = 16 - chain
 
 loop-holds : tie.Need-loop-holds Inv-loop μ-loop
 loop-holds c = search needs
@@ -22,8 +22,8 @@ element-copy-out-show c = search needs
 show-requires : tie.Need-show-requires Inv-loop μ-loop
 show-requires c κs = search needs
 
-add-k : tie.Need-add-k Inv-loop μ-loop
-add-k c = search needs
+add-chain : tie.Need-add-chain Inv-loop μ-loop
+add-chain c = search needs
 
 loop-less : tie.Need-loop-less Inv-loop μ-loop
 loop-less c = search needs
@@ -44,7 +44,7 @@ show-table-spec =
     mul-show
     element-copy-out-show
     show-requires
-    add-k
+    add-chain
     loop-less
     loop-again
     returns)

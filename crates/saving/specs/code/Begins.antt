@@ -1,4 +1,4 @@
--- What the code hands from its judgement to its writing: an array that begins with the result.
+-- What the code hands from its judgement to its writing: a fault, and an array that begins with the result.
 use Prim.Native.Nat.{ℕ}
 use mathlib.Core.Path.{_≡_}
 use mathlib.Core.List.{List}
@@ -7,3 +7,8 @@ use lib.ListN.{length, take}
 -- the first bytes of `out` are those
 pub record Begins (out bytes : List ℕ) : Type 0 where
   pub first : take (length bytes) out ≡ bytes
+
+-- r is the fault, and where there is none `out` begins with the result
+pub record Ready (fault : ℕ) (result out : List ℕ) (r : ℕ) : Type 0 where
+  pub faulty : r ≡ fault
+  pub begins : r ≡ 0 → Begins out result

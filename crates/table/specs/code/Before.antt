@@ -1,13 +1,15 @@
--- What the code knows of the rows before a record.
-use Prim.Native.Nat.{ℕ, _<_}
-use mathlib.Core.Path.{_≡_}
-use mathlib.Core.List.{List}
-use lib.ListN.{getD}
+-- What the code keeps of the chains before a record.
+use Prim.Native.Nat.{ℕ, _+_}
+use mathlib.Core.List.{map}
+use lib.ListN.{set}
+use Rattle.table.specs.declared.Row.{Row}
 use Rattle.table.specs.declared.Table.{Table}
-use Rattle.table.specs.Find.{rowOf}
+use Rattle.table.specs.declared.before.Before.{Before}
 
--- what a record is judged by of the table before it: the ids that its rows bear, how many there are, and their tasks in all
-pub record Before (t : Table) (ids : List ℕ) (count tasks : ℕ) : Type 0 where
-  pub counts : t .count ≡ count
-  pub total : t .tasks ≡ tasks
-  pub bears : (k : ℕ) → k < count → rowOf t k .id ≡ getD ids k 0
+-- of the table so far: the ids that its rows bear, how many there are, and their tasks in all
+abbrev pub beforeOf : Table → Before
+beforeOf t = record { ids = map (λ (r : Row). r .id) (t .row); count = t .count; tasks = t .tasks }
+
+-- one chain more
+abbrev pub andOne : Before → ℕ → ℕ → Before
+andOne b id tasks = record { ids = set (b .ids) (b .count) id; count = b .count + 1; tasks = b .tasks + tasks }

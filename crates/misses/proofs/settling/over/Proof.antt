@@ -7,7 +7,6 @@ use borrow.Author.Needs.{needs}
 use denote.Ref.{now}
 use Rattle.table.specs.Record.{rowAt, distances}
 use Rattle.arrivals.proofs.Distances.{δ-near}
-use Rattle.arrivals.proofs.Rows.{good-distances}
 use Rattle.windows.specs.Window.{windowOf}
 use Rattle.windows.specs.code.Load.{Load, loadOf, ownOf, demandIn, plus, Counted, Sound}
 use Rattle.windows.specs.Latency.{upTo}
@@ -85,7 +84,7 @@ add-if1 : tie.Need-add-if1 Inv-loop μ-loop
 add-if1 c =
     let h = head (c .before) in
     let s = entry h in
-    omega (arith, c .delta .ensures, δ-near (good-distances (s .pre .0 .stands .good)) (h .loop .done + 1), s .pre .1, s .pre .2)
+    omega (arith, c .delta .ensures, δ-near (s .pre .0 .stands .good .list) (h .loop .done + 1), s .pre .1, s .pre .2)
 
 returns-2 : tie.Need-returns-2 Inv-loop μ-loop
 returns-2 c =

@@ -1,133 +1,41 @@
--- At each return the refusals so far, in order, are what the calls gave.
-use Prim.Native.Nat.{ℕ, _<_}
-use mathlib.Core.Path.{_≡_, ap, sym, subst, _∙_}
-use mathlib.Core.List.{List}
+-- The table's fault comes first; where it is accepted, what `replaced` gave.
+use mathlib.Core.Path.{_≡_, ap, sym, _∙_}
 use denote.Ref.{now}
-use lib.ListN.{length}
 use borrow.Author.Needs.{needs}
-use native.Mathlib.Omega.{arith}
-use Rattle.table.specs.Bytes.{Bytes}
-use Rattle.table.specs.Record.{rowAt}
-use Rattle.table.specs.declared.Row.{Row}
-use Rattle.table.specs.Find.{rowOf}
-use Rattle.table.specs.Read.{numberOf, accepted, readTable, tableOf}
-use Rattle.table.specs.Place.{placeOf}
-use Rattle.table.specs.code.Taken.{Taken}
-use Rattle.table.proofs.Stands.{row-there, stands}
-use Rattle.saving.specs.Save.{readFault, seenOf, unfit, splice, resultFault}
-use Rattle.saving.specs.code.Begins.{Begins}
-use Rattle.saving.proofs.Verdicts.{read-accepted}
-use Rattle.saving.proofs.Stored.{stored-taken}
-use Rattle.saving.proofs.Seen.{seen-le, seen-inside, result-is}
-use Rattle.saving.proofs.Faults.{change-unread, change-unseen, change-unfit, change-result}
+use Rattle.table.specs.Read.{numberOf}
+use Rattle.saving.specs.Save.{readFault}
+use Rattle.saving.proofs.Verdicts.{refused-some}
+use Rattle.saving.proofs.Faults.{change-unread, change-read}
 use Rattle.saving.proofs.judge.judged.Statement.{statement}
 use Rattle.saving.proofs.judge.judged.Tie as tie
-
--- what `number_of` gave is the table's fault
-faulty : (c : tie.After-number-of) → c .number-of .result ≡ readFault (now (c .before .before .before .before .before .args .s))
-faulty c = c .number-of .ensures ∙ ap numberOf (c .before .judge .ensures)
-
--- Where there is none
-
-abbrev start : tie.Else1 → tie.Start
-start c = c .before .before .before .before .before .before
-
-abbrev s : tie.Else1 → List ℕ
-s c = now (start c .args .s)
-
-abbrev old : tie.Else1 → List ℕ
-old c = now (start c .args .old)
-
-abbrev new : tie.Else1 → List ℕ
-new c = now (start c .args .new)
-
-none : (c : tie.Else1) → readFault (s c) ≡ 0
-none c = sym (faulty (c .before)) ∙ c .if1 .left
-
-read : (c : tie.Else1) → readTable (s c) ≡ accepted (tableOf (s c))
-read c = read-accepted (s c) (none c)
-
-bytes : (c : tie.Else1) → Bytes (s c)
-bytes c = λ k. omega (arith, c .before .before .before .before .before .shared-slice-known .given k)
-
-taken : (c : tie.Else1) → Taken (s c)
-taken c = stored-taken (s c) (tableOf (s c)) (read c) (bytes c)
-
--- and a stored record is the old one, in its place
-found : (c : tie.Else2) → seenOf (s (c .before .before .before)) (old (c .before .before .before)) < tableOf (s (c .before .before .before)) .count
-found c = let e = c .before .before .before in
-    let h : seenOf (s e) (old e) ≡ tableOf (s e) .count → ⊥ = λ z. c .if2 .left (c .before .before .seen .ensures ∙ z ∙ sym (c .before .count .ensures)) in
-    omega (arith, h, seen-le (s e) (old e))
-
-place : (c : tie.After-place) → c .place .result ≡ placeOf (tableOf (s (c .before .before .before .before))) (seenOf (s (c .before .before .before .before)) (old (c .before .before .before .before)))
-place c = c .place .ensures ∙ ap (placeOf (tableOf (s (c .before .before .before .before)))) (c .before .before .before .seen .ensures)
-
-judged-fit : (c : tie.After-unfit) → c .unfit .result ≡ unfit (new (c .before .before .before .before .before .before)) (rowOf (tableOf (s (c .before .before .before .before .before .before))) (seenOf (s (c .before .before .before .before .before .before)) (old (c .before .before .before .before .before .before))) .id)
-unfolding rowAt
-judged-fit c = c .unfit .ensures ∙ ap (unfit (new (c .before .before .before .before .before .before))) (c .before .id-at .ensures ∙ ap (λ (r : Row). r .id) (row-there (taken (c .before .before .before .before .before .before)) (place (c .before .before)) (found (c .before .before .before))))
 
 judge-requires : tie.Need-judge-requires
 judge-requires c κs = search needs
 
-number-of-requires : tie.Need-number-of-requires
-number-of-requires c κs = search needs
+enum-told : tie.Need-enum-told
+enum-told c = search needs
+
+replaced-requires : tie.Need-replaced-requires
+replaced-requires c κs = sym (c .before .before .before .judge .ensures) ∙ c .before .enum-told .given .1
+
+enum-known-fault : tie.Need-enum-known-fault
+enum-known-fault c = search needs
 
 returns : tie.Need-returns
-returns c = let a = c .before .before .before .before .before .before .args in
-    let f = faulty (c .before) in
-    (f ∙ sym (change-unread (a .room) (now (a .s)) (now (a .old)) (now (a .new)) (λ z. c .if1 .taken (f ∙ z))), λ z. absurd (c .if1 .taken z))
-
-seen-requires : tie.Need-seen-requires
-seen-requires c κs = taken c
-
-count-requires : tie.Need-count-requires
-count-requires c κs = taken (c .before)
+returns c =
+    let a = c .before .before .before .before .before .before .before .before .args in
+    let none : readFault (now (a .s)) ≡ 0 = ap numberOf (sym (c .before .before .before .before .judge .ensures) ∙ c .before .before .enum-told .given .1) in
+    record { faulty = c .replaced .ensures .faulty ∙ sym (change-read (a .room) (now (a .s)) (now (a .old)) (now (a .new)) none); begins = c .replaced .ensures .begins }
 
 returns-2 : tie.Need-returns-2
-returns-2 c = let e = c .before .before .before in
-    (sym (change-unseen (start e .args .room) (s e) (old e) (new e) (none e) (sym (c .before .before .seen .ensures) ∙ c .if2 .taken ∙ c .before .count .ensures)), λ z. absurd (omega (arith, z)))
-
-place-requires : tie.Need-place-requires
-place-requires c κs = (taken (c .before .before .before), omega (arith, found c, c .before .before .seen .ensures))
-
-id-at-requires : tie.Need-id-at-requires
-id-at-requires c κs = omega (arith, stands (taken (c .before .before .before .before)) (place c) (found (c .before)) .there)
-
-unfit-requires : tie.Need-unfit-requires
-unfit-requires c κs = search needs
-
-returns-3 : tie.Need-returns-3
-returns-3 c = let e = c .before .before .before .before .before .before .before in
-    let h = found (c .before .before .before .before) in
-    (sym (change-unfit (start e .args .room) (s e) (old e) (new e) (none e) (λ z. omega (arith, h, z)) (sym (judged-fit (c .before)) ∙ c .if3 .taken)), λ z. absurd (omega (arith, z)))
-
-result-requires : tie.Need-result-requires
-result-requires c κs = let e = c .before .before .before .before .before .before .before .before in
-    (omega (arith, place (c .before .before .before .before), seen-inside (s e) (old e) (read e) (bytes e) (found (c .before .before .before .before .before))), c .result-arg .given .0 .1)
-
-returns-4 : tie.Need-returns-4
-returns-4 c = let e = c .before .before .before .before .before .before .before .before .before in
-    let h = found (c .before .before .before .before .before .before) in
-    let there = ap (λ (at : ℕ). splice (s e) at (length (old e)) (new e)) (place (c .before .before .before .before .before)) ∙ result-is (s e) (old e) (read e) (bytes e) h (new e) in (
-      c .result .ensures .0
-          ∙ ap (resultFault (start e .args .room)) there
-          ∙ sym (change-result (start e .args .room) (s e) (old e) (new e) (none e) (λ z. omega (arith, h, z)) (sym (judged-fit (c .before .before .before)) ∙ c .before .before .if3 .left)),
-      λ z. subst (Begins (c .result .last .1 .1 .1 .1 .1 .0)) there (c .result .ensures .1 z),
-    )
+returns-2 c =
+    let a = c .before .before .before .before .before .before .before .args in
+    let e = sym (c .before .before .before .judge .ensures) ∙ c .before .fault .given .1 in
+    let some = refused-some (now (a .s)) _ e in
+    record {
+      faulty = sym (change-unread (a .room) (now (a .s)) (now (a .old)) (now (a .new)) some ∙ ap numberOf e);
+      begins = λ z. absurd (some (ap numberOf e ∙ z));
+    }
 
 pub judged-spec : {M : Type 1} → statement M
-judged-spec =
-    tie.close
-    (tie.spec
-    judge-requires
-    number-of-requires
-    returns
-    seen-requires
-    count-requires
-    returns-2
-    place-requires
-    id-at-requires
-    unfit-requires
-    returns-3
-    result-requires
-    returns-4)
+judged-spec = tie.close (tie.spec judge-requires enum-told replaced-requires enum-known-fault returns returns-2)

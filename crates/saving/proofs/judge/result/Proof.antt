@@ -35,12 +35,13 @@ add-n c = search needs
 
 returns : tie.Need-returns
 returns c = let s = c .before .before .before .before in
-    (sym (result-long (s .args .room) (made s) (omega (arith, made-length s, c .if1 .taken))), λ z. absurd (omega (arith, z)))
+    record { faulty = sym (result-long (s .args .room) (made s) (omega (arith, made-length s, c .if1 .taken))); begins = λ z. absurd (omega (arith, z)) }
 
 returns-2 : tie.Need-returns-2
 returns-2 c = let s = c .before .before .before .before .before in
     let e = made-length s in
-    (sym (result-read (s .args .room) (made s) (omega (arith, e, c .before .if1 .left)) ∙ read-out (made s) (inr (omega (arith, e, c .if2 .taken)))), λ z. absurd (omega (arith, z)))
+    let f = result-read (s .args .room) (made s) (omega (arith, e, c .before .if1 .left)) ∙ read-out (made s) (inr (omega (arith, e, c .if2 .taken))) in
+    record { faulty = sym f; begins = λ z. absurd (omega (arith, z)) }
 
 spliced-requires : tie.Need-spliced-requires
 spliced-requires c κs = let s = c .before .before .before .before .before .before in
@@ -62,13 +63,15 @@ same-length : tie.Need-same-length
 same-length c = search needs
 
 returns-3 : tie.Need-returns-3
-returns-3 c = let s = c .before .before .before .before .before .before .before .before .before .before .before .before in (
-  c .number-of .ensures
-      ∙ ap numberOf (c .before .judge .ensures)
-      ∙ ap readFault (begins (c .before .before .before .before .before))
-      ∙ sym (result-read (s .args .room) (made s) (omega (arith, made-length s, c .before .before .before .before .before .before .before .before .if1 .left))),
-  λ z. c .before .before .before .before .before .spliced .ensures,
-)
+returns-3 c = let s = c .before .before .before .before .before .before .before .before .before .before .before .before in
+    record {
+      faulty =
+          c .number-of .ensures
+          ∙ ap numberOf (c .before .judge .ensures)
+          ∙ ap readFault (begins (c .before .before .before .before .before))
+          ∙ sym (result-read (s .args .room) (made s) (omega (arith, made-length s, c .before .before .before .before .before .before .before .before .if1 .left)));
+      begins = λ z. c .before .before .before .before .before .spliced .ensures;
+    }
 
 pub result-spec : {M : Type 1} → statement M
 result-spec =

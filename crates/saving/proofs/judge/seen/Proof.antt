@@ -1,4 +1,4 @@
--- At the loop's head `at` is the place of the chain k, and no record before it is the old one.
+-- At the loop's head `at` is the place of `chain`, and no record before it is the old one.
 use Prim.Native.Nat.{ℕ, _≤_, _<_, _+_, _-_}
 use mathlib.Core.Path.{_≡_, ap, sym, _∙_}
 use mathlib.Core.Bool.{true}
@@ -19,14 +19,14 @@ use Rattle.saving.proofs.judge.seen.Statement.{statement}
 use Rattle.saving.proofs.judge.seen.Tie as tie
 
 abbrev Inv-loop : tie.InvT-loop
-Inv-loop s old chains at₀ k₀ at k =
-    (k ≤ tableOf s .count) × (at ≡ placeOf (tableOf s) k) × ((j : ℕ) → j < k → same (recordOf s j) old ≡ true → ⊥)
+Inv-loop s old chains at₀ chain₀ at chain =
+    (chain ≤ tableOf s .count) × (at ≡ placeOf (tableOf s) chain) × ((j : ℕ) → j < chain → same (recordOf s j) old ≡ true → ⊥)
 
 abbrev μ-loop : tie.MeasureT-loop
-μ-loop s old chains at₀ k₀ at k = tableOf s .count - k
+μ-loop s old chains at₀ chain₀ at chain = tableOf s .count - chain
 
--- the chain k is there
-within : (c : tie.In-loop Inv-loop μ-loop) → c .before .loop .k < tableOf (now (c .before .before .before .before .before .args .s)) .count
+-- `chain` is there
+within : (c : tie.In-loop Inv-loop μ-loop) → c .before .loop .chain < tableOf (now (c .before .before .before .before .before .args .s)) .count
 within c = omega (arith, c .before .before .count .ensures, c .loop-test .taken)
 
 there : (c : tie.In-loop Inv-loop μ-loop) → Stands (now (c .before .before .before .before .before .args .s)) (c .before .loop .at)
@@ -34,11 +34,11 @@ there c = stands (c .before .before .before .before .before .pre) (c .before .lo
 
 -- its record, as the loop takes it
 taken : (c : tie.After-record-length Inv-loop μ-loop)
-    → recordOf (now (c .before .before .before .before .before .before .args .s)) (c .before .before .loop .k) ≡ take (c .before .before .loop .at + c .record-length .result - c .before .before .loop .at) (drop (c .before .before .loop .at) (now (c .before .before .before .before .before .before .args .s)))
+    → recordOf (now (c .before .before .before .before .before .before .args .s)) (c .before .before .loop .chain) ≡ take (c .before .before .loop .at + c .record-length .result - c .before .before .loop .at) (drop (c .before .before .loop .at) (now (c .before .before .before .before .before .before .args .s)))
 unfolding recordOf
 taken c = let s = now (c .before .before .before .before .before .before .args .s) in
     let l = c .before .before .loop in
-    let e : l .at + c .record-length .result - l .at ≡ lengthOf (rowOf (tableOf s) (l .k)) = omega (arith, c .record-length .ensures, length-at s (l .at), ap lengthOf (row-there (c .before .before .before .before .before .before .pre) (l .inv .1) (within (c .before)))) in
+    let e : l .at + c .record-length .result - l .at ≡ lengthOf (rowOf (tableOf s) (l .chain)) = omega (arith, c .record-length .ensures, length-at s (l .at), ap lengthOf (row-there (c .before .before .before .before .before .before .pre) (l .inv .1) (within (c .before)))) in
     rw (e, l .inv .1)
 
 count-requires : tie.Need-count-requires Inv-loop μ-loop
@@ -67,10 +67,10 @@ same-requires c κs = tt
 
 returns : tie.Need-returns Inv-loop μ-loop
 returns c = let l = c .before .before .before .before .before .loop in
-    sym (seen-is (now (c .before .before .before .before .before .before .before .before .before .args .s)) (now (c .before .before .before .before .before .before .before .before .before .args .old)) (l .k) (within (c .before .before .before .before)) (rw (taken (c .before .before .before)) (sym (c .before .same .ensures) ∙ c .if1 .taken)) (l .inv .2))
+    sym (seen-is (now (c .before .before .before .before .before .before .before .before .before .args .s)) (now (c .before .before .before .before .before .before .before .before .before .args .old)) (l .chain) (within (c .before .before .before .before)) (rw (taken (c .before .before .before)) (sym (c .before .same .ensures) ∙ c .if1 .taken)) (l .inv .2))
 
-add-k : tie.Need-add-k Inv-loop μ-loop
-add-k c = omega (arith, c .before .before .before .before .before .before .before .before .before .pre .good .few, within (c .before .before .before .before))
+add-chain : tie.Need-add-chain Inv-loop μ-loop
+add-chain c = omega (arith, c .before .before .before .before .before .before .before .before .before .pre .good .few, within (c .before .before .before .before))
 
 loop-less : tie.Need-loop-less Inv-loop μ-loop
 loop-less c = omega (arith, within (c .before .before .before .before))
@@ -84,7 +84,7 @@ loop-again c = let l = c .before .before .before .before .before .loop in (
 
 returns-2 : tie.Need-returns-2 Inv-loop μ-loop
 returns-2 c = let l = c .before .loop in
-    let e : l .k ≡ tableOf (now (c .before .before .before .before .before .args .s)) .count = omega (arith, c .before .before .count .ensures, c .loop-test .left) in
+    let e : l .chain ≡ tableOf (now (c .before .before .before .before .before .args .s)) .count = omega (arith, c .before .before .count .ensures, c .loop-test .left) in
     e ∙ sym (seen-none (now (c .before .before .before .before .before .args .s)) (now (c .before .before .before .before .before .args .old)) (λ j h. l .inv .2 j (omega (arith, h, e))))
 
 pub seen-spec : {M : Type 1} → statement M
@@ -102,7 +102,7 @@ seen-spec =
     part-same-end
     same-requires
     returns
-    add-k
+    add-chain
     loop-less
     loop-again
     returns-2)

@@ -27,14 +27,18 @@ record-length-requires c κs = search needs
 
 returns-3 : tie.Need-returns-3
 unfolding unfit
-returns-3 c = rw (le-ltb _ _ (c .before .before .before .before .before .before .if1 .left), ← c .before .before .before .before .before .u16-at .ensures, ← c .before .before .before .before .mark-of .ensures, ← c .before .before .before .is-chain .ensures, c .before .before .if2 .left, ← c .before .record-length .ensures, ne-eqb _ _ (c .if3 .taken))
+returns-3 c =
+    let m = c .before .before .before in
+    rw (le-ltb _ _ (m .before .before .before .if1 .left), ← m .before .before .u16-at .ensures, ← m .before .mark-of .ensures, ← m .is-chain .ensures, c .before .before .if2 .left, ← c .before .record-length .ensures, ne-eqb _ _ (c .if3 .taken))
 
 id-at-requires : tie.Need-id-at-requires
 id-at-requires c κs = search needs
 
 returns-4 : tie.Need-returns-4
 unfolding unfit
-returns-4 c = rw (le-ltb _ _ (c .before .before .before .before .before .before .before .if1 .left), ← c .before .before .before .before .before .before .u16-at .ensures, ← c .before .before .before .before .before .mark-of .ensures, ← c .before .before .before .before .is-chain .ensures, c .before .before .before .if2 .left, ← c .before .before .record-length .ensures, eq-eqb _ _ (c .before .if3 .left), ← c .id-at .ensures)
+returns-4 c =
+    let m = c .before .before .before .before in
+    rw (le-ltb _ _ (m .before .before .before .if1 .left), ← m .before .before .u16-at .ensures, ← m .before .mark-of .ensures, ← m .is-chain .ensures, c .before .before .before .if2 .left, ← c .before .before .record-length .ensures, eq-eqb _ _ (c .before .if3 .left), ← c .id-at .ensures)
 
 pub unfit-spec : {M : Type 1} → statement M
 unfit-spec =

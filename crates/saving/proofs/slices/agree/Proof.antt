@@ -12,13 +12,13 @@ use Rattle.saving.proofs.slices.agree.Statement.{statement}
 use Rattle.saving.proofs.slices.agree.Tie as tie
 
 abbrev Inv-loop : tie.InvT-loop
-Inv-loop a b i₀ i = (i ≤ length a) × ((k : ℕ) → k < i → getD a k 0 ≡ getD b k 0)
+Inv-loop a b i₀ i = (i ≤ length a) × ((j : ℕ) → j < i → getD a j 0 ≡ getD b j 0)
 
 abbrev μ-loop : tie.MeasureT-loop
 μ-loop a b i₀ i = length a - i
 
 loop-holds : tie.Need-loop-holds Inv-loop μ-loop
-loop-holds c = (omega arith, λ k h. absurd (omega (arith, h)))
+loop-holds c = (omega arith, λ j h. absurd (omega (arith, h)))
 
 sub-loop : tie.Need-sub-loop Inv-loop μ-loop
 sub-loop c = omega (arith, c .loop .inv .0)
@@ -41,11 +41,11 @@ loop-again c =
     let l = c .before .before .before .before .loop in
     let e = sym (c .before .before .u32-at .ensures) ∙ eqb-true _ _ (c .if1 .taken) ∙ c .before .u32-at2 .ensures in (
       omega (arith, l .inv .0, c .before .before .before .loop-test .taken),
-      λ k h. ⊎-elim (l .inv .1 k)
-          (λ g. let n : l .i + (k - l .i) ≡ k = omega arith in
+      λ j h. ⊎-elim (l .inv .1 j)
+          (λ g. let n : l .i + (j - l .i) ≡ j = omega arith in
           subst (λ m. getD (now (s .args .a)) m 0 ≡ getD (now (s .args .b)) m 0) n
-          (word-same 4 (now (s .args .a)) (now (s .args .b)) (l .i) (l .i) (λ j. omega (arith, c .before .before .before .before .before .before .shared-slice-known .given j)) (λ j. omega (arith, c .before .before .before .before .before .shared-slice-known2 .given j)) e (k - l .i) (omega (arith, h, g))))
-          (lt-or-le k (l .i)),
+          (word-same 4 (now (s .args .a)) (now (s .args .b)) (l .i) (l .i) (λ j. omega (arith, c .before .before .before .before .before .before .shared-slice-known .given j)) (λ j. omega (arith, c .before .before .before .before .before .shared-slice-known2 .given j)) e (j - l .i) (omega (arith, h, g))))
+          (lt-or-le j (l .i)),
     )
 
 returns : tie.Need-returns Inv-loop μ-loop

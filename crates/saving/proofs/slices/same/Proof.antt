@@ -12,7 +12,7 @@ use Rattle.saving.proofs.slices.same.Statement.{statement}
 use Rattle.saving.proofs.slices.same.Tie as tie
 
 abbrev Inv-loop : tie.InvT-loop
-Inv-loop a b i₀ i = (i ≤ length a) × ((k : ℕ) → k < i → getD a k 0 ≡ getD b k 0)
+Inv-loop a b i₀ i = (i ≤ length a) × ((j : ℕ) → j < i → getD a j 0 ≡ getD b j 0)
 
 abbrev μ-loop : tie.MeasureT-loop
 μ-loop a b i₀ i = length a - i
@@ -49,7 +49,7 @@ loop-again c = (omega arith, below-more _ _ (c .before .before .before .before .
 returns-3 : tie.Need-returns-3 Inv-loop μ-loop
 returns-3 c = let a = c .before .before .before .before .before .before .args in
     let l = c .before .loop in
-    sym (same-yes (now (a .a)) (now (a .b)) (ext-getD 0 (now (a .a)) (now (a .b)) (c .before .before .before .if1 .left) (λ k h. l .inv .1 k (omega (arith, h, c .loop-test .left)))))
+    sym (same-yes (now (a .a)) (now (a .b)) (ext-getD 0 (now (a .a)) (now (a .b)) (c .before .before .before .if1 .left) (λ j h. l .inv .1 j (omega (arith, h, c .loop-test .left)))))
 
 pub same-spec : {M : Type 1} → statement M
 same-spec =

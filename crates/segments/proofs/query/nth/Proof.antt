@@ -62,8 +62,8 @@ module _ (c : tie.After-first-task) where
   near : c .first-task .result ≤ longestRecord * maxChains
   near =
       let g = asked .pre .0 .good in
-      let list = g .row (asked .args .chain) (asked .pre .1) .list .few in
-      omega (arith, first-is, place-max (table asked) g (asked .args .chain) (omega (arith, asked .pre .1)), g .few, asked .pre .1, list)
+      let r = g .row (asked .args .chain) (asked .pre .1) in
+      omega (arith, first-is, place-max (table asked) g (asked .args .chain) (omega (arith, asked .pre .1)), g .few, asked .pre .1, r .list .few, r .listed)
 
   few : rowOf (table asked) (asked .args .chain) .tasks ≤ maxTasks
   few = asked .pre .0 .good .row (asked .args .chain) (asked .pre .1) .tasks .few

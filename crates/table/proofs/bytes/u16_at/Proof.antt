@@ -5,20 +5,20 @@ use native.Mathlib.Omega.{arith}
 use Rattle.table.proofs.bytes.u16_at.Statement.{statement}
 use Rattle.table.proofs.bytes.u16_at.Tie as tie
 
-shared-slice-read-wide : tie.Need-shared-slice-read-wide
-shared-slice-read-wide c = search needs
+shared-slice-read-u16-from-u8 : tie.Need-shared-slice-read-u16-from-u8
+shared-slice-read-u16-from-u8 c = search needs
 
-wide-requires : tie.Need-wide-requires
-wide-requires c κs = search needs
+u16-from-u8-requires : tie.Need-u16-from-u8-requires
+u16-from-u8-requires c κs = search needs
 
-add-wide : tie.Need-add-wide
-add-wide c = search needs
+add-u16-from-u8 : tie.Need-add-u16-from-u8
+add-u16-from-u8 c = search needs
 
-shared-slice-read-wide-2 : tie.Need-shared-slice-read-wide-2
-shared-slice-read-wide-2 c = search needs
+shared-slice-read-u16-from-u8-2 : tie.Need-shared-slice-read-u16-from-u8-2
+shared-slice-read-u16-from-u8-2 c = search needs
 
-wide-requires-2 : tie.Need-wide-requires-2
-wide-requires-2 c κs = search needs
+u16-from-u8-requires-2 : tie.Need-u16-from-u8-requires-2
+u16-from-u8-requires-2 c κs = search needs
 
 mul-result : tie.Need-mul-result
 mul-result c = search needs
@@ -28,17 +28,17 @@ add-result c = search needs
 
 returns : tie.Need-returns
 unfolding word
-returns c = omega (arith, c .wide2 .ensures .0, c .before .before .wide .ensures .0)
+returns c = omega (arith, c .u16-from-u82 .ensures .0, c .before .before .u16-from-u8 .ensures .0)
 
 pub u16-at-spec : {M : Type 1} → statement M
 u16-at-spec =
     tie.close
     (tie.spec
-    shared-slice-read-wide
-    wide-requires
-    add-wide
-    shared-slice-read-wide-2
-    wide-requires-2
+    shared-slice-read-u16-from-u8
+    u16-from-u8-requires
+    add-u16-from-u8
+    shared-slice-read-u16-from-u8-2
+    u16-from-u8-requires-2
     mul-result
     add-result
     returns)

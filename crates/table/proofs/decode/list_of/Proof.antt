@@ -1,4 +1,4 @@
--- The loop has stored the first k numbers, with 0 past them.
+-- The loop has stored the first i numbers, with 0 past them.
 use Prim.Native.Nat.{_≤_, _-_}
 use mathlib.Core.Path.{_≡_}
 use denote.Ref.{now}
@@ -10,10 +10,10 @@ use Rattle.table.proofs.decode.list_of.Statement.{statement}
 use Rattle.table.proofs.decode.list_of.Tie as tie
 
 abbrev Inv-loop : tie.InvT-loop
-Inv-loop s from n list₀ k₀ list k = (k ≤ n) × (list ≡ pad 8 (spaced (word 4 s) 4 k from))
+Inv-loop s from n list₀ i₀ list i = (i ≤ n) × (list ≡ pad 8 (spaced (word 4 s) 4 i from))
 
 abbrev μ-loop : tie.MeasureT-loop
-μ-loop s from n list₀ k₀ list k = n - k
+μ-loop s from n list₀ i₀ list i = n - i
 
 loop-holds : tie.Need-loop-holds Inv-loop μ-loop
 loop-holds c = (omega arith, pad-none (word 4 (now (c .before .args .s))) 4 8 (c .before .args .from))
@@ -33,18 +33,18 @@ mul-list c = omega arith
 array-write-list : tie.Need-array-write-list Inv-loop μ-loop
 array-write-list c = omega arith
 
-add-k : tie.Need-add-k Inv-loop μ-loop
-add-k c = omega arith
+add-i : tie.Need-add-i Inv-loop μ-loop
+add-i c = omega arith
 
 loop-less : tie.Need-loop-less Inv-loop μ-loop
 loop-less c = omega arith
 
 loop-again : tie.Need-loop-again Inv-loop μ-loop
 loop-again c = let a = c .before .before .before .before .args in
-    (omega arith, cc (pad-on (word 4 (now (a .s))) 4 8 (c .before .before .loop .k) (a .from) (omega arith)))
+    (omega arith, cc (pad-on (word 4 (now (a .s))) 4 8 (c .before .before .loop .i) (a .from) (omega arith)))
 
 returns : tie.Need-returns Inv-loop μ-loop
-returns c = let e : c .before .loop .k ≡ c .before .before .before .args .n = omega arith in
+returns c = let e : c .before .loop .i ≡ c .before .before .before .args .n = omega arith in
     cc
 
 pub list-of-spec : {M : Type 1} → statement M
@@ -59,7 +59,7 @@ list-of-spec =
     u32-at-requires
     mul-list
     array-write-list
-    add-k
+    add-i
     loop-less
     loop-again
     returns)

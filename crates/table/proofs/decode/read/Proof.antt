@@ -18,7 +18,7 @@ enum-told c = search needs
 
 rows-requires : tie.Need-rows-requires
 rows-requires c κs =
-    taken (now (c .before .before .before .before .args .s)) (λ k. omega (arith, c .before .before .before .shared-slice-known .given k)) (sym (c .before .before .judge .ensures) ∙ c .enum-told .given .1)
+    taken (now (c .before .before .before .before .args .s)) (λ i. omega (arith, c .before .before .before .shared-slice-known .given i)) (sym (c .before .before .judge .ensures) ∙ c .enum-told .given .1)
 
 enum-told-2 : tie.Need-enum-told-2
 enum-told-2 c = search needs

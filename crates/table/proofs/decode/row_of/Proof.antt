@@ -16,7 +16,7 @@ add-list-of c = search needs
 
 list-of-requires : tie.Need-list-of-requires
 unfolding rowAt
-list-of-requires c κs = let n = c .before .listed-at .ensures .0 in (omega (arith, n, c .before .before .before .pre .good .list .few), omega (arith, n, c .before .before .before .pre .there))
+list-of-requires c κs = let n = c .before .listed-at .ensures .0 in (omega (arith, n, c .before .before .before .pre .good .list .few, c .before .before .before .pre .good .listed), omega (arith, n, c .before .before .before .pre .there))
 
 first-task-requires : tie.Need-first-task-requires
 first-task-requires c κs = search needs
@@ -42,7 +42,20 @@ gap-at-requires c κs = search needs
 
 returns : tie.Need-returns
 unfolding rowAt
-returns c = cc
+returns c =
+    rw (
+      c .before .before .before .before .before .before .before .before .before .list-of .ensures,
+      c .before .before .before .before .before .before .before .tasks-of .ensures .0,
+      c .before .before .before .before .before .before .before .tasks-of .ensures .1,
+      c .before .before .before .before .before .before .before .before .before .before .before .listed-at .ensures .0,
+      c .before .before .before .before .before .before .before .before .before .before .tasks-at .ensures .0,
+      c .before .before .before .before .before .before .before .before .first-task .ensures,
+      c .before .before .before .before .id-at .ensures,
+      c .before .before .before .kind-at .ensures,
+      c .before .before .overload-at .ensures,
+      c .before .deadline-at .ensures,
+      c .gap-at .ensures,
+    )
 
 pub row-of-spec : {M : Type 1} → statement M
 row-of-spec =

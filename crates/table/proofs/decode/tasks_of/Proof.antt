@@ -1,4 +1,4 @@
--- The loop has stored what the first k tasks hold, with 0 past them.
+-- The loop has stored what the first i tasks hold, with 0 past them.
 use Prim.Native.Nat.{_≤_, _-_}
 use mathlib.Core.Path.{_≡_}
 use denote.Ref.{now}
@@ -9,10 +9,10 @@ use Rattle.table.proofs.decode.tasks_of.Statement.{statement}
 use Rattle.table.proofs.decode.tasks_of.Tie as tie
 
 abbrev Inv-loop : tie.InvT-loop
-Inv-loop s from n priority₀ cost₀ k₀ priority cost k = (k ≤ n) × (priority ≡ pad 16 (spaced (priorityAt s) 8 k from)) × (cost ≡ pad 16 (spaced (costAt s) 8 k from))
+Inv-loop s from n priority₀ cost₀ i₀ priority cost i = (i ≤ n) × (priority ≡ pad 16 (spaced (priorityAt s) 8 i from)) × (cost ≡ pad 16 (spaced (costAt s) 8 i from))
 
 abbrev μ-loop : tie.MeasureT-loop
-μ-loop s from n priority₀ cost₀ k₀ priority cost k = n - k
+μ-loop s from n priority₀ cost₀ i₀ priority cost i = n - i
 
 loop-holds : tie.Need-loop-holds Inv-loop μ-loop
 loop-holds c = let a = c .before .args in
@@ -54,22 +54,22 @@ mul-cost c = omega arith
 array-write-cost : tie.Need-array-write-cost Inv-loop μ-loop
 array-write-cost c = omega arith
 
-add-k : tie.Need-add-k Inv-loop μ-loop
-add-k c = omega arith
+add-i : tie.Need-add-i Inv-loop μ-loop
+add-i c = omega arith
 
 loop-less : tie.Need-loop-less Inv-loop μ-loop
 loop-less c = omega arith
 
 loop-again : tie.Need-loop-again Inv-loop μ-loop
 loop-again c = let a = c .before .before .before .before .before .args in
-    let k = c .before .before .before .loop .k in (
+    let i = c .before .before .before .loop .i in (
       omega arith,
-      cc (pad-on (priorityAt (now (a .s))) 8 16 k (a .from) (omega arith)),
-      cc (pad-on (costAt (now (a .s))) 8 16 k (a .from) (omega arith)),
+      cc (pad-on (priorityAt (now (a .s))) 8 16 i (a .from) (omega arith)),
+      cc (pad-on (costAt (now (a .s))) 8 16 i (a .from) (omega arith)),
     )
 
 returns : tie.Need-returns Inv-loop μ-loop
-returns c = let e : c .before .loop .k ≡ c .before .before .before .args .n = omega arith in
+returns c = let e : c .before .loop .i ≡ c .before .before .before .args .n = omega arith in
     (cc, cc)
 
 pub tasks-of-spec : {M : Type 1} → statement M
@@ -91,7 +91,7 @@ tasks-of-spec =
     u32-at-requires
     mul-cost
     array-write-cost
-    add-k
+    add-i
     loop-less
     loop-again
     returns)

@@ -6,19 +6,19 @@ use Rattle.table.specs.Bytes.{word}
 use Rattle.table.specs.Record.{spaced}
 use native.Mathlib.Nat.{mul-le-mul-left}
 use Rattle.table.specs.Fault.{gapShort}
-use Rattle.table.proofs.Lists.{every-start, every-on, every-end, gap-yes, gap-no, gap-end}
+use Rattle.table.proofs.Lists.{spaced-start, spaced-on, spaced-end, gap-yes, gap-no, gap-end}
 use native.Mathlib.Omega.{arith}
 use Rattle.table.proofs.fault.gap_short.Statement.{statement}
 use Rattle.table.proofs.fault.gap_short.Tie as tie
 
 abbrev Inv-loop : tie.InvT-loop
-Inv-loop s at n gap k₀ k = (k ≤ n) × (gapShort gap (k + 1) (spaced (word 4 s) 4 (n - k) (at + 4 * k)) ≡ gapShort gap 1 (spaced (word 4 s) 4 n at))
+Inv-loop s at n gap i₀ i = (i ≤ n) × (gapShort gap (i + 1) (spaced (word 4 s) 4 (n - i) (at + 4 * i)) ≡ gapShort gap 1 (spaced (word 4 s) 4 n at))
 
 abbrev μ-loop : tie.MeasureT-loop
-μ-loop s at n gap k₀ k = n - k
+μ-loop s at n gap i₀ i = n - i
 
 loop-holds : tie.Need-loop-holds Inv-loop μ-loop
-loop-holds c = (omega arith, ap (gapShort (c .before .args .gap) 1) (every-start (word 4 (now (c .before .args .s))) 4 (c .before .args .n) (c .before .args .at)))
+loop-holds c = (omega arith, ap (gapShort (c .before .args .gap) 1) (spaced-start (word 4 (now (c .before .args .s))) 4 (c .before .args .n) (c .before .args .at)))
 
 mul-u32-at : tie.Need-mul-u32-at Inv-loop μ-loop
 mul-u32-at c = omega arith
@@ -33,7 +33,7 @@ add-if1 : tie.Need-add-if1 Inv-loop μ-loop
 add-if1 c = omega arith
 
 mul-if1 : tie.Need-mul-if1 Inv-loop μ-loop
-mul-if1 c = let h : c .before .before .loop .k + 1 ≤ 256 = omega arith in
+mul-if1 c = let h : c .before .before .loop .i + 1 ≤ 256 = omega arith in
     omega (arith, mul-le-mul-left (c .before .before .before .before .args .gap) h)
 
 cast-if1 : tie.Need-cast-if1 Inv-loop μ-loop
@@ -42,10 +42,10 @@ cast-if1 c = omega arith
 returns : tie.Need-returns Inv-loop μ-loop
 returns c = let a = c .before .before .before .before .before .args in
     let l = c .before .before .before .loop in
-    cc (every-on (word 4 (now (a .s))) 4 (a .n) (l .k) (a .at) (omega arith), gap-yes (a .gap) (l .k + 1) (c .before .u32-at .result) (spaced (word 4 (now (a .s))) 4 (a .n - (l .k + 1)) (a .at + 4 * (l .k + 1))) (c .if1 .taken))
+    cc (spaced-on (word 4 (now (a .s))) 4 (a .n) (l .i) (a .at) (omega arith), gap-yes (a .gap) (l .i + 1) (c .before .u32-at .result) (spaced (word 4 (now (a .s))) 4 (a .n - (l .i + 1)) (a .at + 4 * (l .i + 1))) (c .if1 .taken))
 
-add-k : tie.Need-add-k Inv-loop μ-loop
-add-k c = omega arith
+add-i : tie.Need-add-i Inv-loop μ-loop
+add-i c = omega arith
 
 loop-less : tie.Need-loop-less Inv-loop μ-loop
 loop-less c = omega arith
@@ -53,12 +53,12 @@ loop-less c = omega arith
 loop-again : tie.Need-loop-again Inv-loop μ-loop
 loop-again c = let a = c .before .before .before .before .before .args in
     let l = c .before .before .before .loop in
-    (omega arith, cc (every-on (word 4 (now (a .s))) 4 (a .n) (l .k) (a .at) (omega arith), gap-no (a .gap) (l .k + 1) (c .before .u32-at .result) (spaced (word 4 (now (a .s))) 4 (a .n - (l .k + 1)) (a .at + 4 * (l .k + 1))) (c .if1 .left)))
+    (omega arith, cc (spaced-on (word 4 (now (a .s))) 4 (a .n) (l .i) (a .at) (omega arith), gap-no (a .gap) (l .i + 1) (c .before .u32-at .result) (spaced (word 4 (now (a .s))) 4 (a .n - (l .i + 1)) (a .at + 4 * (l .i + 1))) (c .if1 .left)))
 
 returns-2 : tie.Need-returns-2 Inv-loop μ-loop
 returns-2 c = let a = c .before .before .before .args in
     let l = c .before .loop in
-    cc (every-end (word 4 (now (a .s))) 4 (a .n) (l .k) (a .at + 4 * l .k) (omega arith), gap-end (a .gap) (l .k + 1))
+    cc (spaced-end (word 4 (now (a .s))) 4 (a .n) (l .i) (a .at + 4 * l .i) (omega arith), gap-end (a .gap) (l .i + 1))
 
 pub gap-short-spec : {M : Type 1} → statement M
 gap-short-spec =
@@ -74,7 +74,7 @@ gap-short-spec =
     mul-if1
     cast-if1
     returns
-    add-k
+    add-i
     loop-less
     loop-again
     returns-2)

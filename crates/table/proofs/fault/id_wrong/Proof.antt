@@ -1,7 +1,7 @@
 -- Each of the two tests decides.
 use borrow.Author.Tests.{eq-eqb, ne-eqb}
 use borrow.Author.Needs.{needs}
-use Rattle.table.proofs.Before.{used-ids}
+use Rattle.table.proofs.Earlier.{used-before}
 use Rattle.table.proofs.fault.id_wrong.Statement.{statement}
 use Rattle.table.proofs.fault.id_wrong.Tie as tie
 
@@ -9,10 +9,10 @@ same-id-requires : tie.Need-same-id-requires
 same-id-requires c κs = search needs
 
 returns : tie.Need-returns
-returns c t tasks before = simp (eq-eqb _ _ (c .if1 .taken))
+returns c t before = rw (eq-eqb _ _ (c .if1 .taken))
 
 returns-2 : tie.Need-returns-2
-returns-2 c t tasks before = rw (c .same-id .ensures, ne-eqb _ _ (c .before .if1 .left), used-ids before _)
+returns-2 c t before = rw (c .same-id .ensures, ne-eqb _ _ (c .before .before .before .if1 .left), before, used-before t _)
 
 pub id-wrong-spec : {M : Type 1} → statement M
 id-wrong-spec = tie.close (tie.spec same-id-requires returns returns-2)

@@ -1,65 +1,60 @@
 -- At each return the tests so far, in order, are what the calls gave.
-use native.Mathlib.Omega.{arith}
-use denote.Ref.{now}
-use borrow.Author.Tests.{eq-eqb, ne-eqb}
+use mathlib.Core.Path.{sym}
+use borrow.Author.Tests.{lt-ltb, le-ltb}
 use Rattle.search.specs.Choice.{_when_else_}
-use Rattle.table.specs.Bytes.{word}
-use Rattle.table.specs.Fault.{listFault}
-use Rattle.table.proofs.Lists.{every-last}
+use Rattle.table.specs.Fault.{_then_, listFault}
+use Rattle.table.proofs.Firsts.{then-stop}
 use borrow.Author.Needs.{needs}
 use Rattle.table.proofs.fault.list_fault.Statement.{statement}
 use Rattle.table.proofs.fault.list_fault.Tie as tie
 
-falls-requires : tie.Need-falls-requires
-falls-requires c κs = search needs
+listed-at-requires : tie.Need-listed-at-requires
+listed-at-requires c κs = search needs
+
+add-from : tie.Need-add-from
+add-from c = search needs
+
+mul-if1 : tie.Need-mul-if1
+mul-if1 c = search needs
+
+add-if1 : tie.Need-add-if1
+add-if1 c = search needs
 
 returns : tie.Need-returns
-unfolding listFault _when_else_
-returns c = rw (← c .before .falls .ensures, c .if1 .taken)
+unfolding listFault _when_else_ _then_
+returns c = rw (← c .before .listed-at .ensures .0, lt-ltb _ _ (c .if1 .taken))
 
-sub-u32-at : tie.Need-sub-u32-at
-sub-u32-at c = search needs
+distances-fault-requires : tie.Need-distances-fault-requires
+distances-fault-requires c κs = search needs
 
-mul-u32-at : tie.Need-mul-u32-at
-mul-u32-at c = search needs
+gap-at-requires : tie.Need-gap-at-requires
+gap-at-requires c κs = search needs
 
-add-u32-at : tie.Need-add-u32-at
-add-u32-at c = search needs
-
-u32-at-requires : tie.Need-u32-at-requires
-u32-at-requires c κs = search needs
+gap-fault-requires : tie.Need-gap-fault-requires
+gap-fault-requires c κs = search needs
 
 returns-2 : tie.Need-returns-2
-unfolding listFault _when_else_
-returns-2 c = rw (← c .before .before .before .falls .ensures, c .before .before .if1 .left, every-last (word 4 (now (c .before .before .before .before .before .args .s))) 4 (c .before .before .before .before .before .args .n) (c .before .before .before .before .before .args .at) (omega arith), ← c .before .u32-at .ensures, eq-eqb _ _ (c .if2 .taken))
+unfolding listFault _when_else_ _then_
+returns-2 c =
+    let d = c .before .before .before in
+    let n = d .before .before in
+    rw (← n .listed-at .ensures .0, le-ltb _ _ (d .before .if1 .left), ← d .distances-fault .ensures, c .before .before .match .keys1, ← c .before .gap-at .ensures, ← c .gap-fault .ensures)
 
 returns-3 : tie.Need-returns-3
-unfolding listFault _when_else_
-returns-3 c = rw (← c .before .before .before .before .falls .ensures, c .before .before .before .if1 .left, every-last (word 4 (now (c .before .before .before .before .before .before .args .s))) 4 (c .before .before .before .before .before .before .args .n) (c .before .before .before .before .before .before .args .at) (omega arith), ← c .before .before .u32-at .ensures, ne-eqb _ _ (c .before .if2 .left), eq-eqb _ _ (c .if3 .taken))
-
-gap-short-requires : tie.Need-gap-short-requires
-gap-short-requires c κs = search needs
-
-returns-4 : tie.Need-returns-4
-unfolding listFault _when_else_
-returns-4 c = rw (← c .before .before .before .before .before .before .falls .ensures, c .before .before .before .before .before .if1 .left, every-last (word 4 (now (c .before .before .before .before .before .before .before .before .args .s))) 4 (c .before .before .before .before .before .before .before .before .args .n) (c .before .before .before .before .before .before .before .before .args .at) (omega arith), ← c .before .before .before .before .u32-at .ensures, ne-eqb _ _ (c .before .before .before .if2 .left), ne-eqb _ _ (c .before .before .if3 .left), ← c .before .gap-short .ensures, c .if4 .taken)
-
-returns-5 : tie.Need-returns-5
-unfolding listFault _when_else_
-returns-5 c = rw (← c .before .before .before .before .before .before .falls .ensures, c .before .before .before .before .before .if1 .left, every-last (word 4 (now (c .before .before .before .before .before .before .before .before .args .s))) 4 (c .before .before .before .before .before .before .before .before .args .n) (c .before .before .before .before .before .before .before .before .args .at) (omega arith), ← c .before .before .before .before .u32-at .ensures, ne-eqb _ _ (c .before .before .before .if2 .left), ne-eqb _ _ (c .before .before .if3 .left), ← c .before .gap-short .ensures, c .if4 .left)
+unfolding listFault _when_else_ _then_
+returns-3 c = rw (← c .before .before .before .listed-at .ensures .0, le-ltb _ _ (c .before .before .if1 .left), ← c .before .distances-fault .ensures) (sym (then-stop _ _ (c .match .rest .1)))
 
 pub list-fault-spec : {M : Type 1} → statement M
 list-fault-spec =
     tie.close
     (tie.spec
-    falls-requires
+    listed-at-requires
+    add-from
+    mul-if1
+    add-if1
     returns
-    sub-u32-at
-    mul-u32-at
-    add-u32-at
-    u32-at-requires
+    distances-fault-requires
+    gap-at-requires
+    gap-fault-requires
     returns-2
-    returns-3
-    gap-short-requires
-    returns-4
-    returns-5)
+    returns-3)

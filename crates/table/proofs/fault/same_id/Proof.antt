@@ -1,4 +1,4 @@
--- None of the first k ids is this one.
+-- None of the first i ids is this one.
 use Prim.Native.Nat.{ℕ, _+_, _≤_, _<_, _-_}
 use mathlib.Core.Path.{_≡_, sym, _∙_}
 use mathlib.Core.Bool.{true}
@@ -13,10 +13,10 @@ use Rattle.table.proofs.fault.same_id.Statement.{statement}
 use Rattle.table.proofs.fault.same_id.Tie as tie
 
 abbrev Inv-loop : tie.InvT-loop
-Inv-loop ids count id k₀ k = (k ≤ count) × ((j : ℕ) → j < k → eqb (getD ids j 0) id ≡ true → ⊥)
+Inv-loop ids count id i₀ i = (i ≤ count) × ((j : ℕ) → j < i → eqb (getD ids j 0) id ≡ true → ⊥)
 
 abbrev μ-loop : tie.MeasureT-loop
-μ-loop ids count id k₀ k = count - k
+μ-loop ids count id i₀ i = count - i
 
 loop-holds : tie.Need-loop-holds Inv-loop μ-loop
 loop-holds c = (omega arith, λ j h e. absurd (omega (arith, h)))
@@ -30,11 +30,11 @@ element-copy-out-if1 c = omega arith
 returns : tie.Need-returns Inv-loop μ-loop
 returns c = let s = c .before .before .before .before in
     let l = c .before .before .before .loop in
-    sym (first-is (λ j. eqb (getD (now (s .args .ids)) j 0) (s .args .id)) 0 (s .args .count) (l .k) (omega arith) (omega arith)
+    sym (first-is (λ j. eqb (getD (now (s .args .ids)) j 0) (s .args .id)) 0 (s .args .count) (l .i) (omega arith) (omega arith)
     (eq-eqb _ _ (c .if1 .taken)) (λ j a h e. l .inv .1 j h e))
 
-add-k : tie.Need-add-k Inv-loop μ-loop
-add-k c = omega arith
+add-i : tie.Need-add-i Inv-loop μ-loop
+add-i c = omega arith
 
 loop-less : tie.Need-loop-less Inv-loop μ-loop
 loop-less c = omega arith
@@ -49,7 +49,7 @@ loop-again c = (
 returns-2 : tie.Need-returns-2 Inv-loop μ-loop
 returns-2 c = let s = c .before .before in
     let l = c .before .loop in
-    let e : l .k ≡ 0 + s .args .count = omega arith in
+    let e : l .i ≡ 0 + s .args .count = omega arith in
     e ∙ sym (first-none (λ j. eqb (getD (now (s .args .ids)) j 0) (s .args .id)) 0 (s .args .count) (λ j a h p. l .inv .1 j (omega arith) p))
 
 pub same-id-spec : {M : Type 1} → statement M
@@ -62,7 +62,7 @@ same-id-spec =
     mul-if1
     element-copy-out-if1
     returns
-    add-k
+    add-i
     loop-less
     loop-again
     returns-2)

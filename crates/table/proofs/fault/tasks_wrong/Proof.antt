@@ -6,9 +6,6 @@ use Rattle.table.proofs.fault.tasks_wrong.Tie as tie
 cast-outside : tie.Need-cast-outside
 cast-outside c = search needs
 
-cast-outside-2 : tie.Need-cast-outside-2
-cast-outside-2 c = search needs
-
 outside-requires : tie.Need-outside-requires
 outside-requires c κs = search needs
 
@@ -22,5 +19,4 @@ returns-2 : tie.Need-returns-2
 returns-2 c = rw (← c .before .outside .ensures, c .if1 .left)
 
 pub tasks-wrong-spec : {M : Type 1} → statement M
-tasks-wrong-spec =
-    tie.close (tie.spec cast-outside cast-outside-2 outside-requires add-result returns returns-2)
+tasks-wrong-spec = tie.close (tie.spec cast-outside outside-requires add-result returns returns-2)

@@ -1,4 +1,4 @@
--- None of the first k chains bears the id; the record of the chain k starts at `at`.
+-- None of the chains before `chain` bears the id; its record starts at `at`.
 use Prim.Native.Nat.{ℕ, _+_, _≤_, _<_, _-_}
 use mathlib.Core.Path.{_≡_, ap, sym, _∙_}
 use mathlib.Core.Bool.{true}
@@ -19,20 +19,20 @@ use Rattle.table.proofs.places.find.Statement.{statement}
 use Rattle.table.proofs.places.find.Tie as tie
 
 abbrev Inv-loop : tie.InvT-loop
-Inv-loop s id chains at₀ k₀ at k =
-    (k ≤ tableOf s .count) × (at ≡ placeOf (tableOf s) k) × ((j : ℕ) → j < k → eqb (rowOf (tableOf s) j .id) id ≡ true → ⊥)
+Inv-loop s id chains at₀ chain₀ at chain =
+    (chain ≤ tableOf s .count) × (at ≡ placeOf (tableOf s) chain) × ((j : ℕ) → j < chain → eqb (rowOf (tableOf s) j .id) id ≡ true → ⊥)
 
 abbrev μ-loop : tie.MeasureT-loop
-μ-loop s id chains at₀ k₀ at k = tableOf s .count - k
+μ-loop s id chains at₀ chain₀ at chain = tableOf s .count - chain
 
--- the chain k is there
-within : (c : tie.In-loop Inv-loop μ-loop) → c .before .loop .k < tableOf (now (c .before .before .before .before .args .s)) .count
+-- `chain` is there
+within : (c : tie.In-loop Inv-loop μ-loop) → c .before .loop .chain < tableOf (now (c .before .before .before .before .args .s)) .count
 within c = omega (arith, c .before .before .count .ensures, c .loop-test .taken)
 
 -- its id, as the record has it
-bears : (c : tie.After-wide Inv-loop μ-loop) → c .wide .result ≡ rowOf (tableOf (now (c .before .before .before .before .before .before .args .s))) (c .before .before .before .loop .k) .id
+bears : (c : tie.After-u32-from-u16 Inv-loop μ-loop) → c .u32-from-u16 .result ≡ rowOf (tableOf (now (c .before .before .before .before .before .before .args .s))) (c .before .before .before .loop .chain) .id
 unfolding rowAt
-bears c = c .wide .ensures .0 ∙ c .before .id-at .ensures ∙ ap (λ (r : Row). r .id) (row-there (c .before .before .before .before .before .before .pre) (c .before .before .before .loop .inv .1) (within (c .before .before)))
+bears c = c .u32-from-u16 .ensures .0 ∙ c .before .id-at .ensures ∙ ap (λ (r : Row). r .id) (row-there (c .before .before .before .before .before .before .pre) (c .before .before .before .loop .inv .1) (within (c .before .before)))
 
 count-requires : tie.Need-count-requires Inv-loop μ-loop
 count-requires c κs = c .before .pre
@@ -43,14 +43,14 @@ loop-holds c = (omega arith, place-none (tableOf (now (c .before .before .args .
 id-at-requires : tie.Need-id-at-requires Inv-loop μ-loop
 id-at-requires c κs = omega (arith, stands (c .before .before .before .before .pre) (c .before .loop .inv .1) (within c) .there)
 
-wide-requires : tie.Need-wide-requires Inv-loop μ-loop
-wide-requires c κs = tt
+u32-from-u16-requires : tie.Need-u32-from-u16-requires Inv-loop μ-loop
+u32-from-u16-requires c κs = tt
 
 returns : tie.Need-returns Inv-loop μ-loop
 unfolding findOf
 returns c = let t = tableOf (now (c .before .before .before .before .before .before .before .args .s)) in
     let l = c .before .before .before .before .loop in
-    sym (first-is (λ j. eqb (rowOf t j .id) (c .before .before .before .before .before .before .before .args .id)) 0 (t .count) (l .k) (omega arith) (omega (arith, within (c .before .before .before)))
+    sym (first-is (λ j. eqb (rowOf t j .id) (c .before .before .before .before .before .before .before .args .id)) 0 (t .count) (l .chain) (omega arith) (omega (arith, within (c .before .before .before)))
     (eq-eqb _ _ (sym (bears (c .before)) ∙ c .if1 .taken)) (λ j a h e. l .inv .2 j h e))
 
 record-length-requires : tie.Need-record-length-requires Inv-loop μ-loop
@@ -59,8 +59,8 @@ record-length-requires c κs = omega (arith, stands (c .before .before .before .
 add-at : tie.Need-add-at Inv-loop μ-loop
 add-at c = omega (arith, c .record-length .ensures, stands (c .before .before .before .before .before .before .before .before .pre) (c .before .before .before .before .before .loop .inv .1) (within (c .before .before .before .before)) .there)
 
-add-k : tie.Need-add-k Inv-loop μ-loop
-add-k c = omega (arith, c .before .before .before .before .before .before .before .before .pre .good .few, within (c .before .before .before .before))
+add-chain : tie.Need-add-chain Inv-loop μ-loop
+add-chain c = omega (arith, c .before .before .before .before .before .before .before .before .pre .good .few, within (c .before .before .before .before))
 
 loop-less : tie.Need-loop-less Inv-loop μ-loop
 loop-less c = omega (arith, within (c .before .before .before .before))
@@ -76,7 +76,7 @@ returns-2 : tie.Need-returns-2 Inv-loop μ-loop
 unfolding findOf
 returns-2 c = let t = tableOf (now (c .before .before .before .before .args .s)) in
     let l = c .before .loop in
-    let e : l .k ≡ 0 + t .count = omega (arith, c .before .before .count .ensures, c .loop-test .left) in
+    let e : l .chain ≡ 0 + t .count = omega (arith, c .before .before .count .ensures, c .loop-test .left) in
     e ∙ sym (first-none (λ j. eqb (rowOf t j .id) (c .before .before .before .before .args .id)) 0 (t .count) (λ j a h p. l .inv .2 j (omega arith) p))
 
 pub find-spec : {M : Type 1} → statement M
@@ -88,11 +88,11 @@ find-spec =
     count-requires
     loop-holds
     id-at-requires
-    wide-requires
+    u32-from-u16-requires
     returns
     record-length-requires
     add-at
-    add-k
+    add-chain
     loop-less
     loop-again
     returns-2)

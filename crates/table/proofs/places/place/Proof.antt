@@ -1,4 +1,4 @@
--- The loop has come to the chain j, whose record starts at `at`.
+-- The loop has come to the chain i, whose record starts at `at`.
 use Prim.Native.Nat.{_+_, _≤_, _-_}
 use mathlib.Core.Path.{_≡_, ap, _∙_}
 use denote.Ref.{now}
@@ -11,10 +11,10 @@ use Rattle.table.proofs.places.place.Statement.{statement}
 use Rattle.table.proofs.places.place.Tie as tie
 
 abbrev Inv-loop : tie.InvT-loop
-Inv-loop s k at₀ j₀ at j = (j ≤ k) × (at ≡ placeOf (tableOf s) j)
+Inv-loop s chain at₀ i₀ at i = (i ≤ chain) × (at ≡ placeOf (tableOf s) i)
 
 abbrev μ-loop : tie.MeasureT-loop
-μ-loop s k at₀ j₀ at j = k - j
+μ-loop s chain at₀ i₀ at i = chain - i
 
 loop-holds : tie.Need-loop-holds Inv-loop μ-loop
 loop-holds c = (omega arith, place-none (tableOf (now (c .before .args .s))))
@@ -25,8 +25,8 @@ record-length-requires c κs = omega (arith, stands (c .before .before .before .
 add-at : tie.Need-add-at Inv-loop μ-loop
 add-at c = omega (arith, c .record-length .ensures, stands (c .before .before .before .before .pre .0) (c .before .before .loop .inv .1) (omega (arith, c .before .before .before .before .pre .1)) .there)
 
-add-j : tie.Need-add-j Inv-loop μ-loop
-add-j c = omega arith
+add-i : tie.Need-add-i Inv-loop μ-loop
+add-i c = omega arith
 
 loop-less : tie.Need-loop-less Inv-loop μ-loop
 loop-less c = omega arith
@@ -38,9 +38,9 @@ loop-again c = (
 )
 
 returns : tie.Need-returns Inv-loop μ-loop
-returns c = let e : c .before .loop .j ≡ c .before .before .before .args .k = omega arith in
+returns c = let e : c .before .loop .i ≡ c .before .before .before .args .chain = omega arith in
     c .before .loop .inv .1 ∙ ap (placeOf (tableOf (now (c .before .before .before .args .s)))) e
 
 pub place-spec : {M : Type 1} → statement M
 place-spec =
-    tie.close (tie.spec Inv-loop μ-loop loop-holds record-length-requires add-at add-j loop-less loop-again returns)
+    tie.close (tie.spec Inv-loop μ-loop loop-holds record-length-requires add-at add-i loop-less loop-again returns)

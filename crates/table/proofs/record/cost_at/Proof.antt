@@ -25,7 +25,7 @@ u32-at-requires c κs = search needs
 
 returns : tie.Need-returns
 returns c = let s = c .before .before .before in
-    c .u32-at .ensures ∙ ap (λ n. costAt (now (s .args .s)) (n + 8 * s .args .k)) (c .before .first-task .ensures) ∙ sym (cost-at (now (s .args .s)) (s .args .at) (s .args .k) (s .pre .1))
+    c .u32-at .ensures ∙ ap (λ n. costAt (now (s .args .s)) (n + 8 * s .args .i)) (c .before .first-task .ensures) ∙ sym (cost-at (now (s .args .s)) (s .args .at) (s .args .i) (s .pre .1))
 
 pub cost-at-spec : {M : Type 1} → statement M
 cost-at-spec =

@@ -1,6 +1,5 @@
 -- The priority listed there.
 use Prim.Native.Nat.{_+_, _*_}
-use native.Mathlib.Omega.{arith}
 use mathlib.Core.Path.{ap, sym, _∙_}
 use denote.Ref.{now}
 use Rattle.table.specs.Record.{priorityAt}
@@ -24,14 +23,14 @@ add-u16-at-2 c = search needs
 u16-at-requires : tie.Need-u16-at-requires
 u16-at-requires c κs = search needs
 
-cast-result : tie.Need-cast-result
-cast-result c = search needs
+u32-from-u16-requires : tie.Need-u32-from-u16-requires
+u32-from-u16-requires c κs = search needs
 
 returns : tie.Need-returns
-returns c = let s = c .before .before .before in
-    let e = ap (λ n. priorityAt (now (s .args .s)) (n + 8 * s .args .k)) (c .before .first-task .ensures) in (
-      c .u16-at .ensures ∙ e ∙ sym (priority-at (now (s .args .s)) (s .args .at) (s .args .k) (s .pre .1)),
-      omega arith,
+returns c = let s = c .before .before .before .before in
+    let e = ap (λ n. priorityAt (now (s .args .s)) (n + 8 * s .args .i)) (c .before .before .first-task .ensures) in (
+      c .u32-from-u16 .ensures .0 ∙ c .before .u16-at .ensures ∙ e ∙ sym (priority-at (now (s .args .s)) (s .args .at) (s .args .i) (s .pre .1)),
+      c .u32-from-u16 .ensures .1,
     )
 
 pub priority-at-spec : {M : Type 1} → statement M
@@ -43,5 +42,5 @@ priority-at-spec =
     add-u16-at
     add-u16-at-2
     u16-at-requires
-    cast-result
+    u32-from-u16-requires
     returns)

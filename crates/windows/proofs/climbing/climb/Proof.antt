@@ -12,7 +12,6 @@ use lib.Seq.{getD-set-same}
 use Rattle.table.specs.Limits.{horizon, maxChains}
 use Rattle.arrivals.specs.Arrivals.{η}
 use Rattle.arrivals.proofs.Counts.{η-mono}
-use Rattle.arrivals.proofs.Rows.{good-distances}
 use Rattle.search.proofs.Choice.{when-cases}
 use Rattle.windows.specs.code.Load.{Under}
 use Rattle.windows.specs.code.Load.{Load, loadOf, ownOf, Counted, demandIn}
@@ -104,7 +103,7 @@ module _ (c : tie.After-own-count Inv-loop μ-loop) where
   more-le : (c .own-count .result - q) * part ≤ busiest
   more-le =
       let ok = s .pre .0 in
-      turns-le (good-distances (ok .stands .good)) (c .own-count .result - q) part (head c .loop .t) (le-trans (sub-le _ _) own-counted) (le-trans (ok .part) (ok .cheap))
+      turns-le (ok .stands .good .list) (c .own-count .result - q) part (head c .loop .t) (le-trans (sub-le _ _) own-counted) (le-trans (ok .part) (ok .cheap))
       (c .before .before .loop-test .taken)
 
 mul-more : tie.Need-mul-more Inv-loop μ-loop
@@ -154,8 +153,8 @@ caught c u h =
     let e : getD (c .held .last .1 .1 .1 .1 .1 .0) maxChains 0 ≡ o .own-count .result =
     c .held .ensures .2 ∙ getD-set-same (l .counts) maxChains (o .own-count .result) 0 (omega (arith, l .inv .1 .held .size)) in
     record {
-      own = le-trans (le-of-eq e) (le-trans (own-counted o) (η-mono (good-distances (ok .stands .good)) (l .t) u h));
-      held = behind-later (c .held .ensures .1) (λ j k. good-distances (ok .held .stands j k .good)) h;
+      own = le-trans (le-of-eq e) (le-trans (own-counted o) (η-mono (ok .stands .good .list) (l .t) u h));
+      held = behind-later (c .held .ensures .1) (λ j k. ok .held .stands j k .good .list) h;
     }
 
 returns : tie.Need-returns Inv-loop μ-loop

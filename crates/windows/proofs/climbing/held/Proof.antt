@@ -6,7 +6,6 @@ use native.Mathlib.Omega.{arith}
 use native.Mathlib.Nat.{le-of-eq}
 use lib.ListN.{getD}
 use Rattle.table.specs.Limits.{maxChains}
-use Rattle.arrivals.proofs.Rows.{good-distances}
 use Rattle.windows.specs.code.Load.{heldOf, Behind}
 use Rattle.windows.proofs.Bounds.{busiest, turns-le, held-on}
 use Rattle.windows.proofs.Counting.{behind-next, own-stays}
@@ -64,7 +63,7 @@ adds-le c =
     let more = c .before .before .before .loop-test .taken in
     let a = start (head c) .args in
     let p = start (head c) .pre in
-    turns-le (good-distances (p .0 .stands i more .good)) (c .eta-from .result) (getD (a .rates .now) i 0) (a .t) (le-of-eq (c .eta-from .ensures)) (p .0 .cheap i more) (p .1)
+    turns-le (p .0 .stands i more .good .list) (c .eta-from .result) (getD (a .rates .now) i 0) (a .t) (le-of-eq (c .eta-from .ensures)) (p .0 .cheap i more) (p .1)
 
 mul-sum : tie.Need-mul-sum Inv-loop μ-loop
 mul-sum c = omega arith

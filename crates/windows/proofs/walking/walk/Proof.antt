@@ -9,7 +9,6 @@ use mir.Syntax.{w32}
 use mir.Facts.{toZ-ofZ}
 use Rattle.table.specs.Limits.{horizon, maxActivations, maxDeadline}
 use Rattle.table.specs.Record.{rowAt}
-use Rattle.arrivals.proofs.Rows.{good-distances}
 use Rattle.windows.specs.Window.{windowOf}
 use Rattle.windows.specs.Latency.{marginOf, windowsOf}
 use Rattle.windows.specs.code.Load.{Load, loadOf, ownOf, Counted, demandIn}
@@ -77,7 +76,7 @@ deadline-at-requires c κs = omega (arith, c .before .pre .stands .there)
 loop-holds : tie.Need-loop-holds Inv-loop μ-loop
 loop-holds c =
     let s = c .before .before in
-    (walk-start (demand s) (own s) (c .deadline-at .result) (good-distances (s .pre .stands .good)), counted-none (load s) 1 (s .pre))
+    (walk-start (demand s) (own s) (c .deadline-at .result) (s .pre .stands .good .list), counted-none (load s) 1 (s .pre))
 
 add-q : tie.Need-add-q Inv-loop μ-loop
 add-q c = search needs

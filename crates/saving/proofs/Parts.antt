@@ -19,7 +19,7 @@ pub record Whole (r : List ℕ) : Type 0 where
   pub mark : markOf (word 2 r 0) ≡ Chain
   pub long : length r ≡ lengthAt r 0
 
-pub record Split (s : List ℕ) (rs : List (List ℕ)) (e : List ℕ) : Type 0 where
+pub record Parts (s : List ℕ) (rs : List (List ℕ)) (e : List ℕ) : Type 0 where
   pub bytes : s ≡ flatten rs ++ e
   pub whole : All Whole rs
   pub last : length e ≡ 4
@@ -34,35 +34,35 @@ unfolding flatten
 flatten-append [] b = refl
 flatten-append (r ∷ a) b = rw (flatten-append a b, append-assoc)
 
-all-take : {A : Type 0} (P : A → Type 0) (k : ℕ) (l : List A) → All P l → All P (take k l)
+all-take : {A : Type 0} (P : A → Type 0) (i : ℕ) (l : List A) → All P l → All P (take i l)
 all-take P zero l h = tt
-all-take P (suc k) [] h = tt
-all-take P (suc k) (a ∷ l) h = (h .0, all-take P k l (h .1))
+all-take P (suc i) [] h = tt
+all-take P (suc i) (a ∷ l) h = (h .0, all-take P i l (h .1))
 
-pub all-at : {A : Type 0} (P : A → Type 0) (l : List A) (k : ℕ) (d : A) → All P l → k < length l → P (getD l k d)
-all-at P [] k d h n = absurd (omega arith)
+pub all-at : {A : Type 0} (P : A → Type 0) (l : List A) (i : ℕ) (d : A) → All P l → i < length l → P (getD l i d)
+all-at P [] i d h n = absurd (omega arith)
 all-at P (a ∷ l) zero d h n = h .0
-all-at P (a ∷ l) (suc k) d h n = all-at P l k d (h .1) (omega arith)
+all-at P (a ∷ l) (suc i) d h n = all-at P l i d (h .1) (omega arith)
 
-all-set : {A : Type 0} (P : A → Type 0) (l : List A) (k : ℕ) (a : A) → All P l → P a → All P (set l k a)
-all-set P [] k a h n = tt
+all-set : {A : Type 0} (P : A → Type 0) (l : List A) (i : ℕ) (a : A) → All P l → P a → All P (set l i a)
+all-set P [] i a h n = tt
 all-set P (x ∷ l) zero a h n = (n, h .1)
-all-set P (x ∷ l) (suc k) a h n = (h .0, all-set P l k a (h .1) n)
+all-set P (x ∷ l) (suc i) a h n = (h .0, all-set P l i a (h .1) n)
 
-pub map-at : {A B : Type 0} (f : A → B) (l : List A) (k : ℕ) (d : A) (b : B) → k < length l → getD (map f l) k b ≡ f (getD l k d)
-map-at f [] k d b n = absurd (omega arith)
+pub map-at : {A B : Type 0} (f : A → B) (l : List A) (i : ℕ) (d : A) (b : B) → i < length l → getD (map f l) i b ≡ f (getD l i d)
+map-at f [] i d b n = absurd (omega arith)
 map-at f (a ∷ l) zero d b n = refl
-map-at f (a ∷ l) (suc k) d b n = map-at f l k d b (omega arith)
+map-at f (a ∷ l) (suc i) d b n = map-at f l i d b (omega arith)
 
-pub map-take : {A B : Type 0} (f : A → B) (k : ℕ) (l : List A) → take k (map f l) ≡ map f (take k l)
+pub map-take : {A B : Type 0} (f : A → B) (i : ℕ) (l : List A) → take i (map f l) ≡ map f (take i l)
 map-take f zero l = refl
-map-take f (suc k) [] = refl
-map-take f (suc k) (a ∷ l) = ap (λ (m : List _). f a ∷ m) (map-take f k l)
+map-take f (suc i) [] = refl
+map-take f (suc i) (a ∷ l) = ap (λ (m : List _). f a ∷ m) (map-take f i l)
 
-pub map-set : {A B : Type 0} (f : A → B) (l : List A) (k : ℕ) (a : A) → map f (set l k a) ≡ set (map f l) k (f a)
-map-set f [] k a = refl
+pub map-set : {A B : Type 0} (f : A → B) (l : List A) (i : ℕ) (a : A) → map f (set l i a) ≡ set (map f l) i (f a)
+map-set f [] i a = refl
 map-set f (x ∷ l) zero a = refl
-map-set f (x ∷ l) (suc k) a = ap (λ (m : List _). f x ∷ m) (map-set f l k a)
+map-set f (x ∷ l) (suc i) a = ap (λ (m : List _). f x ∷ m) (map-set f l i a)
 
 -- the records take as many bytes as their rows say
 pub row-size : (r : List ℕ) → Whole r → lengthOf (rowIn r) ≡ length r
@@ -74,37 +74,37 @@ unfolding sumOf flatten
 sizes [] h = refl
 sizes (r ∷ rs) h = omega (arith, row-size r (h .0), sizes rs (h .1), length-append r (flatten rs))
 
-module _ (s : List ℕ) (rs : List (List ℕ)) (e : List ℕ) (p : Split s rs e) (k : ℕ) (h : k < length rs) where
+module _ (s : List ℕ) (rs : List (List ℕ)) (e : List ℕ) (p : Parts s rs e) (i : ℕ) (h : i < length rs) where
   abbrev before : List ℕ
-  before = flatten (take k rs)
+  before = flatten (take i rs)
 
   abbrev here : List ℕ
-  here = getD rs k []
+  here = getD rs i []
 
   abbrev after : List ℕ
-  after = flatten (drop (suc k) rs) ++ e
+  after = flatten (drop (suc i) rs) ++ e
 
   parted : s ≡ before ++ (here ++ after)
   unfolding flatten
-  parted = p .bytes ∙ ap (λ (l : List (List ℕ)). flatten l ++ e) (split-at rs k [] h) ∙ rw (flatten-append, append-assoc, append-assoc)
+  parted = p .bytes ∙ ap (λ (l : List (List ℕ)). flatten l ++ e) (split-at rs i [] h) ∙ rw (flatten-append, append-assoc, append-assoc)
 
   -- the records before it take as many bytes as the sum of their rows' sizes
-  pub place-sum : sumOf lengthOf (take k (map rowIn rs)) ≡ length before
-  place-sum = rw map-take (sizes (take k rs) (all-take Whole k rs (p .whole)))
+  pub place-sum : sumOf lengthOf (take i (map rowIn rs)) ≡ length before
+  place-sum = rw map-take (sizes (take i rs) (all-take Whole i rs (p .whole)))
 
   -- there it stands
   pub stands-there : (at n : ℕ) → at ≡ length before → n ≡ length here → take n (drop at s) ≡ here
   stands-there at n f g = rw (parted, drop-at before (here ++ after) at (sym f)) (take-at here after n (sym g))
 
   -- and another takes its place
-  pub split-splice : (at n : ℕ) → at ≡ length before → n ≡ length here → (new : List ℕ) → Whole new → Split (splice s at n new) (set rs k new) e
+  pub parts-splice : (at n : ℕ) → at ≡ length before → n ≡ length here → (new : List ℕ) → Whole new → Parts (splice s at n new) (set rs i new) e
   unfolding flatten
-  split-splice at n f g new w =
+  parts-splice at n f g new w =
       let a : take at s ≡ before = rw parted (take-at before (here ++ after) at (sym f)) in
       let l : length (before ++ here) ≡ at + n = omega (arith, length-append before here) in
       let b : drop (at + n) s ≡ after = rw (parted, ← append-assoc before here after) (drop-at (before ++ here) after (at + n) l) in
       record {
-        bytes = rw (a, b, set-split rs k new h, flatten-append) (simp append-assoc);
-        whole = all-set Whole rs k new (p .whole) w;
+        bytes = rw (a, b, set-split rs i new h, flatten-append) (simp append-assoc);
+        whole = all-set Whole rs i new (p .whole) w;
         last = p .last;
       }

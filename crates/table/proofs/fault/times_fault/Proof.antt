@@ -1,0 +1,33 @@
+-- At each return the tests so far, in order, are what the calls gave.
+use borrow.Author.Tests.{lt-ltb, le-ltb}
+use Rattle.search.specs.Choice.{_when_else_}
+use Rattle.table.specs.Fault.{timesFault}
+use borrow.Author.Needs.{needs}
+use Rattle.table.proofs.fault.times_fault.Statement.{statement}
+use Rattle.table.proofs.fault.times_fault.Tie as tie
+
+deadline-at-requires : tie.Need-deadline-at-requires
+deadline-at-requires c κs = search needs
+
+outside-requires : tie.Need-outside-requires
+outside-requires c κs = search needs
+
+returns : tie.Need-returns
+unfolding timesFault _when_else_
+returns c = rw (← c .before .before .deadline-at .ensures, ← c .before .outside .ensures, c .if1 .taken)
+
+gap-at-requires : tie.Need-gap-at-requires
+gap-at-requires c κs = search needs
+
+returns-2 : tie.Need-returns-2
+unfolding timesFault _when_else_
+returns-2 c = rw (← c .before .before .before .before .deadline-at .ensures, ← c .before .before .before .outside .ensures, c .before .before .if1 .left, ← c .before .gap-at .ensures, lt-ltb _ _ (c .if2 .taken))
+
+returns-3 : tie.Need-returns-3
+unfolding timesFault _when_else_
+returns-3 c = rw (← c .before .before .before .before .deadline-at .ensures, ← c .before .before .before .outside .ensures, c .before .before .if1 .left, ← c .before .gap-at .ensures, le-ltb _ _ (c .if2 .left))
+
+pub times-fault-spec : {M : Type 1} → statement M
+times-fault-spec =
+    tie.close
+    (tie.spec deadline-at-requires outside-requires returns gap-at-requires returns-2 returns-3)
