@@ -12,7 +12,6 @@ use Rattle.search.specs.Lists.{All}
 use Rattle.search.proofs.Choice.{when-yes, when-no, lt-or-le}
 use Rattle.table.specs.declared.Row.{Row}
 use Rattle.arrivals.specs.Arrivals.{η, largest}
-use Rattle.segments.specs.Items.{Item}
 use Rattle.misses.specs.Overloads.{Overload, Piece, piece, piecesFrom, piecesOf, capacitiesOf}
 use Rattle.misses.specs.Misses.{roomOf}
 use Rattle.demands.specs.Misses.{pieceOf, marked, pieces, capacityOf}
@@ -43,32 +42,32 @@ record Capacity (t n : ℕ) (os : List Overload) (i : ℕ) : Type 0 where
 
 module _ (t n : ℕ) (o : Overload) (os : List Overload) (i : ℕ) where
   abbrev own : List Piece
-  own = map (piece n) (o .items)
+  own = map (piece n) (o .actives)
 
   abbrev rooms : List ℕ
-  rooms = map (λ x. η (o .list) t + 1) (o .items)
+  rooms = map (λ x. η (o .list) t + 1) (o .actives)
 
-  of-first : i < length (o .items) → Capacity t n (o ∷ os) i
+  of-first : i < length (o .actives) → Capacity t n (o ∷ os) i
   unfolding piecesFrom capacitiesOf
   of-first l =
-      let p = getD-map (piece n) (o .items) i (record { chain = 0; segment = 0; cost = 0 }) l in
+      let p = getD-map (piece n) (o .actives) i (record { chain = 0; segment = 0; cost = 0 }) l in
       record {
         j = 0;
         chain = ap (λ (x : Piece). x .chain) (getD-first own (piecesFrom (n + 1) os) i _ (omega (arith, l, long-own)) ∙ p .1) ∙ omega arith;
-        room = getD-first rooms (capacitiesOf t os) i 0 (omega (arith, l, long-rooms)) ∙ getD-map (λ x. η (o .list) t + 1) (o .items) i 0 l .1;
+        room = getD-first rooms (capacitiesOf t os) i 0 (omega (arith, l, long-rooms)) ∙ getD-map (λ x. η (o .list) t + 1) (o .actives) i 0 l .1;
       }
     where
-      long-own : length own ≡ length (o .items)
-      long-own = length-map (o .items) (piece n)
+      long-own : length own ≡ length (o .actives)
+      long-own = length-map (o .actives) (piece n)
 
-      long-rooms : length rooms ≡ length (o .items)
-      long-rooms = length-map (o .items) (λ x. η (o .list) t + 1)
+      long-rooms : length rooms ≡ length (o .actives)
+      long-rooms = length-map (o .actives) (λ x. η (o .list) t + 1)
 
-  of-later : length (o .items) ≤ i → Capacity t (n + 1) os (i - length (o .items)) → Capacity t n (o ∷ os) i
+  of-later : length (o .actives) ≤ i → Capacity t (n + 1) os (i - length (o .actives)) → Capacity t n (o ∷ os) i
   unfolding piecesFrom capacitiesOf
   of-later l r =
-      let a = length-map (o .items) (piece n) in
-      let c = length-map (o .items) (λ x. η (o .list) t + 1) in
+      let a = length-map (o .actives) (piece n) in
+      let c = length-map (o .actives) (λ x. η (o .list) t + 1) in
       record {
         j = suc (r .j);
         chain =
@@ -83,9 +82,9 @@ capacity-at t n [] i h = absurd (omega arith)
 capacity-at t n (o ∷ os) i h = ⊎-elim
     (of-first t n o os i)
     (λ l.
-    let m = length-append (map (piece n) (o .items)) (piecesFrom (n + 1) os) in
-    of-later t n o os i l (capacity-at t (n + 1) os (i - length (o .items)) (omega (arith, h, l, m, length-map (o .items) (piece n)))))
-    (lt-or-le i (length (o .items)))
+    let m = length-append (map (piece n) (o .actives)) (piecesFrom (n + 1) os) in
+    of-later t n o os i l (capacity-at t (n + 1) os (i - length (o .actives)) (omega (arith, h, l, m, length-map (o .actives) (piece n)))))
+    (lt-or-le i (length (o .actives)))
 
 capacities-long : (t n : ℕ) (os : List Overload) → length (capacitiesOf t os) ≡ length (piecesFrom n os)
 unfolding piecesFrom capacitiesOf
@@ -93,10 +92,10 @@ capacities-long t n [] = refl
 capacities-long t n (o ∷ os) =
     omega (
       arith,
-      length-append (map (λ x. η (o .list) t + 1) (o .items)) (capacitiesOf t os),
-      length-append (map (piece n) (o .items)) (piecesFrom (n + 1) os),
-      length-map (o .items) (λ x. η (o .list) t + 1),
-      length-map (o .items) (piece n),
+      length-append (map (λ x. η (o .list) t + 1) (o .actives)) (capacitiesOf t os),
+      length-append (map (piece n) (o .actives)) (piecesFrom (n + 1) os),
+      length-map (o .actives) (λ x. η (o .list) t + 1),
+      length-map (o .actives) (piece n),
       capacities-long t (n + 1) os,
     )
 

@@ -1,10 +1,10 @@
 -- The three demands, each closed by one theorem. Assumes nothing.
+use Rattle.segments.proofs.Answers.{answer-records}
 use Rattle.demands.specs.Demands.{Demand1, Demand2, Demand3}
 use Rattle.demands.proofs.Entries.{every-entry}
 use Rattle.demands.proofs.Saving.{seen-records}
 use Rattle.demands.proofs.Figures.{counted, latency-means, latency-only}
 use Rattle.demands.proofs.Misses.{misses-mean, answers-right}
-use Rattle.demands.proofs.Parts.{task-records}
 use Rattle.demands.proofs.Others.{same-besides, reordered, ids-deadlines-gaps, regrouped}
 use Rattle.demands.proofs.Saves.{saved-deadline-or-gap}
 use Rattle.demands.proofs.Calls.{same-latency-call, same-misses-call}
@@ -19,7 +19,7 @@ demand-2 = record {
   windows = latency-means;
   only = latency-only;
   misses = misses-mean;
-  segment = task-records;
+  segment = answer-records;
 }
 
 pub demand-3 : Demand3

@@ -9,7 +9,6 @@ pub mod Figures
 pub mod Sets
 pub mod Capacities
 pub mod Misses
-pub mod Parts
 pub mod Regroupings
 pub mod Others
 pub mod Saves

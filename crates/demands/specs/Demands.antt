@@ -6,7 +6,7 @@ use mathlib.Core.List.{List}
 use lib.ListN.{length}
 use Rattle.table.specs.Bytes.{Bytes}
 use Rattle.table.specs.Record.{idAt, distances}
-use Rattle.segments.specs.Query.{segmentOf, partOf}
+use Rattle.segments.specs.Query.{segmentOf, partOf, TaskRecords}
 use Rattle.segments.specs.declared.Answer.the-variants.{Records}
 use Rattle.windows.specs.Latency.{latencyOf}
 use Rattle.windows.specs.declared.Answer.{Answer as Latency}
@@ -20,7 +20,6 @@ use Rattle.demands.specs.Saves.{Accepted, SeenRecords}
 use Rattle.demands.specs.Arrivals.{Counted}
 use Rattle.demands.specs.Figures.{Exactly, Means}
 use Rattle.demands.specs.Misses.{full, Says, Right}
-use Rattle.demands.specs.Parts.{activeOf, TaskRecords}
 use Rattle.demands.specs.Others.{Besides, SameBesides, Unmoved, Reordered, SameWork, RegroupedTasks, DeadlineOrGap, SameCall}
 use Rattle.demands.specs.Starred.{sample}
 use Rattle.demands.specs.Witness.{altered}
@@ -44,8 +43,8 @@ pub record Demand2 : Type 0 where
   -- the miss count is the late activations per window times the greatest feasible packing of bad combinations
   pub misses : {s : List ℕ} {id : ℕ} → Has s id → (k : ℕ) (a : Misses) → Exactly (missesOf s id k ≡ a) (Says (chainOf s id) (othersOf s id) k a)
   -- an active segment is handed back as the records of its tasks
-  pub segment : (s : List ℕ) → Bytes s → (chain against number : ℕ) {offset len : ℕ} → segmentOf s chain against number ≡ Records offset len
-      → TaskRecords (partOf s (Records offset len)) (chainOf s chain) (activeOf s chain against number)
+  pub segment : (s : List ℕ) → Bytes s → (id against number offset len : ℕ) → segmentOf s id against number ≡ Records offset len
+      → TaskRecords s id against number (partOf s (Records offset len))
 
 pub record Demand3 : Type 0 where
   -- take two accepted tables with the same record for one chain, their other chains paired off one to one. If each pair agrees against

@@ -78,8 +78,8 @@ pub record EveryEntry : Type 0 where
   pub latency : (s : List ℕ) (id : ℕ) → Query (λ a. a ≡ latencyOf s id) LatencyRefusal 4 latencyNumber latencyFigures
   pub misses : (s : List ℕ) (id k : ℕ) → Query (λ a. a ≡ missesOf s id k) MissesRefusal 1 missesNumber missesFigures
   -- `segments::segment`, `segments::segment_part`
-  pub segment : (s : List ℕ) (chain against number : ℕ) → Query (λ a. a ≡ segmentOf s chain against number) SegmentRefusal 2 segmentNumber segmentFigures
-  pub part : (table : RefT (List ℕ)) (chain against number : ℕ) → OnePart table (segmentOf (now table) chain against number)
+  pub segment : (s : List ℕ) (id against number : ℕ) → Query (λ a. a ≡ segmentOf s id against number) SegmentRefusal 2 segmentNumber segmentFigures
+  pub part : (table : RefT (List ℕ)) (id against number : ℕ) → OnePart table (segmentOf (now table) id against number)
   -- `saving::save`
   pub save : (buffer : List ℕ) (used : ℕ) (old new : List ℕ) → Call (λ after a. Saves buffer used old new a after) SaveRefusal saveNumber buffer
   -- `report_text::report`
@@ -87,7 +87,7 @@ pub record EveryEntry : Type 0 where
   -- `mishtodran_latency`, `mishtodran_misses`, `mishtodran_segment`
   pub latency-entry : (s : List ℕ) (id : ℕ) (before : List ℕ) → Call (LatencyEntry s id before) (AtEntry LatencyRefusal) (λ r. r) before
   pub misses-entry : (s : List ℕ) (id k : ℕ) (before : List ℕ) → Call (MissesEntry s id k before) (AtEntry MissesRefusal) (λ r. r) before
-  pub segment-entry : (s : List ℕ) (chain against number : ℕ) (before : List ℕ) → Call (SegmentEntry s chain against number before) (AtEntry SegmentRefusal) (λ r. r) before
+  pub segment-entry : (s : List ℕ) (id against number : ℕ) (before : List ℕ) → Call (SegmentEntry s id against number before) (AtEntry SegmentRefusal) (λ r. r) before
   -- `mishtodran_save` and `mishtodran_report`, which are lent two buffers to be written
   pub save-entry : (buffer : List ℕ) (used : ℕ) (old new answer : List ℕ)
       → Call {A = List ℕ × List ℕ} (λ after r. SaveEntry buffer used old new answer (after .0) (after .1) r) (AtEntry SaveRefusal) (λ r. r) (buffer, answer)

@@ -6,7 +6,6 @@ pub mod Arrivals
 pub mod Equation
 pub mod Figures
 pub mod Misses
-pub mod Parts
 pub mod Others
 pub mod Starred
 pub mod Witness

@@ -55,8 +55,8 @@ pub record MissesEntry (table : List ℕ) (id k : ℕ) (before after : List ℕ)
   pub answers : Answered 1 (misses.numberOf (misses.missesOf table id k)) (misses.valuesOf (misses.missesOf table id k)) before after r
 
 -- segment: offset and length
-pub record SegmentEntry (table : List ℕ) (chain against number : ℕ) (before after : List ℕ) (r : ℕ) : Type 0 where
-  pub answers : Answered 2 (segment.numberOf (segment.segmentOf table chain against number)) (segment.valuesOf (segment.segmentOf table chain against number)) before after r
+pub record SegmentEntry (table : List ℕ) (id against number : ℕ) (before after : List ℕ) (r : ℕ) : Type 0 where
+  pub answers : Answered 2 (segment.numberOf (segment.segmentOf table id against number)) (segment.valuesOf (segment.segmentOf table id against number)) before after r
 
 -- save: the new used length, and the table's buffer as the save leaves it; 27 leaves that too
 pub record SaveEntry (buffer : List ℕ) (used : ℕ) (old new answer bufferAfter answerAfter : List ℕ) (r : ℕ) : Type 0 where

@@ -78,17 +78,17 @@ pub extern "C" fn mishtodran_misses(table: &[u8], id: u32, k: u32, answer: &mut 
 #[no_mangle]
 pub extern "C" fn mishtodran_segment(
     table: &[u8],
-    chain: u32,
+    id: u32,
     against: u32,
     number: u32,
     answer: &mut [u8],
 ) -> u32
-    ensures { λ r. ⌜ SegmentEntry (now (table .entry)) chain against number (now (answer .entry)) (now (answer .exit)) r ⌝ }
+    ensures { λ r. ⌜ SegmentEntry (now (table .entry)) id against number (now (answer .entry)) (now (answer .exit)) r ⌝ }
 {
     if answer.len() < 8 {
         return 27;
     }
-    match segments::segment(table, chain, against, number) {
+    match segments::segment(table, id, against, number) {
         segments::Answer::Records { offset, length } => {
             let figures = [offset, length];
             put_figures(answer, &figures);

@@ -19,10 +19,10 @@ use Rattle.table.specs.code.Good.{GoodRow}
 use Rattle.table.specs.declared.Row.{Row}
 use Rattle.table.specs.code.Good.{GoodDistances}
 use Rattle.arrivals.proofs.Counts.{η-some}
-use Rattle.segments.specs.Items.{Item, item, itemsOf}
+use Rattle.segments.specs.Actives.{Active, activesOf}
 use Rattle.segments.specs.View.{View, viewOf, sum, allOf, dearestOf}
 use Rattle.segments.proofs.Lists.{sum-map, most-sum}
-use Rattle.segments.proofs.Order.{items}
+use Rattle.segments.proofs.Order.{labelOf, label, labels}
 use Rattle.segments.proofs.Renaming.{rename, to-view}
 use Rattle.segments.proofs.Views.{view-list, view-overload}
 use Rattle.windows.specs.Demand.{asynchronous, termOf, typical}
@@ -82,8 +82,8 @@ in-segment j segment cost = cost when eqb segment j else 0
 abbrev piece-in : ℕ → Piece → ℕ
 piece-in j p = in-segment j (p .segment) (p .cost)
 
-abbrev item-in : ℕ → Item → ℕ
-item-in j i = in-segment j (i .segment) (i .cost)
+abbrev label-in : ℕ → ℕ × ℕ → ℕ
+label-in j l = in-segment j (l .0) (l .1)
 
 -- those of one chain that may stand together are all of one segment
 module _ (n : ℕ) where
@@ -101,57 +101,64 @@ module _ (n : ℕ) where
       (p .segment, ap₂ _+_ (sym (when-yes (p .cost) 0 (eq-eqb (p .segment) (p .segment) refl))) (one-segment p ps (h .0) (h .1) (and-left (every (agree p) ps) (together ps) e)))
 
 -- a segment of a view costs no more than the dearest
-block-same : (k : ℕ) (l : List ℕ) → sumOf (item-in k) (map (item k) l) ≡ sum l
+block-same : (k : ℕ) (l : List ℕ) → sumOf (label-in k) (map (label k) l) ≡ sum l
 unfolding sumOf
 block-same k [] = refl
 block-same k (c ∷ l) = ap₂ _+_ (when-yes c 0 (eq-eqb k k refl)) (block-same k l)
 
-block-other : (k i : ℕ) (l : List ℕ) → (i ≡ k → ⊥) → sumOf (item-in k) (map (item i) l) ≡ 0
+block-other : (k i : ℕ) (l : List ℕ) → (i ≡ k → ⊥) → sumOf (label-in k) (map (label i) l) ≡ 0
 unfolding sumOf
 block-other k i [] h = refl
 block-other k i (c ∷ l) h = ap₂ _+_ (when-no c 0 (ne-eqb i k h)) (block-other k i l h)
 
-past-none : (k i : ℕ) (ls : List (List ℕ)) → k < i → sumOf (item-in k) (items i ls) ≡ 0
-unfolding items sumOf
+past-none : (k i : ℕ) (ls : List (List ℕ)) → k < i → sumOf (label-in k) (labels i ls) ≡ 0
+unfolding labels sumOf
 past-none k i [] h = refl
 past-none k i (l ∷ ls) h =
-    sum-append (item-in k) (map (item i) l) (items (i + 1) ls)
+    sum-append (label-in k) (map (label i) l) (labels (i + 1) ls)
     ∙ omega (arith, block-other k i l (λ e. omega arith), past-none k (i + 1) ls (omega arith))
 
-in-most : (k i : ℕ) (ls : List (List ℕ)) → sumOf (item-in k) (items i ls) ≤ mostOf sum ls
-unfolding items sumOf mostOf
+in-most : (k i : ℕ) (ls : List (List ℕ)) → sumOf (label-in k) (labels i ls) ≤ mostOf sum ls
+unfolding labels sumOf mostOf
 in-most k i [] = le-refl 0
 in-most k i (l ∷ ls) =
-    let a = sum-append (item-in k) (map (item i) l) (items (i + 1) ls) in
+    let a = sum-append (label-in k) (map (label i) l) (labels (i + 1) ls) in
     elim (ℕ-discrete i k) [
-      | yes e ↦ omega (arith, a, ap (λ j. sumOf (item-in k) (map (item j) l)) e, block-same k l, past-none k (i + 1) ls (omega arith))
+      | yes e ↦ omega (arith, a, ap (λ j. sumOf (label-in k) (map (label j) l)) e, block-same k l, past-none k (i + 1) ls (omega arith))
       | no e ↦ omega (arith, a, block-other k i l e, in-most k (i + 1) ls)
     ]
 
 -- other numbers of the segments take nothing away
-renamed-sum : (f : ℕ → ℕ) (j : ℕ) (l : List Item) → sumOf (item-in j) l ≤ sumOf (item-in (f j)) (map (rename f) l)
+renamed-sum : (f : ℕ → ℕ) (j : ℕ) (l : List (ℕ × ℕ)) → sumOf (label-in j) l ≤ sumOf (label-in (f j)) (map (rename f) l)
 unfolding sumOf
 renamed-sum f j [] = le-refl 0
 renamed-sum f j (i ∷ l) = omega (arith, renamed-sum f j l, one)
   where
-    one : item-in j i ≤ item-in (f j) (rename f i)
-    one = when-cases {x = i .cost} {y = 0} (λ n. n ≤ item-in (f j) (rename f i)) (eqb (i .segment) j)
-        (λ e. le-of-eq (sym (when-yes (i .cost) 0 (eq-eqb _ _ (ap f (eqb-true (i .segment) j e)))))) (λ e. omega arith)
+    one : label-in j i ≤ label-in (f j) (rename f i)
+    one = when-cases {x = i .1} {y = 0} (λ n. n ≤ label-in (f j) (rename f i)) (eqb (i .0) j)
+        (λ e. le-of-eq (sym (when-yes (i .1) 0 (eq-eqb _ _ (ap f (eqb-true (i .0) j e)))))) (λ e. omega arith)
 
 -- so what a combination has of one chain costs no more than the chain's dearest segment
 module _ (a b : Row) where
-  segment-dearest : (j : ℕ) → sumOf (item-in j) (itemsOf a b) ≤ dearestOf (viewOf a b)
+  segment-dearest : (j : ℕ) → sumOf (label-in j) (map labelOf (activesOf a b)) ≤ dearestOf (viewOf a b)
   segment-dearest j =
       let r = to-view a b in
-      le-trans (renamed-sum (r .name) j (itemsOf a b)) (le-trans (le-of-eq (perm-sum (item-in (r .name j)) (r .order))) (in-most (r .name j) 0 (viewOf a b .segments)))
+      le-trans (renamed-sum (r .name) j (map labelOf (activesOf a b))) (le-trans (le-of-eq (perm-sum (label-in (r .name j)) (r .order))) (in-most (r .name j) 0 (viewOf a b .segments)))
 
-  chain-dearest : (n m : ℕ) → together (members (map (piece n) (itemsOf a b)) m) ≡ true → setCost (members (map (piece n) (itemsOf a b)) m) ≤ dearestOf (viewOf a b)
+  chain-dearest : (n m : ℕ) → together (members (map (piece n) (activesOf a b)) m) ≡ true → setCost (members (map (piece n) (activesOf a b)) m) ≤ dearestOf (viewOf a b)
   chain-dearest n m e =
-      let ps = map (piece n) (itemsOf a b) in
-      let s = chain-segment n (members ps m) (members-all (λ r. r .chain ≡ n) ps m (all-pieces (itemsOf a b))) e in
-      omega (arith, s .1, members-sum (piece-in (s .0)) ps m, sum-map (piece n) (piece-in (s .0)) (itemsOf a b), segment-dearest (s .0))
+      let ps = map (piece n) (activesOf a b) in
+      let s = chain-segment n (members ps m) (members-all (λ r. r .chain ≡ n) ps m (all-pieces (activesOf a b))) e in
+      omega (
+        arith,
+        s .1,
+        members-sum (piece-in (s .0)) ps m,
+        sum-map (piece n) (piece-in (s .0)) (activesOf a b),
+        sum-map labelOf (label-in (s .0)) (activesOf a b),
+        segment-dearest (s .0),
+      )
     where
-      all-pieces : (l : List Item) → All (λ r. r .chain ≡ n) (map (piece n) l)
+      all-pieces : (l : List Active) → All (λ r. r .chain ≡ n) (map (piece n) l)
       all-pieces [] = tt
       all-pieces (i ∷ l) = (refl, all-pieces l)
 
@@ -176,9 +183,9 @@ module _ (b : Row) (t : ℕ) (some : 1 ≤ t) where
 
   -- the first chain's part of a set, and the rest
   set-parts : (n : ℕ) (a : Row) (os : List Overload) (m : ℕ)
-      → set n (overload a b ∷ os) m ≡ members (map (piece n) (itemsOf a b)) m ++ set (n + 1) os (m / 2 ^ length (map (piece n) (itemsOf a b)))
+      → set n (overload a b ∷ os) m ≡ members (map (piece n) (activesOf a b)) m ++ set (n + 1) os (m / 2 ^ length (map (piece n) (activesOf a b)))
   unfolding piecesFrom
-  set-parts n a os m = members-append (map (piece n) (itemsOf a b)) (piecesFrom (n + 1) os) m
+  set-parts n a os m = members-append (map (piece n) (activesOf a b)) (piecesFrom (n + 1) os) m
 
   set-none : (n m : ℕ) → setCost (set n [] m) ≡ 0
   unfolding piecesFrom members sumOf
@@ -200,8 +207,8 @@ module _ (b : Row) (t : ℕ) (some : 1 ≤ t) where
       go false f r =
           let o : overloads b (a ∷ l) ≡ overload a b ∷ overloads b l = when-no _ _ f in
           let y : typical (views (a ∷ l)) ≡ typical (views l) = when-no _ _ (ap (λ k. eqb k 0) (view-overload a b) ∙ f) in
-          let own = members (map (piece n) (itemsOf a b)) m in
-          let k = m / 2 ^ length (map (piece n) (itemsOf a b)) in
+          let own = members (map (piece n) (activesOf a b)) m in
+          let k = m / 2 ^ length (map (piece n) (activesOf a b)) in
           let rest = set (n + 1) (overloads b l) k in
           let p : set n (overloads b (a ∷ l)) m ≡ own ++ rest = ap (λ os. set n os m) o ∙ set-parts n a (overloads b l) m in
           let w : together (own ++ rest) ≡ true = sym (ap together p) ∙ e in

@@ -1,7 +1,7 @@
 -- The active segments of the overload chains, gathered one by one and chain by chain. Assumes nothing.
 use Prim.Native.Nat.{ℕ, suc, _+_, _*_, _≤_, _<_, min}
 use mathlib.Core.Path.{_≡_, refl, ap, ap₂, sym, _∙_}
-use mathlib.Core.List.{List, [], _∷_, _++_, append-assoc, append-nil, map, map-append, map-map}
+use mathlib.Core.List.{List, [], _∷_, _++_, append-assoc, append-nil, map, map-append}
 use mathlib.Core.Bool.{Bool, true, false}
 use native.Mathlib.Omega.{arith}
 use native.Mathlib.Numerals.{add-one}
@@ -21,7 +21,6 @@ use Rattle.arrivals.specs.Arrivals.{η}
 use Rattle.table.specs.Record.{distances}
 use Rattle.segments.specs.Actives.{Active, nothing, activesOf}
 use Rattle.segments.specs.code.Held.{arraysOf}
-use Rattle.segments.specs.Items.{itemOf, itemsOf}
 use Rattle.segments.specs.Tasks.{floorOf, tailOf}
 use Rattle.segments.specs.declared.Actives.{Actives}
 use Rattle.segments.proofs.Standing.{array-at}
@@ -75,7 +74,7 @@ plus-past p n ps cs e h segment cost capacity =
 
 -- a chain's active segments one by one: i of those found are held, after what was held before, with the capacity `most`
 abbrev pub taken : List Active → ℕ → ℕ → List Piece
-taken found n i = map (λ s. piece n (itemOf s)) (take i found)
+taken found n i = map (piece n) (take i found)
 
 abbrev pub Adds : Actives → ℕ → Pieces → Pieces → ℕ → Type 0
 Adds found most before p i =
@@ -100,8 +99,8 @@ adds-on found most before p i a h n ps cs l c k e f g =
     let s = getD l i nothing in
     let j : getD (found .segment) i 0 ≡ s .segment = ap (λ x. getD (x .segment) i 0) f ∙ array-at (λ x. x .segment) l i lt in
     let d : getD (found .cost) i 0 ≡ s .cost = ap (λ x. getD (x .cost) i 0) f ∙ array-at (λ x. x .cost) l i lt in
-    rw (a n ps cs l c k e f g, j, d, g, map-taken (λ x. piece n (itemOf x)) l i nothing lt, map-taken (λ x. c) l i nothing lt)
-    (sym (held-put (ps ++ taken l n i) (cs ++ map (λ x. c) (take i l)) (piece n (itemOf s)) c (length-both _ _ (take i l) ps cs k))
+    rw (a n ps cs l c k e f g, j, d, g, map-taken (piece n) l i nothing lt, map-taken (λ x. c) l i nothing lt)
+    (sym (held-put (ps ++ taken l n i) (cs ++ map (λ x. c) (take i l)) (piece n s) c (length-both _ _ (take i l) ps cs k))
     ∙ ap₂ (heldAs n) (append-assoc ps (taken l n i) _) (append-assoc cs (map (λ x. c) (take i l)) _))
 
 pub adds-past : (found : Actives) (most : ℕ) (before p : Pieces) (i : ℕ) → Adds found most before p i → i < found .count → maxOverloads ≤ p .count
@@ -111,19 +110,19 @@ adds-past found most before p i a h past n ps cs l c k e f g =
     ∙ adds-on found most before p i a h n ps cs l c k e f g
 
 -- one chain more
-pieces-more : (n : ℕ) (os : List Overload) (o : Overload) → piecesFrom n (os ++ (o ∷ [])) ≡ piecesFrom n os ++ map (piece (n + length os)) (o .items)
+pieces-more : (n : ℕ) (os : List Overload) (o : Overload) → piecesFrom n (os ++ (o ∷ [])) ≡ piecesFrom n os ++ map (piece (n + length os)) (o .actives)
 unfolding piecesFrom
 pieces-more n [] o = let e : n + 0 ≡ n = omega arith in rw e (append-nil _)
 pieces-more n (x ∷ os) o =
     let e : n + suc (length os) ≡ n + 1 + length os = omega arith in
-    rw e (ap (λ l. map (piece n) (x .items) ++ l) (pieces-more (n + 1) os o) ∙ sym (append-assoc (map (piece n) (x .items)) (piecesFrom (n + 1) os) _))
+    rw e (ap (λ l. map (piece n) (x .actives) ++ l) (pieces-more (n + 1) os o) ∙ sym (append-assoc (map (piece n) (x .actives)) (piecesFrom (n + 1) os) _))
 
-capacities-more : (t : ℕ) (os : List Overload) (o : Overload) → capacitiesOf t (os ++ (o ∷ [])) ≡ capacitiesOf t os ++ map (λ i. η (o .list) t + 1) (o .items)
+capacities-more : (t : ℕ) (os : List Overload) (o : Overload) → capacitiesOf t (os ++ (o ∷ [])) ≡ capacitiesOf t os ++ map (λ i. η (o .list) t + 1) (o .actives)
 unfolding capacitiesOf
 capacities-more t [] o = append-nil _
 capacities-more t (x ∷ os) o =
-    ap (λ l. map (λ i. η (x .list) t + 1) (x .items) ++ l) (capacities-more t os o)
-    ∙ sym (append-assoc (map (λ i. η (x .list) t + 1) (x .items)) (capacitiesOf t os) _)
+    ap (λ l. map (λ i. η (x .list) t + 1) (x .actives) ++ l) (capacities-more t os o)
+    ∙ sym (append-assoc (map (λ i. η (x .list) t + 1) (x .actives)) (capacitiesOf t os) _)
 
 -- each active segment has a capacity
 pub capacities-length : (t n : ℕ) (os : List Overload) → length (capacitiesOf t os) ≡ length (piecesFrom n os)
@@ -145,11 +144,9 @@ adds-chain a b t os found most before p i e f g adds h =
     let all : take i l ≡ l = take-all i l (omega (arith, ap (λ x. x .count) f)) in
     let z : 0 + n ≡ n = omega arith in
     let ps : piecesOf os ++ taken l n i ≡ piecesOf (os ++ (overload a b ∷ [])) =
-    ap (λ r. piecesOf os ++ map (λ s. piece n (itemOf s)) r) all ∙ ap (λ r. piecesOf os ++ r) (sym (map-map (piece n) itemOf l))
-    ∙ ap (λ k. piecesOf os ++ map (piece k) (itemsOf a b)) (sym z) ∙ sym (pieces-more 0 os (overload a b)) in
+    ap (λ r. piecesOf os ++ map (piece n) r) all ∙ ap (λ k. piecesOf os ++ map (piece k) l) (sym z) ∙ sym (pieces-more 0 os (overload a b)) in
     let cs : capacitiesOf t os ++ map (λ s. η (distances a) t + 1) (take i l) ≡ capacitiesOf t (os ++ (overload a b ∷ [])) =
-    ap (λ r. capacitiesOf t os ++ map (λ s. η (distances a) t + 1) r) all
-    ∙ ap (λ r. capacitiesOf t os ++ r) (sym (map-map (λ x. η (distances a) t + 1) itemOf l)) ∙ sym (capacities-more t os (overload a b)) in
+    ap (λ r. capacitiesOf t os ++ map (λ s. η (distances a) t + 1) r) all ∙ sym (capacities-more t os (overload a b)) in
     ap next (adds n (piecesOf os) (capacitiesOf t os) l _ (capacities-length t 0 os) e f g) ∙ ap₂ (λ x y. next (heldAs n x y)) ps cs
     ∙ ap (λ k. heldAs k (piecesOf (os ++ (overload a b ∷ []))) (capacitiesOf t (os ++ (overload a b ∷ [])))) (sym (length-append os (overload a b ∷ [])))
 
@@ -216,7 +213,7 @@ module _ (table : Table) (b : Row) (t : ℕ) (good : GoodTable table) (p : Piece
         is = is ∙ ap (gathered t) o;
         inside = omega arith;
         chains = omega (arith, ap (λ x. x .chains) is, length-append before (overload a b ∷ []), ap (λ x. x .chains) (gone .is), gone .chains);
-        few = omega (arith, ap (λ x. x .count) is, ap length (pieces-more 0 before (overload a b)), length-append (piecesOf before) (map (piece (0 + length before)) (itemsOf a b)), length-map (itemsOf a b) (piece (0 + length before)), length-map (activesOf a b) itemOf, actives-few a (floorOf b) (tailOf b) (good .row j more), ap (λ x. x .count) (gone .is), gone .few);
+        few = omega (arith, ap (λ x. x .count) is, ap length (pieces-more 0 before (overload a b)), length-append (piecesOf before) (map (piece (0 + length before)) (activesOf a b)), length-map (activesOf a b) (piece (0 + length before)), actives-few a (floorOf b) (tailOf b) (good .row j more), ap (λ x. x .count) (gone .is), gone .few);
       }
 
 pub gone-all : (table : Table) (b : Row) (t : ℕ) (p : Pieces) (j : ℕ) → Gone table b t p j → table .count ≤ j → p ≡ gathered t (overloads b (rows table))

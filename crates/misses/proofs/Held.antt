@@ -21,7 +21,6 @@ use Rattle.table.specs.code.Good.{GoodRow, GoodTable}
 use Rattle.table.specs.declared.Row.{Row}
 use Rattle.table.specs.declared.Table.{Table}
 use Rattle.segments.specs.Actives.{Active, activesOf}
-use Rattle.segments.specs.Items.{itemOf, itemsOf}
 use Rattle.segments.proofs.Bounds.{actives-each, all-max}
 use Rattle.windows.specs.Demand.{others}
 use Rattle.misses.specs.Overloads.{Overload, overloads, Piece, piece, piecesFrom, piecesOf, capacitiesOf}
@@ -131,7 +130,7 @@ module _ (t : ℕ) (os : List Overload) (p : Pieces) (is : p ≡ gathered t os) 
 
 -- no active segment costs more than a chain can
 module _ (b : Row) where
-  piece-cheap : (n : ℕ) (l : List Active) → All (λ s. s .cost ≤ dearest) l → All (λ p. p .cost ≤ dearest) (map (piece n) (map itemOf l))
+  piece-cheap : (n : ℕ) (l : List Active) → All (λ s. s .cost ≤ dearest) l → All (λ p. p .cost ≤ dearest) (map (piece n) l)
   piece-cheap n [] h = tt
   piece-cheap n (s ∷ l) h = (h .0, piece-cheap n l (h .1))
 
@@ -140,7 +139,7 @@ module _ (b : Row) where
   cheap n [] good = tt
   cheap n (a ∷ l) good = when-cases (λ os. All (λ p. p .cost ≤ dearest) (piecesFrom n os)) (eqb (a .overload) 0)
       (λ e. cheap n l (good .1))
-      (λ e. all-append (λ p. p .cost ≤ dearest) (map (piece n) (itemsOf a b)) (piecesFrom (n + 1) (overloads b l))
+      (λ e. all-append (λ p. p .cost ≤ dearest) (map (piece n) (activesOf a b)) (piecesFrom (n + 1) (overloads b l))
       (piece-cheap n (activesOf a b) (all-map (λ s h. le-trans h (all-max a (good .0) b)) (activesOf a b) (actives-each a b)))
       (cheap (n + 1) l (good .1)))
 

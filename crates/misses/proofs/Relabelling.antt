@@ -12,10 +12,9 @@ use Rattle.search.specs.Lists.{All, Paired}
 use Rattle.search.proofs.Choice.{when-yes, when-no}
 use Rattle.search.proofs.Lists.{all-map, all-append}
 use Rattle.arrivals.specs.Arrivals.{η}
-use Rattle.segments.specs.Items.{Item}
-use Rattle.segments.proofs.Order.{behind}
+use Rattle.segments.proofs.Order.{labelOf, behind}
 use Rattle.segments.proofs.Renaming.{rename, Renamed}
-use Rattle.misses.specs.Overloads.{Overload, Piece, piece, piecesFrom, capacitiesOf}
+use Rattle.misses.specs.Overloads.{Overload, Piece, piecesFrom, capacitiesOf}
 use Rattle.misses.proofs.Together.{renamed}
 
 -- an active segment and its capacity
@@ -23,38 +22,42 @@ pub record Part : Type 0 where
   pub piece : Piece
   pub room : ℕ
 
-abbrev part : ℕ → ℕ → List ℕ → Item → Part
-part t n ds i = record { piece = piece n i; room = η ds t + 1 }
+abbrev part : ℕ → ℕ → List ℕ → ℕ × ℕ → Part
+part t n ds l = record { piece = record { chain = n; segment = l .0; cost = l .1 }; room = η ds t + 1 }
+
+-- those of an overload chain, each as the number of its segment and its cost
+abbrev labelsOf : Overload → List (ℕ × ℕ)
+labelsOf o = map labelOf (o .actives)
 
 -- those of some overload chains, the chains numbered from n on
 unfoldable pub partsFrom : ℕ → ℕ → List Overload → List Part
 partsFrom t n [] = []
-partsFrom t n (o ∷ os) = map (part t n (o .list)) (o .items) ++ partsFrom t (n + 1) os
+partsFrom t n (o ∷ os) = map (part t n (o .list)) (labelsOf o) ++ partsFrom t (n + 1) os
 
 module _ (t : ℕ) where
   pub parts-pieces : (n : ℕ) (os : List Overload) → map (λ p. p .piece) (partsFrom t n os) ≡ piecesFrom n os
   unfolding partsFrom piecesFrom
   parts-pieces n [] = refl
   parts-pieces n (o ∷ os) =
-      map-append (λ p. p .piece) (map (part t n (o .list)) (o .items)) (partsFrom t (n + 1) os)
-      ∙ ap₂ _++_ (map-map (λ p. p .piece) (part t n (o .list)) (o .items)) (parts-pieces (n + 1) os)
+      map-append (λ p. p .piece) (map (part t n (o .list)) (labelsOf o)) (partsFrom t (n + 1) os)
+      ∙ ap₂ _++_ (map-map (λ p. p .piece) (part t n (o .list)) (labelsOf o) ∙ map-map _ labelOf (o .actives)) (parts-pieces (n + 1) os)
 
   pub parts-rooms : (n : ℕ) (os : List Overload) → map (λ p. p .room) (partsFrom t n os) ≡ capacitiesOf t os
   unfolding partsFrom capacitiesOf
   parts-rooms n [] = refl
   parts-rooms n (o ∷ os) =
-      map-append (λ p. p .room) (map (part t n (o .list)) (o .items)) (partsFrom t (n + 1) os)
-      ∙ ap₂ _++_ (map-map (λ p. p .room) (part t n (o .list)) (o .items)) (parts-rooms (n + 1) os)
+      map-append (λ p. p .room) (map (part t n (o .list)) (labelsOf o)) (partsFrom t (n + 1) os)
+      ∙ ap₂ _++_ (map-map (λ p. p .room) (part t n (o .list)) (labelsOf o) ∙ map-map _ labelOf (o .actives)) (parts-rooms (n + 1) os)
 
   -- all of them bear a chain's number from n on
-  of-chain : (m n : ℕ) (ds : List ℕ) (l : List Item) → m ≤ n → All (λ (p : Part). m ≤ p .piece .chain) (map (part t n ds) l)
+  of-chain : (m n : ℕ) (ds : List ℕ) (l : List (ℕ × ℕ)) → m ≤ n → All (λ (p : Part). m ≤ p .piece .chain) (map (part t n ds) l)
   of-chain m n ds [] h = tt
   of-chain m n ds (i ∷ l) h = (h, of-chain m n ds l h)
 
   from : (m n : ℕ) (os : List Overload) → m ≤ n → All (λ (p : Part). m ≤ p .piece .chain) (partsFrom t n os)
   unfolding partsFrom
   from m n [] h = tt
-  from m n (o ∷ os) h = all-append (λ (p : Part). m ≤ p .piece .chain) (map (part t n (o .list)) (o .items)) (partsFrom t (n + 1) os) (of-chain m n (o .list) (o .items) h) (from m (n + 1) os (omega arith))
+  from m n (o ∷ os) h = all-append (λ (p : Part). m ≤ p .piece .chain) (map (part t n (o .list)) (labelsOf o)) (partsFrom t (n + 1) os) (of-chain m n (o .list) (labelsOf o) h) (from m (n + 1) os (omega arith))
 
 map-same : {A B : Type 0} (f g : A → B) (l : List A) → All (λ a. f a ≡ g a) l → map f l ≡ map g l
 map-same f g [] h = refl
@@ -92,14 +95,14 @@ both {n} {l} {k} s t = record {
 -- two overload chains that are alike: the same distances, and the same active segments once their segments are renumbered
 pub record Same (o p : Overload) : Type 0 where
   pub list : o .list ≡ p .list
-  pub items : Renamed 0 (o .items) (p .items)
+  pub actives : Renamed 0 (labelsOf o) (labelsOf p)
 
 -- a chain bears another number, and its segments others
 block : (chain : ℕ → ℕ) (name : ℕ → ℕ → ℕ) (f : ℕ → ℕ) (t n i : ℕ) (ds : List ℕ) → chain n ≡ i → ((j : ℕ) → name n j ≡ f j)
-    → (l : List Item) → map (relabel chain name) (map (part t n ds) l) ≡ map (part t i ds) (map (rename f) l)
+    → (l : List (ℕ × ℕ)) → map (relabel chain name) (map (part t n ds) l) ≡ map (part t i ds) (map (rename f) l)
 block chain name f t n i ds e g [] = refl
 block chain name f t n i ds e g (a ∷ l) =
-    ap₂ _∷_ (ap₂ (λ x j. record { piece = record { chain = x; segment = j; cost = a .cost }; room = η ds t + 1 }) e (g (a .segment))) (block chain name f t n i ds e g l)
+    ap₂ _∷_ (ap₂ (λ x j. record { piece = record { chain = x; segment = j; cost = a .1 }; room = η ds t + 1 }) e (g (a .0))) (block chain name f t n i ds e g l)
 
 module _ (t n : ℕ) where
   -- one chain more in front
@@ -114,16 +117,16 @@ module _ (t n : ℕ) where
     own = λ x j h. when-no _ _ (ne-eqb x n (λ e. omega arith)) ∙ s .own x j (omega arith);
     order =
         rw (
-          map-append (relabel (s .chain) name) (map (part t n (o .list)) (o .items)) (partsFrom t (n + 1) os),
-          block (s .chain) name (a .items .name) t n n (o .list) (s .stay n (omega arith)) (λ j. when-yes _ _ (eq-eqb n n refl)) (o .items),
+          map-append (relabel (s .chain) name) (map (part t n (o .list)) (labelsOf o)) (partsFrom t (n + 1) os),
+          block (s .chain) name (a .actives .name) t n n (o .list) (s .stay n (omega arith)) (λ j. when-yes _ _ (eq-eqb n n refl)) (labelsOf o),
           map-same (relabel (s .chain) name) (relabel (s .chain) (s .name)) (partsFrom t (n + 1) os) rest,
           a .list,
         )
-        (List·Permᴰ·trans (Permᴰ·append-right _ (Permᴰ·map (part t n (p .list)) (a .items .order))) (Permᴰ·append-left (map (part t n (p .list)) (p .items)) (s .order)));
+        (List·Permᴰ·trans (Permᴰ·append-right _ (Permᴰ·map (part t n (p .list)) (a .actives .order))) (Permᴰ·append-left (map (part t n (p .list)) (labelsOf p)) (s .order)));
   }
     where
       name : ℕ → ℕ → ℕ
-      name x j = a .items .name j when eqb x n else s .name x j
+      name x j = a .actives .name j when eqb x n else s .name x j
 
       rest : All (λ (q : Part). relabel (s .chain) name q ≡ relabel (s .chain) (s .name) q) (partsFrom t (n + 1) os)
       rest =
@@ -139,7 +142,7 @@ module _ (t n : ℕ) where
     apart = apart;
     stay = λ x h. f-else x (λ e. omega arith) (λ e. omega arith);
     own = λ x j h. refl;
-    order = rw swapped (behind (map (part t (n + 1) (o .list)) (o .items)) (map (part t n (p .list)) (p .items)) (partsFrom t (n + 1 + 1) os));
+    order = rw swapped (behind (map (part t (n + 1) (o .list)) (labelsOf o)) (map (part t n (p .list)) (labelsOf p)) (partsFrom t (n + 1 + 1) os));
   }
     where
       f : ℕ → ℕ
@@ -172,18 +175,18 @@ module _ (t n : ℕ) where
           all-map (λ q h. ap (λ x. record { piece = record { chain = x; segment = q .piece .segment; cost = q .piece .cost }; room = q .room }) (f-else (q .piece .chain) (λ e. omega arith) (λ e. omega arith)))
           (partsFrom t (n + 1 + 1) os) (from t (n + 1 + 1) (n + 1 + 1) os (omega arith))
 
-      swapped : map (relabel f (λ x j. j)) (partsFrom t n (o ∷ p ∷ os)) ≡ map (part t (n + 1) (o .list)) (o .items) ++ (map (part t n (p .list)) (p .items) ++ partsFrom t (n + 1 + 1) os)
+      swapped : map (relabel f (λ x j. j)) (partsFrom t n (o ∷ p ∷ os)) ≡ map (part t (n + 1) (o .list)) (labelsOf o) ++ (map (part t n (p .list)) (labelsOf p) ++ partsFrom t (n + 1 + 1) os)
       swapped =
-          map-append (relabel f (λ x j. j)) (map (part t n (o .list)) (o .items)) _
+          map-append (relabel f (λ x j. j)) (map (part t n (o .list)) (labelsOf o)) _
           ∙ ap₂ _++_
-          (block f (λ x j. j) (λ j. j) t n (n + 1) (o .list) f-first (λ j. refl) (o .items) ∙ ap (map (part t (n + 1) (o .list))) (map-id (o .items)))
-          (map-append (relabel f (λ x j. j)) (map (part t (n + 1) (p .list)) (p .items)) (partsFrom t (n + 1 + 1) os)
+          (block f (λ x j. j) (λ j. j) t n (n + 1) (o .list) f-first (λ j. refl) (labelsOf o) ∙ ap (map (part t (n + 1) (o .list))) (map-id (labelsOf o)))
+          (map-append (relabel f (λ x j. j)) (map (part t (n + 1) (p .list)) (labelsOf p)) (partsFrom t (n + 1 + 1) os)
           ∙ ap₂ _++_
-          (block f (λ x j. j) (λ j. j) t (n + 1) n (p .list) f-second (λ j. refl) (p .items) ∙ ap (map (part t n (p .list))) (map-id (p .items)))
+          (block f (λ x j. j) (λ j. j) t (n + 1) n (p .list) f-second (λ j. refl) (labelsOf p) ∙ ap (map (part t n (p .list))) (map-id (labelsOf p)))
           (map-same (relabel f (λ x j. j)) (λ q. q) (partsFrom t (n + 1 + 1) os) rest ∙ map-id (partsFrom t (n + 1 + 1) os)))
 
 same-own : (o : Overload) → Same o o
-same-own o = record { list = refl; items = record { name = λ j. j; stay = λ x h. refl; order = rw (map-id (o .items)) (Permᴰ·refl (o .items)) } }
+same-own o = record { list = refl; actives = record { name = λ j. j; stay = λ x h. refl; order = rw (map-id (labelsOf o)) (Permᴰ·refl (labelsOf o)) } }
 
 -- no order of the chains matters
 perm-parts : (t n : ℕ) {os ps : List Overload} → List·Permᴰ os ps → Relabelled n (partsFrom t n os) (partsFrom t n ps)

@@ -53,7 +53,7 @@ alike-overloads b {l} {r} p =
     rw (overloads-keep b l, overloads-keep b r)
     (paired-map (paired-keep p _ _ (λ a c h. ap (λ n. not (eqb n 0)) (sym (view-overload a b) ∙ h .overload ∙ view-overload c b)))
     (λ a. overload a b) (λ c. overload c b)
-    (λ a c h. record { list = sym (view-list a b) ∙ h .list ∙ view-list c b; items = alike-renamed a b c b h }))
+    (λ a c h. record { list = sym (view-list a b) ∙ h .list ∙ view-list c b; actives = alike-renamed a b c b h }))
 
 some-map : {A B : Type 0} (f : A → B) (p : B → Bool) (l : List A) → some p (map f l) ≡ some (λ a. p (f a)) l
 unfolding some

@@ -1,151 +1,178 @@
--- What an answer of the segment query says: who is in the table, and which bytes the task records are. Assumes nothing.
-use Prim.Native.Nat.{ℕ, zero, suc, _+_, _*_, _-_, _<_, _≤_}
+-- What the segment query hands back: the task records of that active segment, where they stand. Assumes nothing.
+use Prim.Native.Nat.{ℕ, zero, suc, _+_, _*_, _-_, _/_, _%_, _<_, _≤_}
 use native.Mathlib.Omega.{arith}
-use mathlib.Core.Path.{_≡_, refl, ap, ap₂, sym, _∙_}
-use mathlib.Core.List.{List}
+use mathlib.Core.Path.{_≡_, refl, ap, ap₂, sym, subst, _∙_}
+use mathlib.Core.List.{List, [], _∷_, _++_, map, flatten}
 use mathlib.Core.Bool.{not, _||_}
-use borrow.Author.Tests.{ltb-true, eqb-false, not-false}
+use borrow.Author.Tests.{ltb-true, eqb-true, not-false}
 use lib.Dec.{eqb}
-use lib.ListN.{length, getD, take, drop, length-take, length-drop}
-use lib.Seq.{getD-take, getD-drop}
+use lib.ListN.{length, getD, take, drop}
+use lib.Seq.{drop-cons, drop-drop, take-add}
 use Rattle.search.proofs.Choice.{when-cases}
-use Rattle.table.specs.Limits.{maxTasks}
-use Rattle.table.specs.Bytes.{word, Bytes}
-use Rattle.table.specs.Record.{priorityAt, costAt, afterList, firstTask, spaced, pad, rowAt}
+use Rattle.table.specs.Bytes.{word, bytesOf, Bytes}
+use Rattle.table.specs.Record.{priorityAt, costAt, afterList, rowAt}
+use Rattle.table.specs.Fault.{markOf}
 use Rattle.table.specs.Find.{rowOf, findOf, used}
 use Rattle.table.specs.Place.{placeOf}
 use Rattle.table.specs.code.Taken.{Holds}
-use Rattle.table.specs.Read.{byVerdict, readTable}
+use Rattle.table.specs.Read.{byVerdict, readTable, tableOf}
 use Rattle.table.specs.declared.Row.{Row}
 use Rattle.table.specs.declared.Table.{Table}
+use Rattle.table.specs.declared.Mark.the-variants as mark
 use Rattle.table.specs.declared.Verdict.{Verdict}
 use Rattle.table.specs.declared.Verdict.the-variants as verdict
-use Rattle.table.proofs.Lists.{spaced-at}
-use Rattle.table.proofs.Goods.{pad-at}
+use Rattle.table.proofs.Stands.{priority-at, cost-at}
 use Rattle.table.proofs.Firsts.{none-or}
 use Rattle.table.proofs.Faultless.{inside}
 use Rattle.table.proofs.Accepted.{taken}
-use Rattle.segments.specs.Actives.{Active, nothing, activesOf}
-use Rattle.segments.specs.Query.{nthOf, answerOf, segmentOf, partOf}
+use Rattle.segments.specs.Tasks.{Task, tasksFrom}
+use Rattle.segments.specs.Actives.{Active, startOf, nothing}
+use Rattle.segments.specs.Query.{activesIn, nthOf, answerOf, segmentOf, partOf, taskRecord, tasksIn, TaskRecords}
 use Rattle.segments.specs.declared.Answer.the-variants.{Records, Refused}
-use Rattle.segments.proofs.Standing.{Stands, actives-stand, all-at}
+use Rattle.segments.proofs.Steps.{task}
+use Rattle.segments.proofs.Standing.{active-contiguous, actives-length, active-start, active-length}
 
--- the active segments of one chain of a table against another, by their ids, and the one of a number
-abbrev pub activesIn : Table → ℕ → ℕ → List Active
-activesIn t chain against = activesOf (rowOf t (findOf t chain)) (rowOf t (findOf t against))
+-- records are answered of a chain of the table, for a number that an active segment has: they are that one's
+abbrev asked : Table → ℕ → ℕ → ℕ → Active
+asked t id against number = getD (activesIn t (findOf t id) (findOf t against)) (number - 1) nothing
 
-abbrev pub activeIn : Table → ℕ → ℕ → ℕ → Active
-activeIn t chain against number = getD (activesIn t chain against) (number - 1) nothing
-
--- records are answered of two chains of the table, for a number that an active segment has
-pub record Answered (t : Table) (chain against number offset len : ℕ) : Type 0 where
-  pub chain-there : findOf t chain < t .count
-  pub against-there : findOf t against < t .count
-  pub apart : chain ≡ against → ⊥
-  pub low : 1 ≤ number
-  pub high : number ≤ length (activesIn t chain against)
-  pub offset-is : offset ≡ afterList (placeOf t (findOf t chain)) (rowOf t (findOf t chain) .listed) + 8 * activeIn t chain against number .start
-  pub length-is : len ≡ 8 * activeIn t chain against number .len
+record Answered (t : Table) (id against number offset len : ℕ) : Type 0 where
+  there : findOf t id < t .count
+  low : 1 ≤ number
+  high : number ≤ length (activesIn t (findOf t id) (findOf t against))
+  offset-is : offset ≡ afterList (placeOf t (findOf t id)) (rowOf t (findOf t id) .listed) + 8 * asked t id against number .start
+  length-is : len ≡ 8 * asked t id against number .len
 
 -- no refusal is a figure
 refused : {A : Type 0} (n offset len : ℕ) → Refused n ≡ Records offset len → A
 refused n offset len e = absurd (let z : _≡_ {A = ℕ} 0 1 = cc in omega arith)
 
-pub answered : (t : Table) (chain against number offset len : ℕ) → answerOf t chain against number ≡ Records offset len
-    → Answered t chain against number offset len
+answered : (t : Table) (id against number offset len : ℕ) → answerOf t id against number ≡ Records offset len → Answered t id against number offset len
 unfolding answerOf nthOf
-answered t chain against number offset len =
-    when-cases (λ r. r ≡ Records offset len → Answered t chain against number offset len) (not (used t chain) || not (used t against))
+answered t id against number offset len =
+    when-cases (λ r. r ≡ Records offset len → Answered t id against number offset len) (not (used t id) || not (used t against))
     (λ u. refused 12 offset len)
-    (λ u. when-cases (λ r. r ≡ Records offset len → Answered t chain against number offset len) (eqb chain against)
+    (λ u. when-cases (λ r. r ≡ Records offset len → Answered t id against number offset len) (eqb id against)
     (λ v. refused 25 offset len)
-    (λ v. when-cases (λ r. r ≡ Records offset len → Answered t chain against number offset len) _
+    (λ v. when-cases (λ r. r ≡ Records offset len → Answered t id against number offset len) _
     (λ w. refused 26 offset len)
     (λ w e.
-    let both = none-or (not (used t chain)) (not (used t against)) u in
     let range = inside 1 _ number w in
     record {
-      chain-there = ltb-true _ _ (not-false _ (both .0));
-      against-there = ltb-true _ _ (not-false _ (both .1));
-      apart = eqb-false chain against v;
+      there = ltb-true _ _ (not-false _ (none-or (not (used t id)) (not (used t against)) u .0));
       low = range .0;
       high = range .1;
       offset-is = cc;
       length-is = cc;
     })))
 
--- a number in a part of the bytes
-word-part : (n : ℕ) (s : List ℕ) (from len at : ℕ) → at + n ≤ len → word n (take len (drop from s)) at ≡ word n s (from + at)
-unfolding word
-word-part zero s from len at h = refl
-word-part (suc n) s from len at h =
-    let e : from + (at + 1) ≡ from + at + 1 = omega arith in
-    ap₂ (λ x y. x + 256 * y) (getD-take len (drop from s) at 0 (omega arith) ∙ getD-drop from s at 0)
-    (word-part n s from len (at + 1) (omega arith) ∙ ap (word n s) e)
+-- the bytes of a number that is read are those that it makes
+bytes-word : (n : ℕ) (s : List ℕ) (at : ℕ) → Bytes s → at + n ≤ length s → bytesOf n (word n s at) ≡ take n (drop at s)
+unfolding word bytesOf
+bytes-word zero s at bytes h = refl
+bytes-word (suc n) s at bytes h =
+    let rest = word n s (at + 1) in
+    let low : (getD s at 0 + 256 * rest) % 256 ≡ getD s at 0 = omega (arith, bytes at) in
+    let high : (getD s at 0 + 256 * rest) / 256 ≡ rest = omega (arith, bytes at) in
+    let next : suc at ≡ at + 1 = omega arith in
+    rw (low, high, drop-cons s at 0 (omega arith), next) (ap (λ l. getD s at 0 ∷ l) (bytes-word n s (at + 1) bytes (omega arith)))
 
--- a number of each task, filled up to the limit: the j-th stands at the j-th task record
-task-at : (f : ℕ → ℕ) (n first j : ℕ) → j < n → getD (pad maxTasks (spaced f 8 n first)) j 0 ≡ f (first + 8 * j)
-task-at f n first j h = pad-at maxTasks (spaced f 8 n first) j ∙ spaced-at f 8 n j first h
+mark-is : (m : ℕ) → markOf m ≡ mark.Task → m ≡ 19284
+unfolding markOf
+mark-is m = when-cases (λ x. x ≡ mark.Task → m ≡ 19284) (eqb m 18499)
+    (λ e f. absurd (let z : _≡_ {A = ℕ} 0 1 = cc in omega arith))
+    (λ e. when-cases (λ x. x ≡ mark.Task → m ≡ 19284) (eqb m 19284) (λ g f. eqb-true m 19284 g)
+    (λ g. when-cases (λ x. x ≡ mark.Task → m ≡ 19284) (eqb m 20037)
+    (λ d f. absurd (let z : _≡_ {A = ℕ} 0 1 = cc in omega arith)) (λ d f. absurd (let z : _≡_ {A = ℕ} 0 1 = cc in omega arith))))
 
--- the bytes are task records: those of the tasks of an active segment of the row a, one after the other
-pub record Recorded (part : List ℕ) (a : Row) (s : Active) : Type 0 where
-  pub size : length part ≡ 8 * s .len
-  pub priorities : (k : ℕ) → k < s .len → priorityAt part (8 * k) ≡ getD (a .priority) (s .start + k) 0
-  pub costs : (k : ℕ) → k < s .len → costAt part (8 * k) ≡ getD (a .cost) (s .start + k) 0
-
-recorded : (s : List ℕ) (at offset len : ℕ) (a : Row) (x : Active) → rowAt s at ≡ a → offset ≡ at + 16 + 4 * a .listed + 8 * x .start → len ≡ 8 * x .len
-    → x .start + x .len ≤ a .tasks → offset + len ≤ length s → Recorded (take len (drop offset s)) a x
-unfolding rowAt
-recorded s at offset len a x e o l i h = record {
-  size = length-take len (drop offset s) ∙ omega (arith, length-drop offset s);
-  priorities = field 2 (λ r. r .priority) (omega arith) (task-at (priorityAt s) (rowAt s at .tasks) (firstTask s at));
-  costs = field 4 (λ r. r .cost) (omega arith) (task-at (costAt s) (rowAt s at .tasks) (firstTask s at));
-}
+-- 8 bytes are a task's record
+task-bytes : (s : List ℕ) (at : ℕ) (t : Task) → Bytes s → at + 8 ≤ length s → markOf (word 2 s at) ≡ mark.Task → priorityAt s at ≡ t .priority → costAt s at ≡ t .cost
+    → take 8 (drop at s) ≡ taskRecord t
+task-bytes s at t bytes h m p c =
+    take-add 2 6 (drop at s)
+    ∙ ap₂ _++_ (sym (bytes-word 2 s at bytes (omega arith)) ∙ ap (bytesOf 2) (mark-is (word 2 s at) m))
+    (ap (take 6) (drop-drop 2 at s) ∙ take-add 2 4 (drop (at + 2) s)
+    ∙ ap₂ _++_ (sym (bytes-word 2 s (at + 2) bytes (omega arith)) ∙ ap (bytesOf 2) p)
+    (ap (take 4) (drop-drop 2 (at + 2) s ∙ ap (λ n. drop n s) four) ∙ sym (bytes-word 4 s (at + 4) bytes (omega arith)) ∙ ap (bytesOf 4) c))
   where
-    -- a number of w bytes, w bytes after the start of a task record
-    field : (w : ℕ) (list : Row → List ℕ) → w ≤ 4
-        → ((j : ℕ) → j < rowAt s at .tasks → getD (list (rowAt s at)) j 0 ≡ word w s (firstTask s at + 8 * j + w))
-        → (k : ℕ) → k < x .len → word w (take len (drop offset s)) (8 * k + w) ≡ getD (list a) (x .start + k) 0
-    field w list small stored k lt =
-        let there : x .start + k < rowAt s at .tasks = omega (arith, ap (λ r. r .tasks) e) in
-        let place : offset + (8 * k + w) ≡ firstTask s at + 8 * (x .start + k) + w = omega (arith, ap (λ r. r .listed) e) in
-        word-part w s offset len (8 * k + w) (omega arith) ∙ ap (word w s) place ∙ sym (stored (x .start + k) there)
-        ∙ ap (λ r. getD (list r) (x .start + k) 0) e
+    four : at + 2 + 2 ≡ at + 4
+    four = omega arith
+
+-- so are those of n tasks, from the one with i before it on, where the first task's record starts at `first`
+tasks-bytes : (s ps cs : List ℕ) (first most : ℕ) → ((i : ℕ) → i < most → take 8 (drop (first + 8 * i) s) ≡ taskRecord (task ps cs i))
+    → (n i : ℕ) → i + n ≤ most → take (8 * n) (drop (first + 8 * i) s) ≡ flatten (map taskRecord (tasksFrom ps cs n i))
+unfolding flatten tasksFrom
+tasks-bytes s ps cs first most each zero i h = refl
+tasks-bytes s ps cs first most each (suc n) i h =
+    let more : 8 * suc n ≡ 8 + 8 * n = omega arith in
+    let next : first + 8 * i + 8 ≡ first + 8 * (i + 1) = omega arith in
+    ap (λ m. take m (drop (first + 8 * i) s)) more ∙ take-add 8 (8 * n) (drop (first + 8 * i) s)
+    ∙ ap₂ _++_ (each i (omega arith)) (ap (take (8 * n)) (drop-drop 8 (first + 8 * i) s ∙ ap (λ m. drop m s) next) ∙ tasks-bytes s ps cs first most each n (i + 1) (omega arith))
 
 -- an answer comes from an accepted table, which its bytes hold
-module _ (s : List ℕ) (bytes : Bytes s) (chain against number offset len : ℕ) (e : segmentOf s chain against number ≡ Records offset len) where
+module _ (s : List ℕ) (bytes : Bytes s) (id against number offset len : ℕ) (e : segmentOf s id against number ≡ Records offset len) where
   accepted : readTable s .verdict ≡ verdict.Accepted
   unfolding segmentOf
   accepted = by (readTable s .verdict) e
     where
-      by : (v : Verdict) → byVerdict Refused v (answerOf (readTable s .table) chain against number) ≡ Records offset len → v ≡ verdict.Accepted
+      by : (v : Verdict) → byVerdict Refused v (answerOf (tableOf s) id against number) ≡ Records offset len → v ≡ verdict.Accepted
       by verdict.Accepted q = refl
       by (verdict.Refused n) q = refused n offset len q
 
-  pub answer-of : Answered (readTable s .table) chain against number offset len
+  answer-of : Answered (tableOf s) id against number offset len
   unfolding segmentOf
   answer-of =
-      answered (readTable s .table) chain against number offset len
-      (sym (ap (λ v. byVerdict Refused v (answerOf (readTable s .table) chain against number)) accepted) ∙ e)
+      answered (tableOf s) id against number offset len
+      (sym (ap (λ v. byVerdict Refused v (answerOf (tableOf s) id against number)) accepted) ∙ e)
 
-  holds : Holds s (readTable s .table)
+  holds : Holds s (tableOf s)
   holds = taken s bytes accepted .holds
 
-  -- the active segment stands in its chain
-  stands : Stands (rowOf (readTable s .table) (findOf (readTable s .table) chain)) (activeIn (readTable s .table) chain against number)
-  stands =
-      let t = readTable s .table in
-      all-at (Stands (rowOf t (findOf t chain))) (activesIn t chain against) (number - 1) (actives-stand (rowOf t (findOf t chain)) (rowOf t (findOf t against))) (omega (arith, answer-of .low, answer-of .high))
+  abbrev chain : ℕ
+  chain = findOf (tableOf s) id
 
-  -- so its task records lie in the bytes, inside their chain's record
+  abbrev row : Row
+  row = rowOf (tableOf s) chain
+
+  abbrev other : Row
+  other = rowOf (tableOf s) (findOf (tableOf s) against)
+
+  abbrev first : ℕ
+  first = afterList (placeOf (tableOf s) chain) (row .listed)
+
+  abbrev tasks : List Task
+  tasks = getD (tasksIn (tableOf s) id against) (number - 1) []
+
+  -- the records are those of its tasks, and lie inside their chain's record
+  offset-there : offset ≡ first + 8 * startOf tasks
+  offset-there = answer-of .offset-is ∙ ap (λ n. first + 8 * n) (active-start row other (number - 1))
+
+  length-there : len ≡ 8 * length tasks
+  length-there = answer-of .length-is ∙ ap (λ n. 8 * n) (active-length row other (number - 1))
+
+  follow-there : startOf tasks + length tasks ≤ row .tasks
+  follow-there = active-contiguous row other (number - 1) .inside
+
   pub answer-inside : offset + len ≤ length s
-  answer-inside =
-      let t = readTable s .table in
-      omega (arith, answer-of .offset-is, answer-of .length-is, stands .inside, holds .inside (findOf t chain) (answer-of .chain-there))
+  answer-inside = omega (arith, offset-there, length-there, follow-there, holds .inside chain (answer-of .there))
 
-  -- and they are the records of its tasks, where these stand
-  pub answer-records : Recorded (partOf s (Records offset len)) (rowOf (readTable s .table) (findOf (readTable s .table) chain)) (activeIn (readTable s .table) chain against number)
-  answer-records =
-      let t = readTable s .table in
-      let k = findOf t chain in
-      recorded s (placeOf t k) offset len (rowOf t k) (activeIn t chain against number) (holds .makes k (answer-of .chain-there)) (answer-of .offset-is) (answer-of .length-is) (stands .inside) answer-inside
+  -- each task of the chain stands where its record does
+  each-task : (i : ℕ) → i < row .tasks → take 8 (drop (first + 8 * i) s) ≡ taskRecord (task (row .priority) (row .cost) i)
+  unfolding rowAt
+  each-task i h =
+      let at = placeOf (tableOf s) chain in
+      let values = subst (λ r. i < r .tasks → (priorityAt s (afterList at (r .listed) + 8 * i) ≡ getD (r .priority) i 0) × (costAt s (afterList at (r .listed) + 8 * i) ≡ getD (r .cost) i 0))
+      (holds .makes chain (answer-of .there)) (λ l. (sym (priority-at s at i l), sym (cost-at s at i l))) h in
+      task-bytes s (first + 8 * i) (task (row .priority) (row .cost) i) bytes (omega (arith, holds .inside chain (answer-of .there), h))
+      (holds .task-marks chain (answer-of .there) i h) (values .0) (values .1)
+
+  -- what is handed back is the task records of that active segment
+  pub answer-records : TaskRecords s id against number (partOf s (Records offset len))
+  answer-records = record {
+    low = answer-of .low;
+    high = omega (arith, answer-of .high, actives-length row other);
+    bytes =
+        ap₂ (λ m n. take m (drop n s)) length-there offset-there
+        ∙ tasks-bytes s (row .priority) (row .cost) first (row .tasks) each-task (length tasks) (startOf tasks) follow-there
+        ∙ ap (λ l. flatten (map taskRecord l)) (sym (active-contiguous row other (number - 1) .are));
+  }

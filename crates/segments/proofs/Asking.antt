@@ -15,7 +15,8 @@ use Rattle.table.specs.Place.{placeOf}
 use Rattle.table.specs.code.Good.{GoodTable}
 use Rattle.table.specs.declared.Row.{Row}
 use Rattle.table.specs.declared.Table.{Table}
-use Rattle.table.specs.Record.{afterList, firstTask, rowAt}
+use Rattle.table.specs.Limits.{maxDistances, maxTasks}
+use Rattle.table.specs.Record.{afterList, recordLength, firstTask, rowAt}
 use Rattle.table.specs.code.Taken.{Taken}
 use Rattle.table.specs.Read.{tableOf}
 use Rattle.table.proofs.Standing.{place-none, place-on}
@@ -25,11 +26,11 @@ use Rattle.table.proofs.Finds.{find-le}
 use Rattle.segments.specs.Tasks.{tasksOf, floorOf, tailOf}
 use Rattle.segments.specs.Actives.{nothing, actives, activesOf}
 use Rattle.segments.specs.code.Held.{arraysOf}
-use Rattle.segments.specs.Query.{nthOf}
+use Rattle.segments.specs.Query.{activesIn, nthOf}
 use Rattle.segments.specs.declared.Actives.{Actives}
 use Rattle.segments.specs.declared.Answer.the-variants.{Records, Refused}
 use Rattle.segments.proofs.Bounds.{actives-tasks}
-use Rattle.segments.proofs.Standing.{Stands, actives-stand, all-at, array-at}
+use Rattle.segments.proofs.Standing.{active-contiguous, active-start, active-length, array-at}
 
 -- an id is in the table unless the count of chains is found for it
 module _ (t : Table) (id : ℕ) where
@@ -47,12 +48,13 @@ pub found-is : (a b : Row) (floor tail : ℕ) (l : Actives) → floor ≡ floorO
     → l ≡ arraysOf (activesOf a b)
 found-is a b floor tail l f t e = e ∙ ap₂ (λ x y. arraysOf (actives x y (tasksOf a))) f t
 
--- where the task records of the chain k start, by its record
-pub first-there : {s : List ℕ} (t : Taken s) {k at : ℕ} → at ≡ placeOf (tableOf s) k → k < tableOf s .count → firstTask s at ≡ afterList (placeOf (tableOf s) k) (rowOf (tableOf s) k .listed)
+-- where a chain's task records start, by its record
+pub first-there : {s : List ℕ} (t : Taken s) {chain at : ℕ} → at ≡ placeOf (tableOf s) chain → chain < tableOf s .count
+    → firstTask s at ≡ afterList (placeOf (tableOf s) chain) (rowOf (tableOf s) chain .listed)
 unfolding rowAt
 first-there t e h = omega (arith, e, ap (λ (r : Row). r .listed) (row-there t e h))
 
--- the active segment n, counted from 1, out of the arrays: it stands inside its chain
+-- the active segment n, counted from 1, out of the arrays: it lies inside its chain
 pub record Fetched (a b : Row) (l : Actives) (n : ℕ) : Type 0 where
   pub start : getD (l .start) (n - 1) 0 ≡ getD (activesOf a b) (n - 1) nothing .start
   pub len : getD (l .len) (n - 1) 0 ≡ getD (activesOf a b) (n - 1) nothing .len
@@ -66,29 +68,32 @@ fetched a b l n e some few =
       start = rw e (array-at (λ s. s .start) (activesOf a b) (n - 1) h);
       len = rw e (array-at (λ s. s .len) (activesOf a b) (n - 1) h);
       few = omega (arith, actives-tasks a (floorOf b) (tailOf b));
-      inside = all-at (Stands a) (activesOf a b) (n - 1) (actives-stand a b) h .inside;
+      inside = omega (arith, active-start a b (n - 1), active-length a b (n - 1), active-contiguous a b (n - 1) .inside);
     }
 
-module _ (t : Table) (k j n : ℕ) (l : Actives) (e : l ≡ arraysOf (activesOf (rowOf t k) (rowOf t j))) where
-  count-is : (b : Bool) → ltb (l .count) n ≡ b → ltb (length (activesOf (rowOf t k) (rowOf t j))) n ≡ b
+module _ (t : Table) (chain other n : ℕ) (l : Actives) (e : l ≡ arraysOf (activesIn t chain other)) where
+  count-is : (b : Bool) → ltb (l .count) n ≡ b → ltb (length (activesIn t chain other)) n ≡ b
   count-is b h = ap (λ o. ltb (o .count) n) (sym e) ∙ h
 
   -- no active segment has the number
-  pub nth-none : (n ≡ 0) ⊎ (ltb (l .count) n ≡ true) → Refused 26 ≡ nthOf t k j n
+  pub nth-none : (n ≡ 0) ⊎ (ltb (l .count) n ≡ true) → Refused 26 ≡ nthOf t chain other n
   unfolding nthOf
   nth-none h = sym (when-yes _ _ (⊎-elim (λ z. or-left _ _ (lt-ltb n 1 (omega arith))) (λ z. or-right (ltb n 1) _ (count-is true z)) h))
 
-  -- the task records of the one that has it, where those of the chain k start at `first`
-  pub nth-records : (first : ℕ) → first ≡ afterList (placeOf t k) (rowOf t k .listed) → (n ≡ 0 → ⊥) → ltb (l .count) n ≡ false
-      → Records (first + 8 * getD (l .start) (n - 1) 0) (8 * getD (l .len) (n - 1) 0) ≡ nthOf t k j n
+  -- the task records of the one that has it, where those of its chain start at `first`
+  pub nth-records : (first : ℕ) → first ≡ afterList (placeOf t chain) (rowOf t chain .listed) → (n ≡ 0 → ⊥) → ltb (l .count) n ≡ false
+      → Records (first + 8 * getD (l .start) (n - 1) 0) (8 * getD (l .len) (n - 1) 0) ≡ nthOf t chain other n
   unfolding nthOf
   nth-records first p some few =
-      let f = fetched (rowOf t k) (rowOf t j) l n e some (ltb-false (l .count) n few) in
+      let f = fetched (rowOf t chain) (rowOf t other) l n e some (ltb-false (l .count) n few) in
       rw (p, f .start, f .len) (sym (when-no _ _ (or-none _ _ (le-ltb n 1 (omega arith)) (count-is false few))))
 
--- no record is longer than 176 bytes
-pub place-max : (t : Table) → GoodTable t → (k : ℕ) → k ≤ t .count → placeOf t k ≤ 176 * k
+-- no record is longer than one with as many distances and tasks as may be
+abbrev pub longestRecord : ℕ
+longestRecord = recordLength maxDistances maxTasks
+
+pub place-max : (t : Table) → GoodTable t → (chain : ℕ) → chain ≤ t .count → placeOf t chain ≤ longestRecord * chain
 place-max t good zero h = omega (arith, place-none t)
-place-max t good (suc k) h =
-    let r = good .row k (omega arith) in
-    rw (← add-one k) (omega (arith, place-max t good k (omega arith), place-on t k (omega (arith, good .few, good .size)), r .list .few, r .listed, r .tasks .few))
+place-max t good (suc chain) h =
+    let r = good .row chain (omega arith) in
+    rw (← add-one chain) (omega (arith, place-max t good chain (omega arith), place-on t chain (omega (arith, good .few, good .size)), r .list .few, r .listed, r .tasks .few))

@@ -2,27 +2,27 @@
 use Prim.Native.Nat.{ℕ, zero, suc, _+_, _*_, _-_, _<_, _≤_}
 use native.Mathlib.Omega.{arith}
 use native.Mathlib.Nat.{eq-or-lt-of-le}
-use mathlib.Core.Path.{_≡_, refl, ap, ap₂, sym, subst, _∙_}
+use mathlib.Core.Path.{_≡_, refl, ap, sym, subst, _∙_}
 use mathlib.Core.Logic.{⊎-elim}
-use mathlib.Core.List.{List, [], _∷_, _++_, map}
+use mathlib.Core.List.{List, [], _∷_, map, flatten}
 use mathlib.Core.Bool.{Bool, true, false, _||_}
 use borrow.Author.Tests.{eq-eqb}
-use lib.ListN.{length, length-append, length-map}
+use lib.ListN.{length}
 use Rattle.search.specs.Choice.{_when_else_}
-use Rattle.search.specs.Lists.{sumOf, All, some}
-use Rattle.search.proofs.Lists.{sum-append, sum-ext}
+use Rattle.search.specs.Lists.{sumOf, mostOf, All, some}
+use Rattle.search.proofs.Lists.{sum-ext}
 use Rattle.table.specs.Limits.{maxTasks, maxCost}
 use Rattle.table.specs.code.Good.{GoodRow}
 use Rattle.table.specs.declared.Row.{Row}
 use Rattle.segments.specs.Tasks.{Task, tasksFrom, tasksOf, costOf, chainCost, floorOf, tailOf, below, atLevel, before, firstCost, ownPart}
-use Rattle.segments.specs.Segments.{_on_, stretches, around, nonempty, cuts, parts, cutSegments, segmentsOf, allCost, dearestCost}
-use Rattle.segments.specs.Actives.{Active, active, numbered, inOrder, actives, activesOf}
-use Rattle.segments.specs.View.{viewOf, countOf}
+use Rattle.segments.specs.Segments.{_on_, stretches, cuts, parts, segmentsOf}
+use Rattle.segments.specs.Actives.{Active, active, inOrder, actives, activesOf}
 use Rattle.segments.proofs.Steps.{task, rest-each, rest-length, cheap}
 use Rattle.segments.proofs.Levels.{lowest-hit}
-use Rattle.segments.proofs.Lists.{sum-ones, each-sum, most-sum, sum-map, sum-flatten, full-sum, around-sum}
+use Rattle.segments.proofs.Lists.{sum-ones, each-sum, most-sum, sum-map, sum-flatten}
 use Rattle.segments.proofs.Stretches.{cuts-flatten}
 use Rattle.segments.proofs.Costing.{kept, stretches-cost, all-kept}
+use Rattle.segments.proofs.Standing.{order-map}
 
 module _ (p : Task → Bool) where
   first-kept : (ts : List Task) → costOf (before p ts) ≤ kept p ts
@@ -54,12 +54,12 @@ module _ (p : Task → Bool) where
       go true e r = omega (arith, h .0)
       go false e r = omega (arith, r e (h .1))
 
-  some-at : (ps cs : List ℕ) (n k j : ℕ) → k ≤ j → j < k + n → p (task ps cs j) ≡ true → some p (tasksFrom ps cs n k) ≡ true
+  some-at : (ps cs : List ℕ) (n from j : ℕ) → from ≤ j → j < from + n → p (task ps cs j) ≡ true → some p (tasksFrom ps cs n from) ≡ true
   unfolding some tasksFrom
-  some-at ps cs zero k j l h e = absurd (omega arith)
-  some-at ps cs (suc n) k j l h e = ⊎-elim
-      (λ q. ap (λ b. b || some p (tasksFrom ps cs n (k + 1))) (ap (λ i. p (task ps cs i)) q ∙ e))
-      (λ q. ap (λ b. p (task ps cs k) || b) (some-at ps cs n (k + 1) j (omega arith) (omega arith) e) ∙ or-true (p (task ps cs k)))
+  some-at ps cs zero from j l h e = absurd (omega arith)
+  some-at ps cs (suc n) from j l h e = ⊎-elim
+      (λ q. ap (λ b. b || some p (tasksFrom ps cs n (from + 1))) (ap (λ i. p (task ps cs i)) q ∙ e))
+      (λ q. ap (λ b. p (task ps cs from) || b) (some-at ps cs n (from + 1) j (omega arith) (omega arith) e) ∙ or-true (p (task ps cs from)))
       (eq-or-lt-of-le l)
     where
       or-true : (b : Bool) → b || true ≡ true
@@ -67,13 +67,13 @@ module _ (p : Task → Bool) where
       or-true false = refl
 
 module _ (a b : Row) where
-  pub dearest-all : dearestCost a b ≤ allCost a b
+  pub dearest-all : mostOf costOf (segmentsOf a b) ≤ sumOf costOf (segmentsOf a b)
   dearest-all = most-sum costOf (segmentsOf a b)
 
-  pub first-all : firstCost a b ≤ allCost a b
+  pub first-all : firstCost a b ≤ sumOf costOf (segmentsOf a b)
   first-all = omega (arith, first-kept (below (floorOf b)) (tasksOf a), all-kept (floorOf b) (tasksOf a))
 
-  pub all-chain : allCost a b ≤ chainCost a
+  pub all-chain : sumOf costOf (segmentsOf a b) ≤ chainCost a
   all-chain = omega (arith, kept-chain (below (floorOf b)) (tasksOf a), all-kept (floorOf b) (tasksOf a))
 
 module _ (a : Row) (good : GoodRow a) where
@@ -82,7 +82,7 @@ module _ (a : Row) (good : GoodRow a) where
       let each = rest-each (λ t. t .cost ≤ maxCost) (a .priority) (a .cost) (a .tasks) 0 (λ j l. good .tasks .costs-max j) in
       omega (arith, cheap (tasksOf a) each, rest-length (a .priority) (a .cost) (a .tasks) 0, good .tasks .few)
 
-  pub all-max : (b : Row) → allCost a b ≤ maxTasks * maxCost
+  pub all-max : (b : Row) → sumOf costOf (segmentsOf a b) ≤ maxTasks * maxCost
   all-max b = omega (arith, all-chain a b, chain-max)
 
   -- a task stands at the floor, and costs something
@@ -121,19 +121,9 @@ stretches-few p (t ∷ ts) = go (p t) (stretches p ts) (stretches-few p ts)
     go false (s ∷ ss) h = omega arith
 
 -- the active segments by number sum to what those of the stretches do
-module _ (f : List Task → ℕ) (g : Active → ℕ) (same : (j : ℕ) (l : List Task) → g (active j l) ≡ f l) where
-  active-sum : (j : ℕ) (p : List (List Task)) → sumOf g (map (active j) p) ≡ sumOf f p
-  active-sum j p = sum-map (active j) g p ∙ sum-ext (λ l. g (active j l)) f p (same j)
-
-  numbered-sum : (k : ℕ) (ps : List (List (List Task))) → sumOf g (numbered k ps) ≡ sumOf (sumOf f) ps
-  unfolding numbered sumOf
-  numbered-sum k [] = refl
-  numbered-sum k (p ∷ ps) = sum-append g (map (active k) p) (numbered (k + 1) ps) ∙ ap₂ _+_ (active-sum k p) (numbered-sum (k + 1) ps)
-
-  pub order-sum : (ps : List (List (List Task))) → sumOf g (inOrder ps) ≡ sumOf (sumOf f) ps
-  unfolding inOrder sumOf
-  order-sum [] = refl
-  order-sum (p ∷ ps) = sum-append g (map (active (length ps)) p) (numbered 1 ps) ∙ ap₂ _+_ (active-sum (length ps) p) (numbered-sum 1 ps)
+order-sum : (f : List Task → ℕ) (g : Active → ℕ) → ((j : ℕ) (l : List Task) → g (active j l) ≡ f l) → (ps : List (List (List Task))) → sumOf g (inOrder ps) ≡ sumOf (sumOf f) ps
+order-sum f g same ps =
+    sym (sum-map g (λ n. n) (inOrder ps)) ∙ ap (sumOf (λ n. n)) (order-map g f same ps) ∙ sum-map f (λ n. n) (flatten ps) ∙ sum-flatten f ps
 
 order-length : (ps : List (List (List Task))) → length (inOrder ps) ≡ sumOf length ps
 order-length ps =
@@ -156,21 +146,12 @@ module _ (a : Row) (floor tail : ℕ) where
 
 module _ (a b : Row) where
   -- all active segments together cost what all segments cost, and each no more than that
-  pub actives-cost : sumOf (λ s. s .cost) (activesOf a b) ≡ allCost a b
+  pub actives-cost : sumOf (λ s. s .cost) (activesOf a b) ≡ sumOf costOf (segmentsOf a b)
   unfolding actives parts
   actives-cost =
       let ss = stretches (below (floorOf b)) (tasksOf a) in
       order-sum costOf (λ s. s .cost) (λ j l. refl) (map (cuts (below (tailOf b))) ss)
       ∙ parts-cost (below (tailOf b)) ss ∙ stretches-cost (below (floorOf b)) (tasksOf a) ∙ sym (all-kept (floorOf b) (tasksOf a))
 
-  pub actives-each : All (λ s. s .cost ≤ allCost a b) (activesOf a b)
+  pub actives-each : All (λ s. s .cost ≤ sumOf costOf (segmentsOf a b)) (activesOf a b)
   actives-each = subst (λ n. All (λ s. s .cost ≤ n) (activesOf a b)) actives-cost (each-sum (λ s. s .cost) (activesOf a b))
-
-  -- how many there are is a figure of the view
-  pub actives-view : length (activesOf a b) ≡ countOf (viewOf a b)
-  unfolding actives viewOf cutSegments
-  actives-view =
-      let ps = parts (floorOf b) (tailOf b) (tasksOf a) in
-      order-length ps ∙ sym (around-sum _++_ length length-append ps) ∙ sym (full-sum length refl (around _++_ ps))
-      ∙ sum-ext length (λ l. length (map costOf l)) (nonempty (around _++_ ps)) (λ l. sym (length-map l costOf))
-      ∙ sym (sum-map (map costOf) length (nonempty (around _++_ ps)))

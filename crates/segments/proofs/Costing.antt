@@ -1,5 +1,5 @@
 -- What segments cost: from the list of tasks to the loops that sum it up. Assumes nothing.
-use Prim.Native.Nat.{ℕ, suc, _+_, _-_, _<_, _≤_, max}
+use Prim.Native.Nat.{ℕ, suc, _+_, _*_, _-_, _<_, _≤_, max}
 use native.Mathlib.Omega.{arith}
 use mathlib.Core.Path.{_≡_, refl, ap, ap₂, sym, _∙_}
 use mathlib.Core.List.{List, [], _∷_, _++_}
@@ -10,10 +10,13 @@ use Rattle.search.specs.Choice.{_when_else_}
 use Rattle.search.specs.Lists.{sumOf, mostOf}
 use Rattle.search.proofs.Choice.{when-yes, when-no}
 use Rattle.search.proofs.Lists.{sum-append}
-use Rattle.segments.specs.Tasks.{Task, tasksFrom, costOf, below, before}
+use Rattle.table.specs.Limits.{maxCost}
+use Rattle.table.specs.declared.Row.{Row}
+use Rattle.segments.specs.Tasks.{Task, tasksFrom, tasksOf, costOf, below, before}
 use Rattle.segments.specs.Segments.{_on_, stretches, onward, around, segments}
-use Rattle.segments.specs.code.Held.{stretchOf}
+use Rattle.segments.specs.code.Held.{FirstOf, sidesOf}
 use Rattle.segments.specs.declared.tasks.Stretch.{Stretch}
+use Rattle.segments.specs.declared.tasks.Sides.{Sides}
 use Rattle.segments.proofs.Steps.{rest-on, rest-end, rest-all, rest-drop, rest-length, cost-nil}
 use Rattle.segments.proofs.Lists.{sum-on, full-sum, full-most, around-sum}
 use Rattle.segments.proofs.Stretches.{stretches-some, stretches-split}
@@ -43,25 +46,53 @@ most-around : (floor : ℕ) (ts : List Task) → mostOf costOf (segments floor t
 unfolding segments
 most-around floor ts = full-most costOf cost-nil (around _++_ (stretches (below floor) ts))
 
--- the loop of `all_cost`, step by step
-module _ (ps cs : List ℕ) (n floor : ℕ) where
-  abbrev pub keptFrom : ℕ → ℕ
-  keptFrom k = kept (below floor) (tasksFrom ps cs (n - k) k)
+-- the loop of `both_sides`: at the task i, after `low` tasks below the level and `cost` for the others, what is left makes up the whole
+module _ (ps cs : List ℕ) (n level : ℕ) where
+  abbrev left : ℕ → Sides
+  left i = sidesOf level (tasksFrom ps cs (n - i) i)
 
-  pub kept-low : (k : ℕ) → k < n → getD ps k 0 < floor → keptFrom k ≡ keptFrom (k + 1)
+  pub record Sided (i low cost : ℕ) : Type 0 where
+    pub inside : i ≤ n
+    pub few : low ≤ i
+    pub fits : cost ≤ maxCost * i
+    pub lows : left 0 .low ≡ low + left i .low
+    pub costs : left 0 .cost ≡ cost + left i .cost
+
+  pub sided-start : Sided 0 0 0
+  sided-start = record { inside = omega arith; few = omega arith; fits = omega arith; lows = omega arith; costs = omega arith }
+
+  pub sided-low : (i low cost : ℕ) → Sided i low cost → i < n → getD ps i 0 < level → Sided (i + 1) (low + 1) cost
+  unfolding sumOf _when_else_
+  sided-low i low cost s h l =
+      let e : left i ≡ record { low = 1 + left (i + 1) .low; cost = 0 + left (i + 1) .cost } = rw (rest-on ps cs n i h, lt-ltb (getD ps i 0) level l) in
+      record {
+        inside = omega arith;
+        few = omega (arith, s .few);
+        fits = omega (arith, s .fits);
+        lows = omega (arith, s .lows, ap (λ r. r .low) e);
+        costs = omega (arith, s .costs, ap (λ r. r .cost) e);
+      }
+
+  pub sided-high : (i low cost : ℕ) → Sided i low cost → i < n → level ≤ getD ps i 0 → getD cs i 0 ≤ maxCost → Sided (i + 1) low (cost + getD cs i 0)
+  unfolding sumOf _when_else_
+  sided-high i low cost s h l m =
+      let e : left i ≡ record { low = 0 + left (i + 1) .low; cost = getD cs i 0 + left (i + 1) .cost } = rw (rest-on ps cs n i h, le-ltb (getD ps i 0) level l) in
+      record {
+        inside = omega arith;
+        few = omega (arith, s .few);
+        fits = omega (arith, s .fits);
+        lows = omega (arith, s .lows, ap (λ r. r .low) e);
+        costs = omega (arith, s .costs, ap (λ r. r .cost) e);
+      }
+
+  pub sided-end : (i low cost : ℕ) → Sided i low cost → n ≤ i → _≡_ {A = Sides} (record { low = low; cost = cost }) (sidesOf level (tasksFrom ps cs n 0))
   unfolding sumOf
-  kept-low k h l = rw (rest-on ps cs n k h) (omega (arith, when-yes 0 (getD cs k 0) (lt-ltb (getD ps k 0) floor l)))
-
-  pub kept-high : (k : ℕ) → k < n → floor ≤ getD ps k 0 → keptFrom k ≡ getD cs k 0 + keptFrom (k + 1)
-  unfolding sumOf
-  kept-high k h l = rw (rest-on ps cs n k h) (omega (arith, when-no 0 (getD cs k 0) (le-ltb (getD ps k 0) floor l)))
-
-  pub kept-end : (k : ℕ) → n ≤ k → keptFrom k ≡ 0
-  unfolding sumOf
-  kept-end k h = rw (rest-end ps cs n k h)
-
-  pub kept-all : sumOf costOf (segments floor (tasksFrom ps cs n 0)) ≡ keptFrom 0
-  kept-all = all-kept floor (tasksFrom ps cs n 0) ∙ ap (kept (below floor)) (sym (rest-all ps cs n))
+  sided-end i low cost s h =
+      let e = ap (sidesOf level) (rest-end ps cs n i h) in
+      let f = ap (sidesOf level) (rest-all ps cs n) in
+      let x : low ≡ sidesOf level (tasksFrom ps cs n 0) .low = omega (arith, s .lows, ap (λ r. r .low) e, ap (λ r. r .low) f) in
+      let y : cost ≡ sidesOf level (tasksFrom ps cs n 0) .cost = omega (arith, s .costs, ap (λ r. r .cost) e, ap (λ r. r .cost) f) in
+      rw (x, y)
 
 -- the dearest segment of a deferred chain whose first stretch costs f: `run` is the cost so far of the stretch at hand
 unfoldable pub dear : (Task → Bool) → ℕ → ℕ → List Task → ℕ
@@ -111,32 +142,44 @@ module _ (floor : ℕ) (ts : List Task) where
       ∙ onward-most (before (below floor) ts) (stretches (below floor) us)
       ∙ sym (dear-from (below floor) (costOf (before (below floor) ts)) 0 us)
 
--- the loop of `dearest_cost`, step by step
+-- the loop of `dearest_cost` from the task `from` on: at the task i the dearest segment is the dearer of `best` and what the tasks
+-- left make it, where the stretch at hand costs `sum` so far
 module _ (ps cs : List ℕ) (n floor f : ℕ) where
   abbrev pub dearFrom : ℕ → ℕ → ℕ
-  dearFrom run k = dear (below floor) f run (tasksFrom ps cs (n - k) k)
+  dearFrom run i = dear (below floor) f run (tasksFrom ps cs (n - i) i)
 
-  pub dear-low : (run k : ℕ) → k < n → getD ps k 0 < floor → dearFrom run k ≡ max run (dearFrom 0 (k + 1))
-  unfolding dear
-  dear-low run k h l = rw (rest-on ps cs n k h) (when-yes _ _ (lt-ltb (getD ps k 0) floor l))
+  pub record Compared (from best sum i : ℕ) : Type 0 where
+    pub inside : i ≤ n
+    pub low : from ≤ i
+    pub fits : sum ≤ maxCost * (i - from)
+    pub is : dearFrom 0 from ≡ max best (dearFrom sum i)
 
-  pub dear-high : (run k : ℕ) → k < n → floor ≤ getD ps k 0 → dearFrom run k ≡ dearFrom (run + getD cs k 0) (k + 1)
-  unfolding dear
-  dear-high run k h l = rw (rest-on ps cs n k h) (when-no _ _ (le-ltb (getD ps k 0) floor l))
+  pub compared-start : (from : ℕ) → from ≤ n → Compared from 0 0 from
+  compared-start from h = record { inside = h; low = omega arith; fits = omega arith; is = omega arith }
 
-  pub dear-end : (run k : ℕ) → n ≤ k → dearFrom run k ≡ run + f
+  pub compared-low : (from best sum i : ℕ) → Compared from best sum i → i < n → getD ps i 0 < floor → Compared from (max best sum) 0 (i + 1)
   unfolding dear
-  dear-end run k h = rw (rest-end ps cs n k h)
+  compared-low from best sum i c h l =
+      let e : dearFrom sum i ≡ max sum (dearFrom 0 (i + 1)) = rw (rest-on ps cs n i h) (when-yes _ _ (lt-ltb (getD ps i 0) floor l)) in
+      record { inside = omega arith; low = omega (arith, c .low); fits = omega arith; is = omega (arith, c .is, e) }
+
+  pub compared-high : (from best sum i : ℕ) → Compared from best sum i → i < n → floor ≤ getD ps i 0 → getD cs i 0 ≤ maxCost → Compared from best (sum + getD cs i 0) (i + 1)
+  unfolding dear
+  compared-high from best sum i c h l m =
+      let e : dearFrom sum i ≡ dearFrom (sum + getD cs i 0) (i + 1) = rw (rest-on ps cs n i h) (when-no _ _ (le-ltb (getD ps i 0) floor l)) in
+      record { inside = omega arith; low = omega (arith, c .low); fits = omega (arith, c .low, c .fits); is = c .is ∙ ap (max best) e }
+
+  pub compared-end : (from best sum i : ℕ) → Compared from best sum i → n ≤ i → dearFrom 0 from ≡ max best (sum + f)
+  unfolding dear
+  compared-end from best sum i c h = c .is ∙ ap (λ us. max best (dear (below floor) f sum us)) (rest-end ps cs n i h)
 
 -- from the first stretch on
-module _ (ps cs : List ℕ) (n floor : ℕ) (r : Stretch) (d : r ≡ stretchOf (before (below floor) (tasksFrom ps cs n 0))) where
-  len-is : r .len ≡ length (before (below floor) (tasksFrom ps cs n 0))
-  len-is = ap (λ s. s .len) d
-
-  pub dearest-more : r .len < n → mostOf costOf (segments floor (tasksFrom ps cs n 0)) ≡ dearFrom ps cs n floor (r .cost) 0 (r .len + 1)
-  dearest-more h =
-      let ts = tasksFrom ps cs n 0 in
-      let l : length (before (below floor) ts) < length ts = omega (arith, len-is, rest-length ps cs n 0) in
-      dearest-deferred floor ts l
-      ∙ ap₂ (λ c us. dear (below floor) c 0 us) (sym (ap (λ s. s .cost) d))
-      (rest-drop ps cs n 0 (suc (length (before (below floor) ts))) ∙ ap₂ (tasksFrom ps cs) (omega (arith, len-is)) (omega (arith, len-is)))
+pub dearest-more : (a : Row) (floor : ℕ) (r : Stretch) → FirstOf a floor r
+    → mostOf costOf (segments floor (tasksOf a)) ≡ dearFrom (a .priority) (a .cost) (a .tasks) floor (r .cost) 0 (r .len + 1)
+dearest-more a floor r f =
+    let ts = tasksOf a in
+    let len : r .len ≡ length (before (below floor) ts) = ap (λ s. s .len) (f .is) in
+    let l : length (before (below floor) ts) < length ts = omega (arith, len, f .deferred, rest-length (a .priority) (a .cost) (a .tasks) 0) in
+    dearest-deferred floor ts l
+    ∙ ap₂ (λ c us. dear (below floor) c 0 us) (sym (ap (λ s. s .cost) (f .is)))
+    (rest-drop (a .priority) (a .cost) (a .tasks) 0 (suc (length (before (below floor) ts))) ∙ ap₂ (tasksFrom (a .priority) (a .cost)) (omega (arith, len)) (omega (arith, len)))

@@ -65,19 +65,19 @@ module _ (floor tail : ℕ) (h : floor ≤ tail) where
       go true true e f r = rw (e, f)
       go true false e f r = rw (e, f) (cuts-off (below tail) t u (stretches (below floor) us) e)
       go false c e f r =
-          let k : below floor u ≡ false = le-ltb (u .priority) floor (omega (arith, ltb-false (u .priority) tail e)) in
-          rw (e, k) (cuts-on (below tail) t u (stretches (below floor) us) e ∙ ap (push t) r ∙ push-on t (u ∷ before (below tail) us) (parts floor tail (after us)))
+          let high : below floor u ≡ false = le-ltb (u .priority) floor (omega (arith, ltb-false (u .priority) tail e)) in
+          rw (e, high) (cuts-on (below tail) t u (stretches (below floor) us) e ∙ ap (push t) r ∙ push-on t (u ∷ before (below tail) us) (parts floor tail (after us)))
 
--- the active segments of the stretches from k on, where the number of the last stretch is known
+-- the active segments of the stretches from that one on, where the number of the last stretch is known
 pub tagged : ℕ → ℕ → List (List (List Task)) → List Active
-tagged last k [] = []
-tagged last k (p ∷ ps) = map (active (last when eqb k 0 else k)) p ++ tagged last (k + 1) ps
+tagged last stretch [] = []
+tagged last stretch (p ∷ ps) = map (active (last when eqb stretch 0 else stretch)) p ++ tagged last (stretch + 1) ps
 
-tagged-numbered : (last k : ℕ) (ps : List (List (List Task))) → 1 ≤ k → tagged last k ps ≡ numbered k ps
+tagged-numbered : (last stretch : ℕ) (ps : List (List (List Task))) → 1 ≤ stretch → tagged last stretch ps ≡ numbered stretch ps
 unfolding tagged numbered
-tagged-numbered last k [] h = refl
-tagged-numbered last k (p ∷ ps) h =
-    rw (when-no last k (ne-eqb k 0 (λ e. omega arith))) (ap (λ r. map (active k) p ++ r) (tagged-numbered last (k + 1) ps (omega arith)))
+tagged-numbered last stretch [] h = refl
+tagged-numbered last stretch (p ∷ ps) h =
+    rw (when-no last stretch (ne-eqb stretch 0 (λ e. omega arith))) (ap (λ r. map (active stretch) p ++ r) (tagged-numbered last (stretch + 1) ps (omega arith)))
 
 tagged-order : (last : ℕ) (ps : List (List (List Task))) → last + 1 ≡ length ps → tagged last 0 ps ≡ inOrder ps
 unfolding tagged inOrder
@@ -86,20 +86,20 @@ tagged-order last (p ∷ ps) h =
     let e : last ≡ length ps = omega arith in
     rw (when-yes last 0 (eq-eqb 0 0 refl), e) (ap (λ r. map (active (length ps)) p ++ r) (tagged-numbered (length ps) 1 ps (omega arith)))
 
-tagged-put : (last k : ℕ) (a : List Task) (ps : List (List (List Task))) → tagged last k (a on ps) ≡ active (last when eqb k 0 else k) a ∷ tagged last k ps
+tagged-put : (last stretch : ℕ) (a : List Task) (ps : List (List (List Task))) → tagged last stretch (a on ps) ≡ active (last when eqb stretch 0 else stretch) a ∷ tagged last stretch ps
 unfolding tagged
-tagged-put last k a [] = refl
-tagged-put last k a (p ∷ ps) = refl
+tagged-put last stretch a [] = refl
+tagged-put last stretch a (p ∷ ps) = refl
 
-module _ (floor tail last k : ℕ) (t : Task) (us : List Task) where
-  tagged-low : t .priority < floor → tagged last k (parts floor tail (t ∷ us)) ≡ tagged last (k + 1) (parts floor tail us)
+module _ (floor tail last stretch : ℕ) (t : Task) (us : List Task) where
+  tagged-low : t .priority < floor → tagged last stretch (parts floor tail (t ∷ us)) ≡ tagged last (stretch + 1) (parts floor tail us)
   unfolding tagged parts stretches cuts _when_else_
   tagged-low l = rw (lt-ltb (t .priority) floor l)
 
   tagged-on : floor ≤ tail → floor ≤ t .priority
-      → tagged last k (parts floor tail (t ∷ us)) ≡ active (last when eqb k 0 else k) (t ∷ before (below tail) us) ∷ tagged last k (parts floor tail (drop (length (before (below tail) us)) us))
+      → tagged last stretch (parts floor tail (t ∷ us)) ≡ active (last when eqb stretch 0 else stretch) (t ∷ before (below tail) us) ∷ tagged last stretch (parts floor tail (drop (length (before (below tail) us)) us))
   unfolding parts stretches _when_else_ after
-  tagged-on h l = rw (le-ltb (t .priority) floor l) (ap (tagged last k) (parts-on floor tail h t us) ∙ tagged-put last k (t ∷ before (below tail) us) (parts floor tail (after floor tail h us)))
+  tagged-on h l = rw (le-ltb (t .priority) floor l) (ap (tagged last stretch) (parts-on floor tail h t us) ∙ tagged-put last stretch (t ∷ before (below tail) us) (parts floor tail (after floor tail h us)))
 
 -- one active segment more in the arrays
 abbrev pub plus : Actives → ℕ → ℕ → ℕ → ℕ → Actives
@@ -129,39 +129,39 @@ put l a h = rw (map-put (λ b. b .start) l a h, map-put (λ b. b .len) l a h, ma
 -- the loop of `active_segments`
 module _ (ps cs : List ℕ) (n floor tail last : ℕ) where
   pub left : ℕ → ℕ → List Active
-  left k i = tagged last k (parts floor tail (tasksFrom ps cs (n - i) i))
+  left stretch i = tagged last stretch (parts floor tail (tasksFrom ps cs (n - i) i))
 
-  -- at the task i, after k tasks below the floor: those found and those left are all of them
-  pub record Cutting (out : Actives) (k i : ℕ) : Type 0 where
+  -- at the task i, after `stretch` tasks below the floor: those found and those left are all of them
+  pub record Cutting (out : Actives) (stretch i : ℕ) : Type 0 where
     pub found : List Active
     pub is : out ≡ arraysOf found
-    pub whole : found ++ left k i ≡ left 0 0
+    pub whole : found ++ left stretch i ≡ left 0 0
     pub inside : i ≤ n
     pub few : length found ≤ i
-    pub low : k ≤ i
+    pub low : stretch ≤ i
 
   pub cutting-start : (out : Actives) → out ≡ arraysOf [] → Cutting out 0 0
   cutting-start out e = record { found = []; is = e; whole = refl; inside = omega arith; few = omega arith; low = omega arith }
 
-  pub cutting-low : (out : Actives) (k i : ℕ) → Cutting out k i → i < n → getD ps i 0 < floor → Cutting out (k + 1) (i + 1)
+  pub cutting-low : (out : Actives) (stretch i : ℕ) → Cutting out stretch i → i < n → getD ps i 0 < floor → Cutting out (stretch + 1) (i + 1)
   unfolding left
-  cutting-low out k i c h l = record {
+  cutting-low out stretch i c h l = record {
     found = c .found;
     is = c .is;
-    whole = ap (λ r. c .found ++ r) (sym (ap (λ r. tagged last k (parts floor tail r)) (rest-on ps cs n i h) ∙ tagged-low floor tail last k (task ps cs i) _ l)) ∙ c .whole;
+    whole = ap (λ r. c .found ++ r) (sym (ap (λ r. tagged last stretch (parts floor tail r)) (rest-on ps cs n i h) ∙ tagged-low floor tail last stretch (task ps cs i) _ l)) ∙ c .whole;
     inside = omega arith;
     few = omega (arith, c .few);
     low = omega (arith, c .low);
   }
 
-  pub cutting-on : (out : Actives) (k i : ℕ) (r : Stretch) → Cutting out k i → i < n → n ≤ maxTasks → floor ≤ tail → floor ≤ getD ps i 0
+  pub cutting-on : (out : Actives) (stretch i : ℕ) (r : Stretch) → Cutting out stretch i → i < n → n ≤ maxTasks → floor ≤ tail → floor ≤ getD ps i 0
       → r ≡ stretchOf (aheadOf ps cs n tail (i + 1))
-      → Cutting (plus out i (r .len + 1) (getD cs i 0 + r .cost) (last when eqb k 0 else k)) k (i + 1 + r .len)
+      → Cutting (plus out i (r .len + 1) (getD cs i 0 + r .cost) (last when eqb stretch 0 else stretch)) stretch (i + 1 + r .len)
   unfolding left startOf
-  cutting-on out k i r c h m g l d = record {
+  cutting-on out stretch i r c h m g l d = record {
     found = c .found ++ (a ∷ []);
     is = ap (λ o. plus o i (r .len + 1) (getD cs i 0 + r .cost) j) (c .is) ∙ ap₂ (λ x y. plus (arraysOf (c .found)) i x y j) size price ∙ sym (put (c .found) a (omega (arith, c .few)));
-    whole = append-assoc (c .found) (a ∷ []) (left k (i + 1 + r .len)) ∙ ap (λ q. c .found ++ q) (sym step) ∙ c .whole;
+    whole = append-assoc (c .found) (a ∷ []) (left stretch (i + 1 + r .len)) ∙ ap (λ q. c .found ++ q) (sym step) ∙ c .whole;
     inside = ahead-inside ps cs n tail (i + 1) r d (omega arith);
     few = omega (arith, c .few, length-append (c .found) (a ∷ []));
     low = omega (arith, c .low);
@@ -171,7 +171,7 @@ module _ (ps cs : List ℕ) (n floor tail last : ℕ) where
       us = tasksFrom ps cs (n - (i + 1)) (i + 1)
 
       j : ℕ
-      j = last when eqb k 0 else k
+      j = last when eqb stretch 0 else stretch
 
       a : Active
       a = active j (task ps cs i ∷ before (below tail) us)
@@ -188,13 +188,13 @@ module _ (ps cs : List ℕ) (n floor tail last : ℕ) where
       next : drop (length (before (below tail) us)) us ≡ tasksFrom ps cs (n - (i + 1 + r .len)) (i + 1 + r .len)
       next = rest-drop ps cs (n - (i + 1)) (i + 1) (length (before (below tail) us)) ∙ ap₂ (tasksFrom ps cs) (omega (arith, len)) (omega (arith, len))
 
-      step : left k i ≡ a ∷ left k (i + 1 + r .len)
-      step = ap (λ q. tagged last k (parts floor tail q)) (rest-on ps cs n i h) ∙ tagged-on floor tail last k (task ps cs i) us g l ∙ ap (λ q. a ∷ tagged last k (parts floor tail q)) next
+      step : left stretch i ≡ a ∷ left stretch (i + 1 + r .len)
+      step = ap (λ q. tagged last stretch (parts floor tail q)) (rest-on ps cs n i h) ∙ tagged-on floor tail last stretch (task ps cs i) us g l ∙ ap (λ q. a ∷ tagged last stretch (parts floor tail q)) next
 
-  pub cutting-end : (out : Actives) (k i : ℕ) → Cutting out k i → n ≤ i → last + 1 ≡ length (stretches (below floor) (tasksFrom ps cs n 0))
+  pub cutting-end : (out : Actives) (stretch i : ℕ) → Cutting out stretch i → n ≤ i → last + 1 ≡ length (stretches (below floor) (tasksFrom ps cs n 0))
       → out ≡ arraysOf (actives floor tail (tasksFrom ps cs n 0))
   unfolding left tagged actives parts stretches cuts
-  cutting-end out k i c h e =
-      let f : c .found ≡ left 0 0 = sym (append-nil (c .found)) ∙ ap (λ r. c .found ++ tagged last k (parts floor tail r)) (sym (rest-end ps cs n i h)) ∙ c .whole in
+  cutting-end out stretch i c h e =
+      let f : c .found ≡ left 0 0 = sym (append-nil (c .found)) ∙ ap (λ r. c .found ++ tagged last stretch (parts floor tail r)) (sym (rest-end ps cs n i h)) ∙ c .whole in
       let g : last + 1 ≡ length (parts floor tail (tasksFrom ps cs n 0)) = rw length-map e in
       c .is ∙ ap arraysOf (f ∙ ap (λ r. tagged last 0 (parts floor tail r)) (rest-all ps cs n) ∙ tagged-order last (parts floor tail (tasksFrom ps cs n 0)) g)

@@ -19,24 +19,24 @@ use Rattle.segments.specs.declared.tasks.Stretch.{Stretch}
 use Rattle.segments.proofs.Steps.{rest-each, aheadOf, ahead-first}
 
 -- the lowest is one of them, and none lies below it
-pub lowest-hit : (ps : List ℕ) (n : ℕ) → (k : ℕ) × (k ≤ n) × (getD ps k 0 ≡ lowest ps n)
+pub lowest-hit : (ps : List ℕ) (n : ℕ) → (i : ℕ) × (i ≤ n) × (getD ps i 0 ≡ lowest ps n)
 unfolding lowest
 lowest-hit ps zero = (0, omega arith, refl)
 lowest-hit ps (suc n) =
     let r = lowest-hit ps n in
     ⊎-elim (λ l. (suc n, omega arith, omega arith)) (λ l. (r .0, omega (arith, r .1), omega (arith, r .2))) (lt-or-le (getD ps (suc n) 0) (lowest ps n))
 
-pub lowest-le : (ps : List ℕ) (n k : ℕ) → k ≤ n → lowest ps n ≤ getD ps k 0
+pub lowest-le : (ps : List ℕ) (n i : ℕ) → i ≤ n → lowest ps n ≤ getD ps i 0
 unfolding lowest
-lowest-le ps zero k h = let e : k ≡ 0 = omega arith in omega (arith, ap (λ j. getD ps j 0) e)
-lowest-le ps (suc n) k h =
-    ⊎-elim (λ e. omega (arith, ap (λ j. getD ps j 0) e)) (λ l. omega (arith, lowest-le ps n k (omega arith))) (eq-or-lt-of-le h)
+lowest-le ps zero i h = let e : i ≡ 0 = omega arith in omega (arith, ap (λ j. getD ps j 0) e)
+lowest-le ps (suc n) i h =
+    ⊎-elim (λ e. omega (arith, ap (λ j. getD ps j 0) e)) (λ l. omega (arith, lowest-le ps n i (omega arith))) (eq-or-lt-of-le h)
 
-pub lowest-on : (ps : List ℕ) (k : ℕ) → 1 ≤ k → lowest ps (k + 1 - 1) ≡ min (lowest ps (k - 1)) (getD ps k 0)
+pub lowest-on : (ps : List ℕ) (i : ℕ) → 1 ≤ i → lowest ps (i + 1 - 1) ≡ min (lowest ps (i - 1)) (getD ps i 0)
 unfolding lowest
-lowest-on ps k h =
-    let e : k + 1 - 1 ≡ suc (k - 1) = omega arith in
-    let f : suc (k - 1) ≡ k = omega arith in
+lowest-on ps i h =
+    let e : i + 1 - 1 ≡ suc (i - 1) = omega arith in
+    let f : suc (i - 1) ≡ i = omega arith in
     rw (e, f)
 
 -- floor ≤ tail: the tail is one of the priorities

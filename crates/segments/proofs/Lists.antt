@@ -84,7 +84,7 @@ unfolding nonempty flatten
 full-flatten [] h = refl
 full-flatten ([] ∷ ls) h = full-flatten ls (h .1)
 full-flatten (([] ∷ l) ∷ ls) h = absurd (omega (arith, h .0 .0))
-full-flatten (((a ∷ k) ∷ l) ∷ ls) h = ap (λ r. (a ∷ (k ++ flatten l)) ∷ r) (full-flatten ls (h .1))
+full-flatten (((a ∷ r) ∷ l) ∷ ls) h = ap (λ rest. (a ∷ (r ++ flatten l)) ∷ rest) (full-flatten ls (h .1))
 
 -- the last joined to the first
 module _ {A : Type 0} (join : A → A → A) where
@@ -103,9 +103,9 @@ module _ {A : Type 0} (join : A → A → A) where
   module _ (P : A → Type 0) (keeps : (a b : A) → P a → P b → P (join a b)) where
     onward-all : (s : A) (rs : List A) → P s → All P rs → All P (onward join s rs)
     unfolding onward
-    onward-all s [] h k = (h, tt)
-    onward-all s (r ∷ []) h k = (keeps r s (k .0) h, tt)
-    onward-all s (r ∷ q ∷ rs) h k = (k .0, onward-all s (q ∷ rs) h (k .1))
+    onward-all s [] h g = (h, tt)
+    onward-all s (r ∷ []) h g = (keeps r s (g .0) h, tt)
+    onward-all s (r ∷ q ∷ rs) h g = (g .0, onward-all s (q ∷ rs) h (g .1))
 
     pub around-all : (ls : List A) → All P ls → All P (around join ls)
     unfolding around

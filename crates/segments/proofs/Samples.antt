@@ -9,8 +9,8 @@ use Rattle.search.specs.Lists.{sumOf, mostOf, some}
 use Rattle.table.specs.Limits.{maxTasks}
 use Rattle.table.specs.Record.{pad}
 use Rattle.table.specs.declared.Row.{Row}
-use Rattle.segments.specs.Tasks.{tasksFrom, chainCost, lowest, deferred, before, firstCost, ownPart}
-use Rattle.segments.specs.Segments.{stretches, onward, around, nonempty, segments, segmentsOf, allCost, dearestCost, cuts, parts, cutSegments}
+use Rattle.segments.specs.Tasks.{tasksFrom, costOf, chainCost, lowest, deferred, before, firstCost, ownPart}
+use Rattle.segments.specs.Segments.{stretches, onward, around, nonempty, segments, segmentsOf, cuts, parts, cutSegments}
 use Rattle.segments.specs.Actives.{Active, startOf, numbered, inOrder, actives, activesOf}
 use Rattle.segments.specs.View.{viewOf}
 
@@ -78,7 +78,7 @@ view-samples = record { sample-view = refl; figure-view = refl; free-view = refl
 
 -- whether a is deferred, its cost, first-segment cost, all segments, dearest segment
 abbrev pub costs : Row → Row → Bool × List ℕ
-costs a b = (deferred a b, chainCost a ∷ firstCost a b ∷ allCost a b ∷ dearestCost a b ∷ [])
+costs a b = (deferred a b, chainCost a ∷ firstCost a b ∷ sumOf costOf (segmentsOf a b) ∷ mostOf costOf (segmentsOf a b) ∷ [])
 
 pub record CostSamples : Type 0 where
   pub sample-costs : costs sample3 sample1 ≡ (true, 20 ∷ 6 ∷ 16 ∷ 16 ∷ [])

@@ -1,150 +1,166 @@
 -- An active segment is contiguous: its tasks follow one another in the chain, inside it. Assumes nothing.
 use Prim.Native.Nat.{ℕ, zero, suc, _+_, _-_, _<_, _≤_}
 use native.Mathlib.Omega.{arith}
-use mathlib.Core.Path.{_≡_, refl, ap, sym, subst, _∙_}
-use mathlib.Core.List.{List, [], _∷_, map}
+use mathlib.Core.Path.{_≡_, refl, ap, ap₂, sym, subst, _∙_}
+use mathlib.Core.List.{List, [], _∷_, _++_, map, map-append, flatten}
 use mathlib.Core.Bool.{Bool, true, false}
-use lib.ListN.{length, getD, replicate, length-map, List·getD-append}
+use lib.ListN.{length, getD, replicate, length-map, List·getD-append, List·getD-map}
 use Rattle.search.specs.Choice.{_when_else_}
 use Rattle.search.specs.Lists.{All}
 use Rattle.search.proofs.Lists.{all-append, all-map}
 use Rattle.table.specs.Limits.{maxTasks}
 use Rattle.table.specs.Record.{pad}
 use Rattle.table.specs.declared.Row.{Row}
-use Rattle.segments.specs.Tasks.{Task, tasksFrom, tasksOf, costOf, floorOf, tailOf, below}
-use Rattle.segments.specs.Segments.{_on_, stretches, cuts, parts}
+use Rattle.segments.specs.Tasks.{Task, tasksFrom, tasksOf, floorOf, tailOf, below}
+use Rattle.segments.specs.Segments.{_on_, stretches, cuts, parts, activeTasks}
 use Rattle.segments.specs.Actives.{Active, startOf, active, numbered, inOrder, actives, activesOf, nothing}
 use Rattle.segments.proofs.Steps.{task}
-use Rattle.segments.proofs.Lists.{Solid}
-use Rattle.segments.proofs.Stretches.{all-solid}
 
--- an active segment of the row a: its tasks stand in a, from `start` on, there is one, and its cost is theirs
-pub record Stands (a : Row) (s : Active) : Type 0 where
-  pub inside : s .start + s .len ≤ a .tasks
-  pub some : 1 ≤ s .len
-  pub cost : s .cost ≡ costOf (tasksFrom (a .priority) (a .cost) (s .len) (s .start))
-
-all-both : {A : Type 0} (P Q : A → Type 0) (l : List A) → All P l → All Q l → All (λ a. P a × Q a) l
-all-both P Q [] h k = tt
-all-both P Q (a ∷ l) h k = ((h .0, k .0), all-both P Q l (h .1) (k .1))
+-- tasks that follow one another in the row a, inside it
+pub record Contiguous (a : Row) (l : List Task) : Type 0 where
+  pub are : l ≡ tasksFrom (a .priority) (a .cost) (length l) (startOf l)
+  pub inside : startOf l + length l ≤ a .tasks
 
 module _ (ps cs : List ℕ) (n : ℕ) where
-  -- the tasks l follow one another from the place k on, inside the chain
-  record Follow (k : ℕ) (l : List Task) : Type 0 where
-    are : l ≡ tasksFrom ps cs (length l) k
-    inside : k + length l ≤ n
+  -- the tasks l follow one another from the place i on, inside the chain
+  record Follow (i : ℕ) (l : List Task) : Type 0 where
+    are : l ≡ tasksFrom ps cs (length l) i
+    inside : i + length l ≤ n
 
   abbrev Somewhere : List Task → Type 0
-  Somewhere l = (k : ℕ) × Follow k l
+  Somewhere l = (i : ℕ) × Follow i l
 
-  -- the first of some lists follows from k on, and each other from somewhere
+  -- the first of some lists follows from i on, and each other from somewhere
   abbrev Lined : ℕ → List (List Task) → Type 0
-  Lined k [] = Unit {0}
-  Lined k (l ∷ ls) = Follow k l × All Somewhere ls
+  Lined i [] = Unit {0}
+  Lined i (l ∷ ls) = Follow i l × All Somewhere ls
 
-  apart : (k : ℕ) (ls : List (List Task)) → Lined k ls → All Somewhere ls
-  apart k [] h = tt
-  apart k (l ∷ ls) h = ((k, h .0), h .1)
+  apart : (i : ℕ) (ls : List (List Task)) → Lined i ls → All Somewhere ls
+  apart i [] h = tt
+  apart i (l ∷ ls) h = ((i, h .0), h .1)
 
-  none : (k : ℕ) → k ≤ n → Follow k []
+  none : (i : ℕ) → i ≤ n → Follow i []
   unfolding tasksFrom
-  none k h = record { are = refl; inside = omega arith }
+  none i h = record { are = refl; inside = omega arith }
 
-  one : (k : ℕ) (l : List Task) → k < n → Follow (k + 1) l → Follow k (task ps cs k ∷ l)
+  one : (i : ℕ) (l : List Task) → i < n → Follow (i + 1) l → Follow i (task ps cs i ∷ l)
   unfolding tasksFrom
-  one k l h f = record { are = ap (λ r. task ps cs k ∷ r) (f .are); inside = omega (arith, f .inside) }
+  one i l h f = record { are = ap (λ r. task ps cs i ∷ r) (f .are); inside = omega (arith, f .inside) }
 
-  lined-on : (k : ℕ) (ls : List (List Task)) → k < n → Lined (k + 1) ls → Lined k (task ps cs k on ls)
-  lined-on k [] h f = (one k [] h (none (k + 1) (omega arith)), tt)
-  lined-on k (l ∷ ls) h f = (one k l h (f .0), f .1)
+  lined-on : (i : ℕ) (ls : List (List Task)) → i < n → Lined (i + 1) ls → Lined i (task ps cs i on ls)
+  lined-on i [] h f = (one i [] h (none (i + 1) (omega arith)), tt)
+  lined-on i (l ∷ ls) h f = (one i l h (f .0), f .1)
 
-  stretches-lined : (p : Task → Bool) (m k : ℕ) → k + m ≡ n → Lined k (stretches p (tasksFrom ps cs m k))
+  stretches-lined : (p : Task → Bool) (m i : ℕ) → i + m ≡ n → Lined i (stretches p (tasksFrom ps cs m i))
   unfolding stretches tasksFrom _when_else_
-  stretches-lined p zero k h = (none k (omega arith), tt)
-  stretches-lined p (suc m) k h = go (p (task ps cs k)) (stretches-lined p m (k + 1) (omega arith))
+  stretches-lined p zero i h = (none i (omega arith), tt)
+  stretches-lined p (suc m) i h = go (p (task ps cs i)) (stretches-lined p m (i + 1) (omega arith))
     where
       rest : List (List Task)
-      rest = stretches p (tasksFrom ps cs m (k + 1))
+      rest = stretches p (tasksFrom ps cs m (i + 1))
 
-      go : (b : Bool) → Lined (k + 1) rest → Lined k ([] ∷ rest when b else task ps cs k on rest)
-      go true r = (none k (omega arith), apart (k + 1) rest r)
-      go false r = lined-on k rest (omega arith) r
+      go : (b : Bool) → Lined (i + 1) rest → Lined i ([] ∷ rest when b else task ps cs i on rest)
+      go true r = (none i (omega arith), apart (i + 1) rest r)
+      go false r = lined-on i rest (omega arith) r
 
-  cuts-lined : (p : Task → Bool) (m k : ℕ) → k + m ≤ n → Lined k (cuts p (tasksFrom ps cs m k))
+  cuts-lined : (p : Task → Bool) (m i : ℕ) → i + m ≤ n → Lined i (cuts p (tasksFrom ps cs m i))
   unfolding cuts tasksFrom _when_else_
-  cuts-lined p zero k h = tt
-  cuts-lined p (suc zero) k h = (one k [] (omega arith) (none (k + 1) (omega arith)), tt)
-  cuts-lined p (suc (suc m)) k h = go (p (task ps cs (k + 1))) (cuts-lined p (suc m) (k + 1) (omega arith))
+  cuts-lined p zero i h = tt
+  cuts-lined p (suc zero) i h = (one i [] (omega arith) (none (i + 1) (omega arith)), tt)
+  cuts-lined p (suc (suc m)) i h = go (p (task ps cs (i + 1))) (cuts-lined p (suc m) (i + 1) (omega arith))
     where
       rest : List (List Task)
-      rest = cuts p (tasksFrom ps cs (suc m) (k + 1))
+      rest = cuts p (tasksFrom ps cs (suc m) (i + 1))
 
-      go : (b : Bool) → Lined (k + 1) rest → Lined k ((task ps cs k ∷ []) ∷ rest when b else task ps cs k on rest)
-      go true r = (one k [] (omega arith) (none (k + 1) (omega arith)), apart (k + 1) rest r)
-      go false r = lined-on k rest (omega arith) r
+      go : (b : Bool) → Lined (i + 1) rest → Lined i ((task ps cs i ∷ []) ∷ rest when b else task ps cs i on rest)
+      go true r = (one i [] (omega arith) (none (i + 1) (omega arith)), apart (i + 1) rest r)
+      go false r = lined-on i rest (omega arith) r
 
   cut-each : (p : Task → Bool) (ss : List (List Task)) → All Somewhere ss → All (All Somewhere) (map (cuts p) ss)
   cut-each p [] h = tt
   cut-each p (s ∷ ss) h =
-      let k = h .0 .0 in
+      let i = h .0 .0 in
       let f = h .0 .1 in
-      let c : All Somewhere (cuts p (tasksFrom ps cs (length s) k)) = apart k (cuts p (tasksFrom ps cs (length s) k)) (cuts-lined p (length s) k (f .inside)) in
+      let c : All Somewhere (cuts p (tasksFrom ps cs (length s) i)) = apart i (cuts p (tasksFrom ps cs (length s) i)) (cuts-lined p (length s) i (f .inside)) in
       (subst (λ l. All Somewhere (cuts p l)) (sym (f .are)) c, cut-each p ss (h .1))
 
-  -- the cuts follow, and have tasks
-  parts-stand : (floor tail : ℕ) → All (All (λ l. Somewhere l × (0 < length l))) (parts floor tail (tasksFrom ps cs n 0))
-  unfolding parts
-  parts-stand floor tail =
-      let ss = stretches (below floor) (tasksFrom ps cs n 0) in
-      let follow = cut-each (below tail) ss (apart 0 ss (stretches-lined (below floor) n 0 (omega arith))) in
-      let cs = map (cuts (below tail)) ss in
-      all-map (λ l h. all-both Somewhere (λ x. 0 < length x) l (h .0) (h .1)) cs (all-both (All Somewhere) Solid cs follow (all-solid (below tail) ss))
+-- each of the lists in a list
+all-flatten : {A : Type 0} (P : A → Type 0) (ls : List (List A)) → All (All P) ls → All P (flatten ls)
+unfolding flatten
+all-flatten P [] h = tt
+all-flatten P (l ∷ ls) h = all-append P l (flatten ls) (h .0) (all-flatten P ls (h .1))
 
--- what holds of each active segment, whatever its number
-module _ (P : Active → Type 0) (Q : List Task → Type 0) (keeps : (j : ℕ) (l : List Task) → Q l → P (active j l)) where
-  all-active : (j : ℕ) (p : List (List Task)) → All Q p → All P (map (active j) p)
-  all-active j [] h = tt
-  all-active j (l ∷ p) h = (keeps j l (h .0), all-active j p (h .1))
+-- each of a list, by its place in it, and what stands for those past its end
+all-at : {A : Type 0} (P : A → Type 0) (l : List A) (i : ℕ) (d : A) → All P l → P d → P (getD l i d)
+all-at P [] i d h e = e
+all-at P (a ∷ l) zero d h e = h .0
+all-at P (a ∷ l) (suc i) d h e = all-at P l i d (h .1) e
 
-  all-numbered : (k : ℕ) (ps : List (List (List Task))) → All (All Q) ps → All P (numbered k ps)
-  unfolding numbered
-  all-numbered k [] h = tt
-  all-numbered k (p ∷ ps) h = all-append P (map (active k) p) (numbered (k + 1) ps) (all-active k p (h .0)) (all-numbered (k + 1) ps (h .1))
-
-  pub all-order : (ps : List (List (List Task))) → All (All Q) ps → All P (inOrder ps)
-  unfolding inOrder
-  all-order [] h = tt
-  all-order (p ∷ ps) h = all-append P (map (active (length ps)) p) (numbered 1 ps) (all-active (length ps) p (h .0)) (all-numbered 1 ps (h .1))
-
-pub actives-stand : (a b : Row) → All (Stands a) (activesOf a b)
-unfolding actives startOf tasksFrom
-actives-stand a b =
-    all-order (Stands a) (λ l. Somewhere (a .priority) (a .cost) (a .tasks) l × (0 < length l)) stands
-    (parts (floorOf b) (tailOf b) (tasksOf a)) (parts-stand (a .priority) (a .cost) (a .tasks) (floorOf b) (tailOf b))
+-- an active segment's tasks follow one another
+pub active-contiguous : (a b : Row) (i : ℕ) → Contiguous a (getD (activeTasks a b) i [])
+unfolding parts startOf tasksFrom
+active-contiguous a b i =
+    all-at (Contiguous a) (activeTasks a b) i []
+    (all-map (λ l h. is l (h .0) (h .1)) (activeTasks a b) (all-flatten (Somewhere (a .priority) (a .cost) (a .tasks)) (parts (floorOf b) (tailOf b) (tasksOf a)) follow))
+    (record { are = refl; inside = omega arith })
   where
-    stands : (j : ℕ) (l : List Task) → Somewhere (a .priority) (a .cost) (a .tasks) l × (0 < length l) → Stands a (active j l)
-    stands j [] h = absurd (omega (arith, h .1))
-    stands j (t ∷ l) h =
-        let k = h .0 .0 in
-        let f = h .0 .1 in
-        let e : t .place ≡ k = ap startOf (f .are) in
-        record {
-          inside = omega (arith, f .inside);
-          some = omega arith;
-          cost = ap costOf (f .are) ∙ ap (λ i. costOf (tasksFrom (a .priority) (a .cost) (suc (length l)) i)) (sym e);
-        }
+    ss : List (List Task)
+    ss = stretches (below (floorOf b)) (tasksOf a)
 
--- each of a list, by its place in it
-pub all-at : (P : Active → Type 0) (l : List Active) (k : ℕ) → All P l → k < length l → P (getD l k nothing)
-all-at P [] k h lt = absurd (omega arith)
-all-at P (a ∷ l) zero h lt = h .0
-all-at P (a ∷ l) (suc k) h lt = all-at P l k (h .1) (omega arith)
+    follow : All (All (Somewhere (a .priority) (a .cost) (a .tasks))) (map (cuts (below (tailOf b))) ss)
+    follow =
+        cut-each (a .priority) (a .cost) (a .tasks) (below (tailOf b)) ss
+        (apart (a .priority) (a .cost) (a .tasks) 0 ss (stretches-lined (a .priority) (a .cost) (a .tasks) (below (floorOf b)) (a .tasks) 0 (omega arith)))
+
+    is : (l : List Task) (from : ℕ) → Follow (a .priority) (a .cost) (a .tasks) from l → Contiguous a l
+    is [] from f = record { are = refl; inside = omega arith }
+    is (t ∷ l) from f =
+        let e : t .place ≡ from = ap startOf (f .are) in
+        record { are = f .are ∙ ap (tasksFrom (a .priority) (a .cost) (suc (length l))) (sym e); inside = omega (arith, f .inside) }
+
+-- the active segments by number are these, one by one
+module _ {A : Type 0} (f : Active → A) (g : List Task → A) (same : (j : ℕ) (l : List Task) → f (active j l) ≡ g l) where
+  active-map : (j : ℕ) (p : List (List Task)) → map f (map (active j) p) ≡ map g p
+  active-map j [] = refl
+  active-map j (l ∷ p) = ap₂ _∷_ (same j l) (active-map j p)
+
+  one-more : (j : ℕ) (p : List (List Task)) (r : List Active) (ls : List (List Task)) → map f r ≡ map g ls → map f (map (active j) p ++ r) ≡ map g (p ++ ls)
+  one-more j p r ls e = map-append f (map (active j) p) r ∙ ap₂ _++_ (active-map j p) e ∙ sym (map-append g p ls)
+
+  numbered-map : (j : ℕ) (ps : List (List (List Task))) → map f (numbered j ps) ≡ map g (flatten ps)
+  unfolding numbered flatten
+  numbered-map j [] = refl
+  numbered-map j (p ∷ ps) = one-more j p (numbered (j + 1) ps) (flatten ps) (numbered-map (j + 1) ps)
+
+  pub order-map : (ps : List (List (List Task))) → map f (inOrder ps) ≡ map g (flatten ps)
+  unfolding inOrder flatten
+  order-map [] = refl
+  order-map (p ∷ ps) = one-more (length ps) p (numbered 1 ps) (flatten ps) (numbered-map 1 ps)
+
+  pub actives-map : (a b : Row) → map f (activesOf a b) ≡ map g (activeTasks a b)
+  unfolding actives
+  actives-map a b = order-map (parts (floorOf b) (tailOf b) (tasksOf a))
+
+module _ (a b : Row) where
+  pub actives-length : length (activesOf a b) ≡ length (activeTasks a b)
+  actives-length = sym (length-map (activesOf a b) (λ s. s .len)) ∙ ap length (actives-map (λ s. s .len) length (λ j l. refl) a b) ∙ length-map (activeTasks a b) length
+
+  pub active-start : (i : ℕ) → getD (activesOf a b) i nothing .start ≡ startOf (getD (activeTasks a b) i [])
+  unfolding startOf
+  active-start i =
+      sym (List·getD-map (λ s. s .start) (activesOf a b) i nothing) ∙ ap (λ l. getD l i 0) (actives-map (λ s. s .start) startOf (λ j l. refl) a b)
+      ∙ List·getD-map startOf (activeTasks a b) i []
+
+  pub active-length : (i : ℕ) → getD (activesOf a b) i nothing .len ≡ length (getD (activeTasks a b) i [])
+  active-length i =
+      sym (List·getD-map (λ s. s .len) (activesOf a b) i nothing) ∙ ap (λ l. getD l i 0) (actives-map (λ s. s .len) length (λ j l. refl) a b)
+      ∙ List·getD-map length (activeTasks a b) i []
 
 -- a number out of the arrays that hold the list
-pub array-at : (f : Active → ℕ) (l : List Active) (k : ℕ) → k < length l → getD (pad maxTasks (map f l)) k 0 ≡ f (getD l k nothing)
-array-at f l k h = List·getD-append (map f l) (replicate (maxTasks - length (map f l)) 0) 0 k (rw length-map h) ∙ go l k h
+pub array-at : (f : Active → ℕ) (l : List Active) (i : ℕ) → i < length l → getD (pad maxTasks (map f l)) i 0 ≡ f (getD l i nothing)
+array-at f l i h = List·getD-append (map f l) (replicate (maxTasks - length (map f l)) 0) 0 i (rw length-map h) ∙ go l i h
   where
-    go : (l : List Active) (k : ℕ) → k < length l → getD (map f l) k 0 ≡ f (getD l k nothing)
-    go [] k h = absurd (omega arith)
+    go : (l : List Active) (i : ℕ) → i < length l → getD (map f l) i 0 ≡ f (getD l i nothing)
+    go [] i h = absurd (omega arith)
     go (a ∷ l) zero h = refl
-    go (a ∷ l) (suc k) h = go l k (omega arith)
+    go (a ∷ l) (suc i) h = go l i (omega arith)

@@ -1,17 +1,16 @@
 -- Stretches and their cuts: how many, and that the cuts of a segment put together are the segment. Assumes nothing.
-use Prim.Native.Nat.{ℕ, suc, _+_, _-_, _<_, _≤_}
+use Prim.Native.Nat.{ℕ, suc, _+_, _<_, _≤_}
 use native.Mathlib.Omega.{arith}
 use mathlib.Core.Path.{_≡_, refl, ap, ap₂, _∙_}
 use mathlib.Core.List.{List, [], _∷_, _++_, map, flatten}
 use mathlib.Core.Bool.{Bool, true, false, _||_}
-use borrow.Author.Tests.{lt-ltb, le-ltb}
-use lib.ListN.{length, getD, drop}
+use lib.ListN.{length, drop}
 use Rattle.search.specs.Choice.{_when_else_}
-use Rattle.search.specs.Lists.{All, some}
+use Rattle.search.specs.Lists.{sumOf, All, some}
 use Rattle.search.proofs.Lists.{all-append}
-use Rattle.segments.specs.Tasks.{Task, tasksFrom, below, before}
+use Rattle.segments.specs.Tasks.{Task, below, before}
 use Rattle.segments.specs.Segments.{_on_, stretches, around, nonempty, segments, cuts, parts, cutSegments}
-use Rattle.segments.proofs.Steps.{task, rest-on, rest-end, rest-all}
+use Rattle.segments.proofs.Steps.{task}
 use Rattle.segments.proofs.Lists.{flatten-on, flatten-append, Solid, solid-on, full-flatten, around-all, around-map}
 
 module _ (p : Task → Bool) where
@@ -28,14 +27,16 @@ module _ (p : Task → Bool) where
       go true h = omega arith
       go false h = omega (arith, on-length t (stretches p ts) h)
 
-  -- one stretch more for each task that passes
-  pub stretches-low : (t : Task) (ts : List Task) → p t ≡ true → length (stretches p (t ∷ ts)) ≡ suc (length (stretches p ts))
-  unfolding stretches _when_else_
-  stretches-low t ts e = rw e
-
-  pub stretches-high : (t : Task) (ts : List Task) → p t ≡ false → length (stretches p (t ∷ ts)) ≡ length (stretches p ts)
-  unfolding stretches _when_else_
-  stretches-high t ts e = rw e (on-length t (stretches p ts) (stretches-some ts))
+  -- one stretch more than tasks that pass
+  pub stretches-length : (ts : List Task) → sumOf (λ t. 1 when p t else 0) ts + 1 ≡ length (stretches p ts)
+  unfolding stretches sumOf _when_else_
+  stretches-length [] = refl
+  stretches-length (t ∷ ts) = go (p t) (stretches-length ts)
+    where
+      go : (b : Bool) → sumOf (λ t. 1 when p t else 0) ts + 1 ≡ length (stretches p ts)
+          → (1 when b else 0) + sumOf (λ t. 1 when p t else 0) ts + 1 ≡ length ([] ∷ stretches p ts when b else t on stretches p ts)
+      go true e = omega (arith, e)
+      go false e = omega (arith, e, on-length t (stretches p ts) (stretches-some ts))
 
   -- the first stretch, and the others
   pub stretches-split : (ts : List Task) → length (before p ts) < length ts
@@ -107,21 +108,3 @@ cut-flatten floor tail ts =
     let ps = map (cuts (below tail)) ss in
     full-flatten (around _++_ ps) (around-all _++_ Solid (all-append _) ps (all-solid (below tail) ss))
     ∙ ap nonempty (around-map _++_ _++_ flatten flatten-append ps ∙ ap (around _++_) (all-flatten (below tail) ss))
-
--- how many stretches the tasks after k others have, step by step
-module _ (ps cs : List ℕ) (n floor : ℕ) where
-  abbrev pub stretchesFrom : ℕ → ℕ
-  stretchesFrom k = length (stretches (below floor) (tasksFrom ps cs (n - k) k))
-
-  pub from-low : (k : ℕ) → k < n → getD ps k 0 < floor → stretchesFrom k ≡ suc (stretchesFrom (k + 1))
-  from-low k h l = rw (rest-on ps cs n k h) (stretches-low (below floor) (task ps cs k) _ (lt-ltb (getD ps k 0) floor l))
-
-  pub from-high : (k : ℕ) → k < n → floor ≤ getD ps k 0 → stretchesFrom k ≡ stretchesFrom (k + 1)
-  from-high k h l = rw (rest-on ps cs n k h) (stretches-high (below floor) (task ps cs k) _ (le-ltb (getD ps k 0) floor l))
-
-  pub from-end : (k : ℕ) → n ≤ k → stretchesFrom k ≡ 1
-  unfolding stretches
-  from-end k h = rw (rest-end ps cs n k h)
-
-  pub from-all : stretchesFrom 0 ≡ length (stretches (below floor) (tasksFrom ps cs n 0))
-  from-all = ap (λ ts. length (stretches (below floor) ts)) (rest-all ps cs n)

@@ -1,21 +1,21 @@
 -- What matters of a chain a to a chain b comes from its view, and views that are alike give the same. Assumes nothing.
-use Prim.Native.Nat.{ℕ, _<_}
+use Prim.Native.Nat.{ℕ}
 use native.Mathlib.Omega.{arith}
 use mathlib.Core.Path.{_≡_, refl, ap, ap₂, sym, _∙_}
-use mathlib.Core.List.{List, [], _∷_, _++_, map, flatten, List·Permᴰ, Permᴰ·symm, Permᴰ·refl}
+use mathlib.Core.List.{List, [], _∷_, _++_, map, flatten, List·Permᴰ, Permᴰ·symm}
 use mathlib.Core.Bool.{false, not}
 use lib.Dec.{eqb}
 use lib.ListN.{length, take}
 use Rattle.search.specs.Lists.{sumOf, mostOf}
 use Rattle.search.proofs.Lists.{perm-sum, perm-most, paired-perm}
-use Rattle.search.proofs.Pairing.{paired-weaker, paired-turn, paired-order}
+use Rattle.search.proofs.Pairing.{paired-weaker, paired-turn}
 use Rattle.table.specs.declared.Row.{Row}
 use Rattle.segments.specs.Tasks.{Task, tasksOf, costOf, chainCost, floorOf, tailOf, below, deferred, before, firstCost}
-use Rattle.segments.specs.Segments.{onward, around, nonempty, segments, segmentsOf, cutSegments, allCost, dearestCost}
-use Rattle.segments.specs.View.{View, viewOf, sum, allOf, dearestOf, countOf, Alike}
+use Rattle.segments.specs.Segments.{onward, around, nonempty, segments, segmentsOf, cutSegments}
+use Rattle.segments.specs.View.{View, viewOf, sum, allOf, dearestOf, Alike}
 use Rattle.segments.proofs.Steps.{rest-length, cost-nil}
 use Rattle.segments.proofs.Levels.{some-before, all-before, none-before}
-use Rattle.segments.proofs.Lists.{sum-map, most-map, sum-ones, sum-flatten, full-sum}
+use Rattle.segments.proofs.Lists.{sum-map, most-map, sum-flatten, full-sum}
 use Rattle.segments.proofs.Stretches.{stretches-none, cut-flatten}
 
 -- what the active segments of a segment cost together is what the segment costs
@@ -53,30 +53,19 @@ module _ (a b : Row) where
   unfolding viewOf
   segment-costs = all-costs (cutSegments (floorOf b) (tailOf b) (tasksOf a)) ∙ ap (map costOf) (cut-flatten (floorOf b) (tailOf b) (tasksOf a))
 
-  -- a chain that interferes freely is one segment, from its first task to its last
-  pub free-one : deferred a b ≡ false → 0 < a .tasks → segmentsOf a b ≡ tasksOf a ∷ []
-  unfolding segments around onward nonempty
-  free-one free some =
-      ap (λ ss. nonempty (around _++_ ss)) (stretches-none (below (floorOf b)) (tasksOf a) free)
-      ∙ one (tasksOf a) (omega (arith, rest-length (a .priority) (a .cost) (a .tasks) 0))
-    where
-      one : (ts : List Task) → 0 < length ts → nonempty (ts ∷ []) ≡ ts ∷ []
-      one [] h = absurd (omega arith)
-      one (t ∷ ts) h = refl
-
-  -- so its only segment has its cost
-  pub free-cost : deferred a b ≡ false → allCost a b ≡ chainCost a
+  -- a chain that interferes freely is one segment, which has its cost
+  pub free-cost : deferred a b ≡ false → sumOf costOf (segmentsOf a b) ≡ chainCost a
   unfolding segments around onward sumOf
   free-cost free =
       ap (λ ss. sumOf costOf (nonempty (around _++_ ss))) (stretches-none (below (floorOf b)) (tasksOf a) free)
       ∙ full-sum costOf cost-nil (tasksOf a ∷ []) ∙ omega arith
 
   -- the figures of 01 are figures of the view
-  pub all-view : allCost a b ≡ allOf (viewOf a b)
+  pub all-view : sumOf costOf (segmentsOf a b) ≡ allOf (viewOf a b)
   all-view =
       sym (sum-map costOf (λ c. c) (segmentsOf a b)) ∙ ap sum (sym segment-costs) ∙ sum-map sum (λ c. c) (viewOf a b .segments)
 
-  pub dearest-view : dearestCost a b ≡ dearestOf (viewOf a b)
+  pub dearest-view : mostOf costOf (segmentsOf a b) ≡ dearestOf (viewOf a b)
   dearest-view =
       sym (most-map costOf (λ c. c) (segmentsOf a b)) ∙ ap (mostOf (λ c. c)) (sym segment-costs) ∙ most-map sum (λ c. c) (viewOf a b .segments)
 
@@ -103,24 +92,11 @@ module _ {v w : View} (s : Alike v w) where
   pub alike-all : allOf v ≡ allOf w
   alike-all = alike-sum sum (λ l r p. perm-sum (λ c. c) p)
 
-  pub alike-count : countOf v ≡ countOf w
-  alike-count = alike-sum length (λ l r p. sym (sum-ones l) ∙ perm-sum (λ c. 1) p ∙ sum-ones r)
-
   pub alike-dearest : dearestOf v ≡ dearestOf w
   alike-dearest =
       sym (most-map sum (λ c. c) (v .segments)) ∙ perm-most (λ c. c) (alike-perm sum (λ l r p. perm-sum (λ c. c) p)) ∙ most-map sum (λ c. c) (w .segments)
 
--- alike: a view to itself, and the other way round
-pub alike-self : (v : View) → Alike v v
-alike-self v = record {
-  kind = refl;
-  overload = refl;
-  list = refl;
-  free = refl;
-  first = refl;
-  segments = paired-order Permᴰ·refl (Permᴰ·refl (v .segments));
-}
-
+-- alike: the other way round
 pub alike-turn : {v w : View} → Alike v w → Alike w v
 alike-turn s = record {
   kind = sym (s .kind);

@@ -21,10 +21,10 @@ startOf (t ∷ ts) = t .place
 abbrev pub active : ℕ → List Task → Active
 active j ts = record { start = startOf ts; len = length ts; cost = costOf ts; segment = j }
 
--- the active segments of the stretches k, k + 1, .., each of the segment that bears its stretch's number
+-- the active segments of the stretches j, j + 1, .., each of the segment that bears its stretch's number
 unfoldable pub numbered : ℕ → List (List (List Task)) → List Active
-numbered k [] = []
-numbered k (p ∷ ps) = map (active k) p ++ numbered (k + 1) ps
+numbered j [] = []
+numbered j (p ∷ ps) = map (active j) p ++ numbered (j + 1) ps
 
 -- from the first stretch on, in task order; the first stretch is of the last one's segment
 unfoldable pub inOrder : List (List (List Task)) → List Active

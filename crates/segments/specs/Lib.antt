@@ -2,6 +2,5 @@ pub mod Tasks
 pub mod Segments
 pub mod Actives
 pub mod View
-pub mod Items
 pub mod Query
 pub mod code

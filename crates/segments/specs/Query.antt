@@ -1,18 +1,21 @@
 -- The segment query over a stored table (01, 'Numbers given back' and 'Segments against chain b').
-use Prim.Native.Nat.{ℕ, _+_, _*_, _-_}
+use Prim.Native.Nat.{ℕ, _+_, _*_, _-_, _≤_}
 use mathlib.Core.Path.{_≡_}
-use mathlib.Core.List.{List, [], _∷_}
+use mathlib.Core.List.{List, [], _∷_, _++_, map, flatten}
 use mathlib.Core.Bool.{not, _||_}
 use lib.ListN.{length, getD, take, drop}
 use lib.Dec.{eqb}
 use denote.Ref.{RefT, ptr, now}
 use Rattle.search.specs.Choice.{_when_else_}
+use Rattle.table.specs.Bytes.{bytesOf}
 use Rattle.table.specs.Find.{rowOf, findOf, used}
 use Rattle.table.specs.Record.{afterList}
 use Rattle.table.specs.Fault.{outside}
 use Rattle.table.specs.Place.{placeOf}
 use Rattle.table.specs.Read.{byVerdict, readTable, tableOf}
 use Rattle.table.specs.declared.Table.{Table}
+use Rattle.segments.specs.Tasks.{Task}
+use Rattle.segments.specs.Segments.{activeTasks}
 use Rattle.segments.specs.Actives.{Active, nothing, activesOf}
 use Rattle.segments.specs.declared.Answer.{Answer}
 use Rattle.segments.specs.declared.Answer.the-variants.{Records, Refused}
@@ -26,26 +29,30 @@ abbrev pub valuesOf : Answer → List ℕ
 valuesOf (Records offset len) = offset ∷ len ∷ []
 valuesOf (Refused n) = []
 
--- the task records of an active segment, 8 bytes each: their offset from the table's first byte, and their length
-abbrev pub recordsOf : ℕ → Active → Answer
-recordsOf first s = Records (first + 8 * s .start) (8 * s .len)
+-- the active segments of one chain of a table against another
+abbrev pub activesIn : Table → ℕ → ℕ → List Active
+activesIn t chain other = activesOf (rowOf t chain) (rowOf t other)
 
--- the active segment of that number, counted from 1, of the chain k of a table against the chain j; 26 if there is none
+-- the task records of an active segment of a chain, 8 bytes each: their offset from the table's first byte, and their length
+abbrev pub recordsOf : Table → ℕ → Active → Answer
+recordsOf t chain s = Records (afterList (placeOf t chain) (rowOf t chain .listed) + 8 * s .start) (8 * s .len)
+
+-- the active segment of that number, counted from 1; 26 if there is none
 unfoldable pub nthOf : Table → ℕ → ℕ → ℕ → Answer
-nthOf t k j number =
-    Refused 26 when outside 1 (length (activesOf (rowOf t k) (rowOf t j))) number else
-    recordsOf (afterList (placeOf t k) (rowOf t k .listed)) (getD (activesOf (rowOf t k) (rowOf t j)) (number - 1) nothing)
+nthOf t chain other number =
+    Refused 26 when outside 1 (length (activesIn t chain other)) number else
+    recordsOf t chain (getD (activesIn t chain other) (number - 1) nothing)
 
--- 12 for either id, then 25, then 26
+-- of the chain with one id against the chain with the other: 12 for either id, then 25, then 26
 unfoldable pub answerOf : Table → ℕ → ℕ → ℕ → Answer
-answerOf t chain against number =
-    Refused 12 when not (used t chain) || not (used t against) else
-    Refused 25 when eqb chain against else
-    nthOf t (findOf t chain) (findOf t against) number
+answerOf t id against number =
+    Refused 12 when not (used t id) || not (used t against) else
+    Refused 25 when eqb id against else
+    nthOf t (findOf t id) (findOf t against) number
 
 -- over a stored table, whose own refusals come first
 unfoldable pub segmentOf : List ℕ → ℕ → ℕ → ℕ → Answer
-segmentOf s chain against number = byVerdict Refused (readTable s .verdict) (answerOf (tableOf s) chain against number)
+segmentOf s id against number = byVerdict Refused (readTable s .verdict) (answerOf (tableOf s) id against number)
 
 -- handed back as that part of the caller's own table bytes; a refusal hands back an empty part
 abbrev pub partOf : List ℕ → Answer → List ℕ
@@ -60,3 +67,19 @@ offsetOf (Refused n) = 0
 pub record HandedBack (table r : RefT (List ℕ)) (answer : Answer) : Type 0 where
   pub bytes : now r ≡ partOf (now table) answer
   pub place : ptr r ≡ (ptr table .0, offsetOf answer + ptr table .1)
+
+-- what that part is: the records of the active segment's tasks, one after the other
+
+-- a task's record in bytes: its mark `TK`, its priority and its cost
+abbrev pub taskRecord : Task → List ℕ
+taskRecord t = bytesOf 2 19284 ++ (bytesOf 2 (t .priority) ++ bytesOf 4 (t .cost))
+
+-- the active segments of the chain with one id against the chain with the other, in task order, each as its tasks
+abbrev pub tasksIn : Table → ℕ → ℕ → List (List Task)
+tasksIn t id against = activeTasks (rowOf t (findOf t id)) (rowOf t (findOf t against))
+
+-- a part of a table's bytes is the task records of the active segment of that number, counted from 1
+pub record TaskRecords (s : List ℕ) (id against number : ℕ) (part : List ℕ) : Type 0 where
+  pub low : 1 ≤ number
+  pub high : number ≤ length (tasksIn (tableOf s) id against)
+  pub bytes : part ≡ flatten (map taskRecord (getD (tasksIn (tableOf s) id against) (number - 1) []))

@@ -1,11 +1,10 @@
 -- A chain's segments against a chain b, and their cuts (01, 'Segments against chain b'). A segment is a list of tasks.
 use Prim.Native.Nat.{ℕ}
-use mathlib.Core.List.{List, [], _∷_, _++_, map}
+use mathlib.Core.List.{List, [], _∷_, _++_, map, flatten}
 use mathlib.Core.Bool.{Bool}
 use Rattle.search.specs.Choice.{_when_else_}
-use Rattle.search.specs.Lists.{sumOf, mostOf}
 use Rattle.table.specs.declared.Row.{Row}
-use Rattle.segments.specs.Tasks.{Task, tasksOf, costOf, floorOf, tailOf, below}
+use Rattle.segments.specs.Tasks.{Task, tasksOf, floorOf, tailOf, below}
 
 infixr 67 _on_
 -- one more in front of the first of some lists
@@ -43,13 +42,6 @@ segments floor ts = nonempty (around _++_ (stretches (below floor) ts))
 abbrev pub segmentsOf : Row → Row → List (List Task)
 segmentsOf a b = segments (floorOf b) (tasksOf a)
 
--- all segment costs together, and the dearest segment, 0 if there is none
-abbrev pub allCost : Row → Row → ℕ
-allCost a b = sumOf costOf (segmentsOf a b)
-
-abbrev pub dearestCost : Row → Row → ℕ
-dearestCost a b = mostOf costOf (segmentsOf a b)
-
 -- cut before each task that passes, except the first
 unfoldable pub cuts : (Task → Bool) → List Task → List (List Task)
 cuts p [] = []
@@ -59,6 +51,10 @@ cuts p (t ∷ u ∷ ts) = (t ∷ []) ∷ cuts p (u ∷ ts) when p u else t on cu
 -- active segments: stretches end at the last task; each is cut before each task below the tail, except its first
 unfoldable pub parts : ℕ → ℕ → List Task → List (List (List Task))
 parts floor tail ts = map (cuts (below tail)) (stretches (below floor) ts)
+
+-- all of them, in task order
+abbrev pub activeTasks : Row → Row → List (List Task)
+activeTasks a b = flatten (parts (floorOf b) (tailOf b) (tasksOf a))
 
 -- the segments, each as its active segments
 unfoldable pub cutSegments : ℕ → ℕ → List Task → List (List (List Task))

@@ -14,10 +14,10 @@ pub record Task : Type 0 where
   pub priority : ℕ
   pub cost : ℕ
 
--- n tasks, from the one with k before it on, of a list of priorities and a list of costs
+-- n tasks, from the one with i before it on, of a list of priorities and a list of costs
 unfoldable pub tasksFrom : List ℕ → List ℕ → ℕ → ℕ → List Task
-tasksFrom ps cs zero k = []
-tasksFrom ps cs (suc n) k = record { place = k; priority = getD ps k 0; cost = getD cs k 0 } ∷ tasksFrom ps cs n (k + 1)
+tasksFrom ps cs zero i = []
+tasksFrom ps cs (suc n) i = record { place = i; priority = getD ps i 0; cost = getD cs i 0 } ∷ tasksFrom ps cs n (i + 1)
 
 abbrev pub tasksOf : Row → List Task
 tasksOf r = tasksFrom (r .priority) (r .cost) (r .tasks) 0

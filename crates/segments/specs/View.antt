@@ -3,7 +3,6 @@ use Prim.Native.Nat.{ℕ}
 use mathlib.Core.Path.{_≡_}
 use mathlib.Core.List.{List, map, List·Permᴰ}
 use mathlib.Core.Bool.{Bool, not}
-use lib.ListN.{length}
 use Rattle.search.specs.Lists.{sumOf, mostOf, Paired}
 use Rattle.table.specs.Record.{distances}
 use Rattle.table.specs.declared.Row.{Row}
@@ -35,16 +34,12 @@ viewOf a b =
 abbrev pub sum : List ℕ → ℕ
 sum cs = sumOf (λ c. c) cs
 
--- all segment costs together, which are the cost of a chain that interferes freely; the dearest segment
+-- all segment costs together, which are the cost of a chain that interferes freely; the dearest segment, 0 if there is none
 abbrev pub allOf : View → ℕ
 allOf v = sumOf sum (v .segments)
 
 abbrev pub dearestOf : View → ℕ
 dearestOf v = mostOf sum (v .segments)
-
--- how many active segments it has
-abbrev pub countOf : View → ℕ
-countOf v = sumOf length (v .segments)
 
 -- the same view up to order: the segments pair off one to one, each pair with the same active-segment costs in some
 -- order, and so with the same cost

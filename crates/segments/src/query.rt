@@ -15,13 +15,13 @@ ghost use Rattle.table.specs.code.Taken.{Taken};
 ghost use Rattle.table.specs.Read.{tableOf};
 ghost use Rattle.segments.specs.Query.{nthOf, answerOf, segmentOf, HandedBack};
 
-// The active segment of that number, of the chain k of a table against the chain j.
-fn nth(s: &[u8], k: usize, j: usize, number: u32) -> Answer
-    requires { ⌜ Taken (now s) × (k < tableOf (now s) .count) × (j < tableOf (now s) .count) ⌝ }
-    ensures { λ r. ⌜ r ≡ nthOf (tableOf (now (s .entry))) k j number ⌝ }
+// The active segment of that number, of one chain of a table against another.
+fn nth(s: &[u8], chain: usize, other: usize, number: u32) -> Answer
+    requires { ⌜ Taken (now s) × (chain < tableOf (now s) .count) × (other < tableOf (now s) .count) ⌝ }
+    ensures { λ r. ⌜ r ≡ nthOf (tableOf (now (s .entry))) chain other number ⌝ }
 {
-    let at = place(s, k);
-    let b = place(s, j);
+    let at = place(s, chain);
+    let b = place(s, other);
     let found = active_segments(s, at, floor_of(s, b), tail_of(s, b));
     let n = number as usize;
     if n == 0 || found.count < n {
@@ -36,38 +36,38 @@ fn nth(s: &[u8], k: usize, j: usize, number: u32) -> Answer
     }
 }
 
-// The query on a table that was accepted.
-fn ask(s: &[u8], chain: u32, against: u32, number: u32) -> Answer
+// The query on a table that was accepted: `id` and `against` name the two chains.
+fn ask(s: &[u8], id: u32, against: u32, number: u32) -> Answer
     requires { ⌜ Taken (now s) ⌝ }
-    ensures { λ r. ⌜ r ≡ answerOf (tableOf (now (s .entry))) chain against number ⌝ }
+    ensures { λ r. ⌜ r ≡ answerOf (tableOf (now (s .entry))) id against number ⌝ }
 {
-    let k = find(s, chain);
-    let j = find(s, against);
+    let chain = find(s, id);
+    let other = find(s, against);
     let n = count(s);
-    if k == n || j == n {
+    if chain == n || other == n {
         return Answer::Refused(12);
     }
-    if chain == against {
+    if id == against {
         return Answer::Refused(25);
     }
-    nth(s, k, j, number)
+    nth(s, chain, other, number)
 }
 
-// Where the active segment of that number stands, of the chain against the other; both are named by their ids.
-pub fn segment(table: &[u8], chain: u32, against: u32, number: u32) -> Answer
-    ensures { λ r. ⌜ r ≡ segmentOf (now (table .entry)) chain against number ⌝ }
+// Where the active segment of that number stands, of the chain with one id against the chain with the other.
+pub fn segment(table: &[u8], id: u32, against: u32, number: u32) -> Answer
+    ensures { λ r. ⌜ r ≡ segmentOf (now (table .entry)) id against number ⌝ }
 {
     match judge(table) {
-        Verdict::Accepted => ask(table, chain, against, number),
+        Verdict::Accepted => ask(table, id, against, number),
         Verdict::Refused(n) => Answer::Refused(n),
     }
 }
 
 // The same as that part of the caller's own bytes; empty where it is refused.
-pub fn segment_part(table: &[u8], chain: u32, against: u32, number: u32) -> &[u8]
-    ensures { λ r. ⌜ HandedBack (table .entry) r (segmentOf (now (table .entry)) chain against number) ⌝ }
+pub fn segment_part(table: &[u8], id: u32, against: u32, number: u32) -> &[u8]
+    ensures { λ r. ⌜ HandedBack (table .entry) r (segmentOf (now (table .entry)) id against number) ⌝ }
 {
-    let answer = segment(table, chain, against, number);
+    let answer = segment(table, id, against, number);
     match answer {
         Answer::Records { offset, length } => {
             let from = offset as usize;

@@ -1,5 +1,5 @@
 -- Every accepted reading is a good table, and its bytes hold it. Assumes nothing.
-use Prim.Native.Nat.{ℕ, zero, suc, _+_, _<_, _≤_}
+use Prim.Native.Nat.{ℕ, zero, suc, _+_, _*_, _<_, _≤_}
 use native.Mathlib.Omega.{arith}
 use native.Mathlib.Numerals.{add-one}
 use mathlib.Core.Path.{_≡_, refl, ap, sym, _∙_}
@@ -16,7 +16,7 @@ use Rattle.search.proofs.Find.{first-miss}
 use Rattle.search.proofs.Lists.{sum-append}
 use Rattle.table.specs.Limits.{maxChains, maxAllTasks, maxBytes}
 use Rattle.table.specs.Bytes.{word, Bytes}
-use Rattle.table.specs.Record.{blank, idAt, lengthAt, rowAt}
+use Rattle.table.specs.Record.{blank, idAt, afterList, lengthAt, rowAt}
 use Rattle.table.specs.Find.{rowOf, rows, findOf, used}
 use Rattle.table.specs.Fault.{markOf, chainFault, endFault}
 use Rattle.table.specs.Read.{empty, plus, refusal, accepted, unless, byMark, start, records, readTable}
@@ -46,6 +46,7 @@ record RowsKept (s : List ℕ) (at : ℕ) (t : Table) : Type 0 where
   place : at ≡ placeOf t (t .count)
   marks : (chain : ℕ) → chain < t .count → markOf (word 2 s (placeOf t chain)) ≡ Chain
   makes : (chain : ℕ) → chain < t .count → rowAt s (placeOf t chain) ≡ rowOf t chain
+  task-marks : (chain : ℕ) → chain < t .count → (i : ℕ) → i < rowOf t chain .tasks → markOf (word 2 s (afterList (placeOf t chain) (rowOf t chain .listed) + 8 * i)) ≡ Task
   inside : (chain : ℕ) → chain < t .count → placeOf t chain + lengthOf (rowOf t chain) ≤ length s
 
 kept-empty : (s : List ℕ) → RowsKept s 0 empty
@@ -61,6 +62,7 @@ kept-empty s = record {
   place = place-none empty;
   marks = λ chain h. absurd (omega (arith, h));
   makes = λ chain h. absurd (omega (arith, h));
+  task-marks = λ chain h. absurd (omega (arith, h));
   inside = λ chain h. absurd (omega (arith, h));
 }
 
@@ -113,6 +115,9 @@ module _ (s : List ℕ) (at : ℕ) (t : Table) (g : RowsKept s at t) (bytes : By
         place = place;
         marks = more (λ chain. markOf (word 2 s (placeOf (plus t r) chain)) ≡ Chain) (λ chain h. rw (before chain (omega arith)) (g .marks chain h)) (rw here mark);
         makes = more (λ chain. rowAt s (placeOf (plus t r) chain) ≡ rowOf (plus t r) chain) (λ chain h. rw (before chain (omega arith), old chain h) (g .makes chain h)) (rw (here, new));
+        task-marks =
+            more (λ chain. (i : ℕ) → i < rowOf (plus t r) chain .tasks → markOf (word 2 s (afterList (placeOf (plus t r) chain) (rowOf (plus t r) chain .listed) + 8 * i)) ≡ Task)
+            (λ chain h. rw (before chain (omega arith), old chain h) (g .task-marks chain h)) (rw (here, new) (λ i h. c .tasks i h .mark));
         inside = more (λ chain. placeOf (plus t r) chain + lengthOf (rowOf (plus t r) chain) ≤ length s) (λ chain h. rw (before chain (omega arith), old chain h) (g .inside chain h)) (rw (here, new) (c .there));
       }
     where
@@ -163,6 +168,7 @@ end-sound s at t g e a =
       record {
         marks = g .marks;
         makes = g .makes;
+        task-marks = g .task-marks;
         inside = g .inside;
         ends = omega (arith, g .place, last);
         counts = ap (λ n. word 2 s (n + 2)) (sym (g .place)) ∙ eqb-true _ _ (not-false _ (e3 .0));

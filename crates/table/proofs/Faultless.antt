@@ -1,17 +1,20 @@
 -- What the absence of a fault says of a record. Assumes nothing.
 use Prim.Native.Nat.{ℕ, zero, suc, _+_, _*_, _-_, _<_, _≤_}
 use native.Mathlib.Omega.{arith}
-use mathlib.Core.Path.{_≡_}
+use mathlib.Core.Path.{_≡_, refl}
 use mathlib.Core.List.{List}
 use mathlib.Core.Bool.{false}
 use lib.ListN.{length}
 use lib.Dec.{eqb}
 use borrow.Author.Tests.{ltb-false, eqb-false}
+use Rattle.search.proofs.Choice.{when-cases}
 use Rattle.table.specs.Limits.{maxDeadline, maxGap, maxDistances, maxTasks, maxAllTasks, maxCost}
+use Rattle.table.specs.Bytes.{word}
 use Rattle.table.specs.Record.{idAt, kindAt, overloadAt, deadlineAt, gapAt, listedAt, tasksAt, firstTask, lengthAt, priorityAt, costAt, distancesAt}
 use Rattle.table.specs.Find.{used}
-use Rattle.table.specs.Fault.{outside, identityFault, timesFault, countsFault, headFault, distancesFault, gapFault, listFault, taskRestFault, taskFault, tasksFault, chainFault}
+use Rattle.table.specs.Fault.{outside, markOf, noTask, identityFault, timesFault, countsFault, headFault, distancesFault, gapFault, listFault, taskMarkFault, taskRestFault, taskFault, tasksFault, chainFault}
 use Rattle.table.specs.declared.Table.{Table}
+use Rattle.table.specs.declared.Mark.the-variants.{Task}
 use Rattle.table.proofs.Firsts.{none-or, when-zero, then-zero}
 
 pub inside : (low high x : ℕ) → outside low high x ≡ false → (low ≤ x) × (x ≤ high)
@@ -74,19 +77,30 @@ list-right s at e =
     let e8 = then-zero _ _ (e2 .1) in
     record { there = ltb-false _ _ (e2 .0); distances = e8 .0; gap = e8 .1 }
 
+-- a mark that is refused nowhere a task stands is a task's
+mark-task : (m : ℕ) → noTask (markOf m) ≡ 0 → markOf m ≡ Task
+unfolding markOf
+mark-task m =
+    when-cases (λ x. noTask x ≡ 0 → x ≡ Task) (eqb m 18499) (λ a e. absurd (omega arith))
+    (λ a. when-cases (λ x. noTask x ≡ 0 → x ≡ Task) (eqb m 19284) (λ b e. refl)
+    (λ b. when-cases (λ x. noTask x ≡ 0 → x ≡ Task) (eqb m 20037) (λ c e. absurd (omega arith)) (λ c e. absurd (omega arith))))
+
 pub record TaskRight (s : List ℕ) (at : ℕ) : Type 0 where
   pub there : at + 8 ≤ length s
+  pub mark : markOf (word 2 s at) ≡ Task
   pub priority : 1 ≤ priorityAt s at
   pub cost : (1 ≤ costAt s at) × (costAt s at ≤ maxCost)
 
 pub task-right : (s : List ℕ) (at : ℕ) → taskFault s at ≡ 0 → TaskRight s at
-unfolding taskFault taskRestFault
+unfolding taskFault taskMarkFault taskRestFault
 task-right s at e =
+    let e3 = when-zero 1 _ _ (then-zero _ _ e .0) in
     let e2 = when-zero 1 _ _ (then-zero _ _ e .1) in
     let e10 = when-zero 9 _ _ (e2 .1) in
     let values = none-or _ (outside 1 maxCost (costAt s at)) (e10 .0) in
     record {
       there = ltb-false _ _ (e2 .0);
+      mark = mark-task (word 2 s at) (e3 .1);
       priority = not-zero _ (values .0);
       cost = inside 1 maxCost (costAt s at) (values .1);
     }

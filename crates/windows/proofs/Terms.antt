@@ -12,7 +12,7 @@ use Rattle.table.specs.code.Good.{GoodRow}
 use Rattle.table.specs.declared.Row.{Row}
 use Rattle.arrivals.specs.Arrivals.{η}
 use Rattle.segments.specs.Tasks.{tasksOf, costOf, floorOf, below, before, firstCost}
-use Rattle.segments.specs.Segments.{segments, allCost, dearestCost}
+use Rattle.segments.specs.Segments.{segments, segmentsOf}
 use Rattle.segments.specs.code.Held.{stretchOf, dearest}
 use Rattle.segments.specs.View.{viewOf}
 use Rattle.segments.specs.declared.tasks.Stretch.{Stretch}
@@ -56,7 +56,7 @@ module _ (a b : Row) (good : GoodRow a) {floor : ℕ} (same : floorOf b ≡ floo
         → Adds (viewOf a b) (record { rate = first .cost; once = all })
     unfolding termOf
     asynchronous-adds e {all} f =
-        let all-is : all ≡ allCost a b = f ∙ ap (λ n. sumOf costOf (segments n (tasksOf a))) (sym same) in
+        let all-is : all ≡ sumOf costOf (segmentsOf a b) = f ∙ ap (λ n. sumOf costOf (segments n (tasksOf a))) (sym same) in
         record {
           rate = cheap;
           once = omega (arith, all-is, all-max a good b);
@@ -69,7 +69,7 @@ module _ (a b : Row) (good : GoodRow a) {floor : ℕ} (same : floorOf b ≡ floo
         → Adds (viewOf a b) (record { rate = 0; once = one })
     unfolding termOf
     synchronous-adds e {one} f =
-        let one-is : one ≡ dearestCost a b = f ∙ ap (λ n. mostOf costOf (segments n (tasksOf a))) (sym same) in
+        let one-is : one ≡ mostOf costOf (segmentsOf a b) = f ∙ ap (λ n. mostOf costOf (segments n (tasksOf a))) (sym same) in
         record {
           rate = omega arith;
           once = omega (arith, one-is, dearest-all a b, all-max a good b);

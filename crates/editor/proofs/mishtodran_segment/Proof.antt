@@ -11,7 +11,7 @@ use Rattle.editor.proofs.mishtodran_segment.Tie as tie
 
 returns : tie.Need-returns
 returns c = let a = c .before .before .before .args in
-    let answer = segmentOf (now (a .table)) (a .chain) (a .against) (a .number) in
+    let answer = segmentOf (now (a .table)) (a .id) (a .against) (a .number) in
     record { answers = answered-short 2 (numberOf answer) (valuesOf answer) (now (a .answer)) (c .if1 .taken) }
 
 segment-requires : tie.Need-segment-requires
@@ -41,7 +41,7 @@ returns-2 c = let a = c .before .before .before .before .before .before .before 
 
 returns-3 : tie.Need-returns-3
 returns-3 c = let a = c .before .before .before .before .before .before .before .args in
-    let answer = segmentOf (now (a .table)) (a .chain) (a .against) (a .number) in
+    let answer = segmentOf (now (a .table)) (a .id) (a .against) (a .number) in
     let told = c .before .n .given in
     let e = sym (c .before .before .before .segment .ensures) ∙ told .1 in
     record { answers = answered-refusal 2 (numberOf answer) (valuesOf answer) (now (a .answer)) (c .before .before .before .before .if1 .left) (told .0 .0) (ap numberOf e) (ap valuesOf e) }

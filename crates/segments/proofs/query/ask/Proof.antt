@@ -1,5 +1,4 @@
 -- By the tests, in the order of 01: 12, 25, and then the active segments.
-use Prim.Native.Nat.{_<_}
 use native.Mathlib.Omega.{arith}
 use mathlib.Core.Path.{_≡_, ap₂, sym, _∙_}
 use mathlib.Core.Bool.{not, false, _||_}
@@ -21,15 +20,18 @@ abbrev table : tie.Start → Table
 table c = tableOf (now (c .args .s))
 
 -- both ids are in the table
-first : (c : tie.Else2) → findOf (table (c .before .before .before .before .before .before)) (c .before .before .before .before .before .before .args .chain) < table (c .before .before .before .before .before .before) .count
-first c = known-below (table (c .before .before .before .before .before .before)) (c .before .before .before .before .before .before .args .chain) (λ e. c .before .if1 .left (c .before .before .before .before .find .ensures ∙ e ∙ sym (c .before .before .count .ensures)))
+module _ (c : tie.Else2) where
+  abbrev start : tie.Start
+  start = c .before .before .before .before .before .before
 
-second : (c : tie.Else2) → findOf (table (c .before .before .before .before .before .before)) (c .before .before .before .before .before .before .args .against) < table (c .before .before .before .before .before .before) .count
-second c = known-below (table (c .before .before .before .before .before .before)) (c .before .before .before .before .before .before .args .against) (λ e. eqb-false _ _ (c .if2 .left) (c .before .before .before .find2 .ensures ∙ e ∙ sym (c .before .before .count .ensures)))
+  first-known : findOf (table start) (start .args .id) ≡ table start .count → ⊥
+  first-known e = c .before .if1 .left (c .before .before .before .before .find .ensures ∙ e ∙ sym (c .before .before .count .ensures))
 
-named : (c : tie.Else2) → (not (used (table (c .before .before .before .before .before .before)) (c .before .before .before .before .before .before .args .chain)) || not (used (table (c .before .before .before .before .before .before)) (c .before .before .before .before .before .before .args .against))) ≡ false
-named c =
-    or-none _ _ (known (table (c .before .before .before .before .before .before)) (c .before .before .before .before .before .before .args .chain) (λ e. omega (arith, first c))) (known (table (c .before .before .before .before .before .before)) (c .before .before .before .before .before .before .args .against) (λ e. omega (arith, second c)))
+  second-known : findOf (table start) (start .args .against) ≡ table start .count → ⊥
+  second-known e = eqb-false _ _ (c .if2 .left) (c .before .before .before .find2 .ensures ∙ e ∙ sym (c .before .before .count .ensures))
+
+  named : (not (used (table start) (start .args .id)) || not (used (table start) (start .args .against))) ≡ false
+  named = or-none _ _ (known (table start) (start .args .id) first-known) (known (table start) (start .args .against) second-known)
 
 find-requires : tie.Need-find-requires
 find-requires c κs = search needs
@@ -45,8 +47,8 @@ unfolding answerOf
 returns c =
     let s = c .before .before .before .before .before in
     sym (when-yes _ _ (⊎-elim
-    (λ w. or-left _ _ (unknown (table s) (s .args .chain) (sym (c .before .before .before .find .ensures) ∙ w .taken ∙ c .before .count .ensures)))
-    (λ w. or-right (not (used (table s) (s .args .chain))) _ (unknown (table s) (s .args .against) (sym (c .before .before .find2 .ensures) ∙ eqb-true _ _ (w .1 .taken) ∙ c .before .count .ensures)))
+    (λ w. or-left _ _ (unknown (table s) (s .args .id) (sym (c .before .before .before .find .ensures) ∙ w .taken ∙ c .before .count .ensures)))
+    (λ w. or-right (not (used (table s) (s .args .id))) _ (unknown (table s) (s .args .against) (sym (c .before .before .find2 .ensures) ∙ eqb-true _ _ (w .1 .taken) ∙ c .before .count .ensures)))
     (c .if1 .came)))
 
 returns-2 : tie.Need-returns-2
@@ -55,13 +57,17 @@ returns-2 c = sym (when-no _ _ (named (c .before)) ∙ when-yes _ _ (eq-eqb _ _ 
 
 nth-requires : tie.Need-nth-requires
 nth-requires c κs =
-    (c .before .before .before .before .before .before .before .pre, omega (arith, c .before .before .before .before .before .find .ensures, first (c .before)), omega (arith, c .before .before .before .before .find2 .ensures, second (c .before)))
+    let s = start (c .before) in
+    let chain = known-below (table s) (s .args .id) (first-known (c .before)) in
+    let other = known-below (table s) (s .args .against) (second-known (c .before)) in
+    (s .pre, omega (arith, c .before .before .before .before .before .find .ensures, chain), omega (arith, c .before .before .before .before .find2 .ensures, other))
 
 returns-3 : tie.Need-returns-3
 unfolding answerOf
 returns-3 c =
-    let s = c .before .before .before .before .before .before .before .before in
-    c .nth .ensures ∙ ap₂ (λ k j. nthOf (table s) k j (s .args .number)) (c .before .before .before .before .before .before .find .ensures) (c .before .before .before .before .before .find2 .ensures)
+    let s = start (c .before .before) in
+    c .nth .ensures
+    ∙ ap₂ (λ chain other. nthOf (table s) chain other (s .args .number)) (c .before .before .before .before .before .before .find .ensures) (c .before .before .before .before .before .find2 .ensures)
     ∙ sym (when-no _ _ (named (c .before .before)) ∙ when-no _ _ (ne-eqb _ _ (c .before .if3 .left)))
 
 pub ask-spec : {M : Type 1} → statement M

@@ -1,56 +1,72 @@
--- The active segment comes out of the arrays, and stands inside its chain, whose record stands in the table.
-use Prim.Native.Nat.{_≤_}
+-- The active segment comes out of the arrays, and lies inside its chain, whose record stands in the table.
+use Prim.Native.Nat.{_*_, _≤_}
 use native.Mathlib.Omega.{arith}
 use mathlib.Core.Path.{_≡_, ap₂, _∙_}
 use mathlib.Core.Logic.{inl, inr, ⊎-elim}
 use denote.Ref.{now}
 use borrow.Author.Needs.{needs}
 use borrow.Author.Tests.{ltb-false}
-use Rattle.table.specs.declared.Row.{Row}
-use Rattle.table.specs.Record.{rowAt}
+use Rattle.table.specs.Limits.{maxChains, maxTasks}
+use Rattle.table.specs.Record.{afterList, rowAt}
 use Rattle.table.specs.Find.{rowOf}
+use Rattle.table.specs.Place.{placeOf}
 use Rattle.table.specs.Read.{tableOf}
+use Rattle.table.specs.declared.Table.{Table}
 use Rattle.table.proofs.Stands.{row-there, stands}
 use Rattle.segments.specs.Actives.{activesOf}
+use Rattle.segments.specs.Query.{activesIn}
 use Rattle.segments.specs.code.Held.{arraysOf}
 use Rattle.segments.proofs.Levels.{floor-tail}
-use Rattle.segments.proofs.Asking.{Fetched, found-is, first-there, fetched, nth-none, nth-records, place-max}
+use Rattle.segments.proofs.Asking.{Fetched, found-is, first-there, fetched, nth-none, nth-records, longestRecord, place-max}
 use Rattle.segments.proofs.query.nth.Statement.{statement}
 use Rattle.segments.proofs.query.nth.Tie as tie
 
--- the rows of the two chains
-abbrev a : tie.Start → Row
-a c = rowOf (tableOf (now (c .args .s))) (c .args .k)
+abbrev table : tie.Start → Table
+table s = tableOf (now (s .args .s))
 
-abbrev b : tie.Start → Row
-b c = rowOf (tableOf (now (c .args .s))) (c .args .j)
+-- the arrays hold the active segments
+module _ (c : tie.After-active-segments) where
+  abbrev start : tie.Start
+  start = c .before .before .before .before .before .before
 
--- the arrays hold their active segments
-held : (c : tie.After-active-segments) → c .active-segments .result ≡ arraysOf (activesOf (a (c .before .before .before .before .before .before)) (b (c .before .before .before .before .before .before)))
-held c =
-    let s = c .before .before .before .before .before .before in
-    let x = rowAt (now (s .args .s)) (c .before .before .before .before .place .result) in
-    let y = rowAt (now (s .args .s)) (c .before .before .before .place2 .result) in
-    found-is x y (c .before .before .floor-of .result) (c .before .tail-of .result) (c .active-segments .result) (c .before .before .floor-of .ensures) (c .before .tail-of .ensures) (c .active-segments .ensures)
-    ∙ ap₂ (λ p q. arraysOf (activesOf p q)) (row-there (s .pre .0) (c .before .before .before .before .place .ensures) (s .pre .1)) (row-there (s .pre .0) (c .before .before .before .place2 .ensures) (s .pre .2))
+  -- the places of the two chains
+  abbrev chain : tie.After-place
+  chain = c .before .before .before .before
 
-got : (c : tie.Else2) → Fetched (a (c .before .before .before .before .before .before .before .before)) (b (c .before .before .before .before .before .before .before .before)) (c .before .before .active-segments .result) (c .before .before .before .before .before .before .before .before .args .number)
-got c = fetched _ _ _ (c .before .before .before .before .before .before .before .before .args .number) (held (c .before .before)) (c .before .if1 .left) (ltb-false _ _ (c .if2 .left))
+  abbrev other : tie.After-place2
+  other = c .before .before .before
 
--- where the chain's task records can start, and how many there can be
-record Near (c : tie.After-first-task) : Type 0 where
-  first : c .first-task .result ≤ 2864
-  tasks : a (c .before .before .before .before .before .before .before .before .before) .tasks ≤ 16
+  held : c .active-segments .result ≡ arraysOf (activesIn (table start) (start .args .chain) (start .args .other))
+  held =
+      found-is (rowAt (now (start .args .s)) (chain .place .result)) (rowAt (now (start .args .s)) (other .place2 .result))
+      (c .before .before .floor-of .result) (c .before .tail-of .result) (c .active-segments .result)
+      (c .before .before .floor-of .ensures) (c .before .tail-of .ensures) (c .active-segments .ensures)
+      ∙ ap₂ (λ p q. arraysOf (activesOf p q)) (row-there (start .pre .0) (chain .place .ensures) (start .pre .1)) (row-there (start .pre .0) (other .place2 .ensures) (start .pre .2))
 
-near : (c : tie.After-first-task) → Near c
-near c =
-    let s = c .before .before .before .before .before .before .before .before .before in
-    let t = s .pre .0 in
-    let g = t .good .row (s .args .k) (s .pre .1) in
-    record {
-      first = omega (arith, c .first-task .ensures, first-there t (c .before .before .before .before .before .before .before .place .ensures) (s .pre .1), place-max (tableOf (now (s .args .s))) (t .good) (s .args .k) (omega (arith, s .pre .1)), t .good .few, s .pre .1, g .list .few, g .listed);
-      tasks = g .tasks .few;
-    }
+-- one of them has the number
+module _ (c : tie.Else2) where
+  abbrev found : tie.After-active-segments
+  found = c .before .before
+
+  got : Fetched (rowOf (table (start found)) (start found .args .chain)) (rowOf (table (start found)) (start found .args .other)) (found .active-segments .result) (start found .args .number)
+  got = fetched _ _ _ (start found .args .number) (held found) (c .before .if1 .left) (ltb-false _ _ (c .if2 .left))
+
+-- where the chain's task records start, how far that can be, and how many there can be
+module _ (c : tie.After-first-task) where
+  abbrev asked : tie.Start
+  asked = start (found (c .before))
+
+  first-is : c .first-task .result ≡ afterList (placeOf (table asked) (asked .args .chain)) (rowOf (table asked) (asked .args .chain) .listed)
+  first-is = c .first-task .ensures ∙ first-there (asked .pre .0) (chain (found (c .before)) .place .ensures) (asked .pre .1)
+
+  near : c .first-task .result ≤ longestRecord * maxChains
+  near =
+      let g = asked .pre .0 .good in
+      let r = g .row (asked .args .chain) (asked .pre .1) in
+      omega (arith, first-is, place-max (table asked) g (asked .args .chain) (omega (arith, asked .pre .1)), g .few, asked .pre .1, r .list .few, r .listed)
+
+  few : rowOf (table asked) (asked .args .chain) .tasks ≤ maxTasks
+  few = asked .pre .0 .good .row (asked .args .chain) (asked .pre .1) .tasks .few
 
 place-requires : tie.Need-place-requires
 place-requires c κs = search needs
@@ -65,18 +81,16 @@ tail-of-requires : tie.Need-tail-of-requires
 tail-of-requires c κs = stands (c .before .before .before .before .pre .0) (c .before .place2 .ensures) (c .before .before .before .before .pre .2)
 
 active-segments-requires : tie.Need-active-segments-requires
-active-segments-requires c κs = (
-  stands (c .before .before .before .before .before .pre .0) (c .before .before .before .place .ensures) (c .before .before .before .before .before .pre .1),
-  omega (arith, c .before .floor-of .ensures, c .tail-of .ensures, floor-tail (rowAt (now (c .before .before .before .before .before .args .s)) (c .before .before .place2 .result))),
-)
+active-segments-requires c κs =
+    let s = c .before .before .before .before .before in
+    let b = rowAt (now (s .args .s)) (c .before .before .place2 .result) in
+    (stands (s .pre .0) (c .before .before .before .place .ensures) (s .pre .1), omega (arith, c .before .floor-of .ensures, c .tail-of .ensures, floor-tail b))
 
 returns : tie.Need-returns
-returns c =
-    let s = c .before .before .before .before .before .before .before in
-    nth-none (tableOf (now (s .args .s))) (s .args .k) (s .args .j) (s .args .number) (c .before .active-segments .result) (held (c .before)) (⊎-elim (λ w. inl (w .taken)) (λ w. inr (w .1 .taken)) (c .if1 .came))
+returns c = nth-none _ _ _ (start (c .before) .args .number) _ (held (c .before)) (⊎-elim (λ w. inl (w .taken)) (λ w. inr (w .1 .taken)) (c .if1 .came))
 
 first-task-requires : tie.Need-first-task-requires
-first-task-requires c κs = stands (c .before .before .before .before .before .before .before .before .pre .0) (c .before .before .before .before .before .before .place .ensures) (c .before .before .before .before .before .before .before .before .pre .1) .there
+first-task-requires c κs = let s = start (found c) in stands (s .pre .0) (chain (found c) .place .ensures) (s .pre .1) .there
 
 sub-offset : tie.Need-sub-offset
 sub-offset c = search needs
@@ -85,13 +99,13 @@ mul-offset : tie.Need-mul-offset
 mul-offset c = search needs
 
 element-copy-out-offset : tie.Need-element-copy-out-offset
-element-copy-out-offset c = omega (arith, near c .tasks, got (c .before) .few, c .before .before .if1 .left)
+element-copy-out-offset c = omega (arith, few c, got (c .before) .few, c .before .before .if1 .left)
 
 mul-offset-2 : tie.Need-mul-offset-2
-mul-offset-2 c = omega (arith, near (c .before) .tasks, got (c .before .before) .start, got (c .before .before) .inside)
+mul-offset-2 c = omega (arith, few (c .before), got (c .before .before) .start, got (c .before .before) .inside)
 
 add-offset : tie.Need-add-offset
-add-offset c = omega (arith, near (c .before) .first, near (c .before) .tasks, got (c .before .before) .start, got (c .before .before) .inside)
+add-offset c = omega (arith, near (c .before), few (c .before), got (c .before .before) .start, got (c .before .before) .inside)
 
 sub-length : tie.Need-sub-length
 sub-length c = search needs
@@ -100,21 +114,21 @@ mul-length : tie.Need-mul-length
 mul-length c = search needs
 
 element-copy-out-length : tie.Need-element-copy-out-length
-element-copy-out-length c = omega (arith, near (c .before) .tasks, got (c .before .before) .few, c .before .before .before .if1 .left)
+element-copy-out-length c = omega (arith, few (c .before), got (c .before .before) .few, c .before .before .before .if1 .left)
 
 mul-length-2 : tie.Need-mul-length-2
-mul-length-2 c = omega (arith, near (c .before .before) .tasks, got (c .before .before .before) .len, got (c .before .before .before) .inside)
+mul-length-2 c = let x = c .before .before in omega (arith, few x, got (x .before) .len, got (x .before) .inside)
 
 cast-t13 : tie.Need-cast-t13
-cast-t13 c = omega (arith, near (c .before .before) .first, near (c .before .before) .tasks, got (c .before .before .before) .start, got (c .before .before .before) .inside)
+cast-t13 c = let x = c .before .before in omega (arith, near x, few x, got (x .before) .start, got (x .before) .inside)
 
 cast-t14 : tie.Need-cast-t14
-cast-t14 c = omega (arith, near (c .before .before) .tasks, got (c .before .before .before) .len, got (c .before .before .before) .inside)
+cast-t14 c = let x = c .before .before in omega (arith, few x, got (x .before) .len, got (x .before) .inside)
 
 returns-2 : tie.Need-returns-2
 returns-2 c =
-    let s = c .before .before .before .before .before .before .before .before .before .before .before in
-    nth-records (tableOf (now (s .args .s))) (s .args .k) (s .args .j) (s .args .number) (c .before .before .before .before .before .active-segments .result) (held (c .before .before .before .before .before)) (c .before .before .first-task .result) (c .before .before .first-task .ensures ∙ first-there (s .pre .0) (c .before .before .before .before .before .before .before .before .before .place .ensures) (s .pre .1)) (c .before .before .before .before .if1 .left) (c .before .before .before .if2 .left)
+    let x = c .before .before in
+    nth-records _ _ _ (asked x .args .number) _ (held (found (x .before))) (x .first-task .result) (first-is x) (x .before .before .if1 .left) (x .before .if2 .left)
 
 pub nth-spec : {M : Type 1} → statement M
 nth-spec =

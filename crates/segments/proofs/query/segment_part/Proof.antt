@@ -4,6 +4,7 @@ use native.Mathlib.Omega.{arith}
 use mathlib.Core.Path.{_≡_, ap, sym, _∙_}
 use denote.Ref.{now}
 use lib.ListN.{take, drop}
+use Rattle.table.specs.Bytes.{Bytes}
 use Rattle.segments.specs.Query.{partOf, offsetOf}
 use Rattle.segments.proofs.Answers.{answer-inside}
 use borrow.Author.Needs.{needs}
@@ -35,8 +36,9 @@ part-result-end : tie.Need-part-result-end
 part-result-end c =
     let s = c .before .before .before .before .before in
     let a = c .before .answer .given in
-    let i = answer-inside (now (s .args .table)) (λ k. omega (arith, c .before .before .before .before .shared-slice-known .given k)) (s .args .chain) (s .args .against) (s .args .number) (a .0 .0) (a .0 .1 .0) (sym (c .before .before .before .segment .ensures) ∙ a .1) in
-    omega (arith, i)
+    let bytes : Bytes (now (s .args .table)) = λ i. omega (arith, c .before .before .before .before .shared-slice-known .given i) in
+    let is = sym (c .before .before .before .segment .ensures) ∙ a .1 in
+    omega (arith, answer-inside (now (s .args .table)) bytes (s .args .id) (s .args .against) (s .args .number) (a .0 .0) (a .0 .1 .0) is)
 
 enum-told : tie.Need-enum-told
 enum-told c = search needs

@@ -10,10 +10,10 @@ use Rattle.segments.proofs.tasks.floor_of.Statement.{statement}
 use Rattle.segments.proofs.tasks.floor_of.Tie as tie
 
 abbrev Inv-loop : tie.InvT-loop
-Inv-loop s at n low₀ k₀ low k = (1 ≤ k) × (k ≤ tasksAt s at) × (low ≡ lowest (rowAt s at .priority) (k - 1))
+Inv-loop s at n low₀ i₀ low i = (1 ≤ i) × (i ≤ tasksAt s at) × (low ≡ lowest (rowAt s at .priority) (i - 1))
 
 abbrev μ-loop : tie.MeasureT-loop
-μ-loop s at n low₀ k₀ low k = tasksAt s at - k
+μ-loop s at n low₀ i₀ low i = tasksAt s at - i
 
 tasks-at-requires : tie.Need-tasks-at-requires Inv-loop μ-loop
 tasks-at-requires c κs = omega (arith, c .before .pre .there)
@@ -34,8 +34,8 @@ priority-at-requires-2 c κs = (c .before .before .before .before .before .pre, 
 lesser-requires : tie.Need-lesser-requires Inv-loop μ-loop
 lesser-requires c κs = tt
 
-add-k : tie.Need-add-k Inv-loop μ-loop
-add-k c = omega (arith, c .before .before .before .before .before .tasks-at .ensures .1, c .before .before .loop-test .taken)
+add-i : tie.Need-add-i Inv-loop μ-loop
+add-i c = omega (arith, c .before .before .before .before .before .tasks-at .ensures .1, c .before .before .loop-test .taken)
 
 loop-less : tie.Need-loop-less Inv-loop μ-loop
 loop-less c = omega (arith, c .before .before .before .before .before .tasks-at .ensures .0, c .before .before .loop-test .taken)
@@ -44,15 +44,19 @@ loop-again : tie.Need-loop-again Inv-loop μ-loop
 loop-again c =
     let s = c .before .before .before .before .before .before .before in
     let l = c .before .before .before .loop in
-    (omega arith, omega (arith, c .before .before .before .before .before .tasks-at .ensures .0, c .before .before .loop-test .taken), rw (c .lesser .ensures, c .before .priority-at2 .ensures .0, l .inv .2) (sym (lowest-on (rowAt (now (s .args .s)) (s .args .at) .priority) (l .k) (l .inv .0))))
+    let lower = sym (lowest-on (rowAt (now (s .args .s)) (s .args .at) .priority) (l .i) (l .inv .0)) in (
+      omega arith,
+      omega (arith, c .before .before .before .before .before .tasks-at .ensures .0, c .before .before .loop-test .taken),
+      rw (c .lesser .ensures, c .before .priority-at2 .ensures .0, l .inv .2) lower,
+    )
 
 returns : tie.Need-returns Inv-loop μ-loop
 unfolding rowAt
 returns c =
     let s = c .before .before .before .before .before in
     let l = c .before .loop in
-    let e : l .k ≡ tasksAt (now (s .args .s)) (s .args .at) = omega (arith, c .before .before .before .tasks-at .ensures .0, c .loop-test .left) in
-    l .inv .2 ∙ ap (λ k. lowest (rowAt (now (s .args .s)) (s .args .at) .priority) (k - 1)) e
+    let e : l .i ≡ tasksAt (now (s .args .s)) (s .args .at) = omega (arith, c .before .before .before .tasks-at .ensures .0, c .loop-test .left) in
+    l .inv .2 ∙ ap (λ i. lowest (rowAt (now (s .args .s)) (s .args .at) .priority) (i - 1)) e
 
 pub floor-of-spec : {M : Type 1} → statement M
 floor-of-spec =
@@ -65,7 +69,7 @@ floor-of-spec =
     loop-holds
     priority-at-requires-2
     lesser-requires
-    add-k
+    add-i
     loop-less
     loop-again
     returns)

@@ -61,7 +61,9 @@ returns-2 c = λ b e.
 
 dearest-cost-requires : tie.Need-dearest-cost-requires
 unfolding rowAt
-dearest-cost-requires c κs = let x = c .before .before .before .before in (x .before .before .before .pre, first-is x, inside x (c .before .before .if1 .left))
+dearest-cost-requires c κs =
+    let x = c .before .before .before .before in
+    (x .before .before .before .pre, record { is = first-is x; deferred = inside x (c .before .before .if1 .left) })
 
 cast-t13 : tie.Need-cast-t13
 cast-t13 c = search needs
