@@ -8,7 +8,8 @@
  *          segment; bad are the combinations whose cost is above a threshold; capacities 1 to 40, the same for those of one chain
  *   wide   the same, and each active segment has a capacity of its own
  *   any    any flags, and capacities 1 to 255: no table can give these
- *   all    nothing: every family of combinations once, for the choice of weightings alone (RUNS and SEED are not looked at)
+ *   all    nothing: every family of combinations once, for the choice of weightings alone, as many as are worth it (SEED and RUNS
+ *          are not looked at; it takes a quarter of an hour)
  *
  * The greatest of each count is printed, with the smallest bad combinations (in octal) and the capacities where it was found first.
  * Where a packing is small its most uses are found by a plain search too: exit status 1 where the engine's differ. 2: it can't start. */
@@ -17,7 +18,7 @@
 #include <stdlib.h>
 #include <string.h>
 
-enum { SEGMENTS = 6, COMBINATIONS = 1 << SEGMENTS, WEIGHTINGS = 975, CHOSEN = 160, HEAVIEST = 90, CAPACITY = 40, BYTE = 255 };
+enum { SEGMENTS = 6, COMBINATIONS = 1 << SEGMENTS, WEIGHTINGS = 975, CHOSEN = 150, HEAVIEST = 90, CAPACITY = 40, BYTE = 255 };
 
 static uint8_t table[WEIGHTINGS * SEGMENTS];
 
@@ -32,8 +33,8 @@ static int weighing; /* SEARCH or CHOICE */
 /* ---- The engine, function by function as in src/ ---- */
 
 static unsigned kept[COMBINATIONS], kept_count;
-static uint8_t shares[CHOSEN * SEGMENTS];
-static unsigned used;
+static uint8_t shares[WEIGHTINGS * SEGMENTS];
+static unsigned used, chosen_at_most = CHOSEN;
 
 static unsigned has(unsigned m, unsigned i)
 {
@@ -131,7 +132,7 @@ static void choose(void)
     unsigned rows = first_rows(all);
     used = 0;
     weighing = CHOICE;
-    for (unsigned v = 0; v < rows && used < CHOSEN; v++) {
+    for (unsigned v = 0; v < rows && used < chosen_at_most; v++) {
         for (unsigned i = 0; i < SEGMENTS; i++)
             shares[used * SEGMENTS + i] = table[v * SEGMENTS + rank[i]];
         used += worth(used);
@@ -429,6 +430,7 @@ int main(int arguments, char **argument)
     if (!strcmp(mode, "all")) {
         uint8_t bad[COMBINATIONS] = {0};
         unsigned long seen = 0;
+        chosen_at_most = WEIGHTINGS;
         families(1, bad, &seen);
         printf("%lu families\n", seen);
     } else {

@@ -16,8 +16,8 @@ const WEIGHTINGS: usize = 975;
 
 const DIGITS: usize = WEIGHTINGS * Table::OVERLOADS;
 
-// How many of them are chosen at most.
-pub(crate) const CHOSEN: usize = 160;
+// How many of them are chosen at most: no set of combinations has more that are worth it, as packing/worst.c finds by trying them all.
+pub(crate) const CHOSEN: usize = 150;
 
 pub(crate) const SHARES: usize = CHOSEN * Table::OVERLOADS;
 

@@ -19,9 +19,9 @@ maxByte = 255
 abbrev pub weightings : ℕ
 weightings = 975
 
--- so many are chosen at most
+-- how many are chosen at most: packing/worst.c finds that no set of combinations has more that are worth it
 abbrev pub maxChosen : ℕ
-maxChosen = 160
+maxChosen = 150
 
 -- a byte of room for each active segment
 abbrev pub maxRoom : ℕ
