@@ -30,12 +30,12 @@ pub extern "C" fn mishtodran_latency(table: &[u8], id: u32, answer: &mut [u8]) -
     }
     match windows::latency(table, id) {
         windows::Answer::Figures {
-            k,
+            close,
             latency,
             late,
             margin,
         } => {
-            put_u32(answer, 0, k);
+            put_u32(answer, 0, close);
             put_u32(answer, 4, latency);
             put_u32(answer, 8, late);
             put_u32(answer, 12, unsigned(margin));

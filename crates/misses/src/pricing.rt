@@ -1,4 +1,5 @@
-// What the combinations cost.
+// What the combinations cost. A price of 0 stands for 'no combination': the one combination that costs 0 is the empty set, and
+// that is not bad where prices are made, since 20 has answered before.
 use crate::Pieces;
 use packing::COMBINATIONS;
 use table::Table;
@@ -82,13 +83,13 @@ fn price(
     let mut sum: u64 = 0;
     let mut i: usize = 0;
     while i < n {
-        let at = i;
+        let here = i;
         i += 1;
-        if has(m, at) == 1 {
-            if !agrees_with_all(chain, segment, n, m, at) {
+        if has(m, here) == 1 {
+            if !agrees_with_all(chain, segment, n, m, here) {
                 return 0;
             }
-            sum = sum + cost[at];
+            sum = sum + cost[here];
         }
     }
     sum

@@ -19,8 +19,8 @@ returns c = let a = c .before .before .before .args in
 latency-requires : tie.Need-latency-requires
 latency-requires c κs = search needs
 
-enum-known-k : tie.Need-enum-known-k
-enum-known-k c = search needs
+enum-known-close : tie.Need-enum-known-close
+enum-known-close c = search needs
 
 put-u32-requires : tie.Need-put-u32-requires
 put-u32-requires c κs = search needs
@@ -45,7 +45,7 @@ same-length c = search needs
 
 returns-2 : tie.Need-returns-2
 returns-2 c = let a = c .before .before .before .before .before .before .before .before .before .before .before .before .before .before .before .before .before .before .before .before .before .before .before .before .args in
-    let g = c .before .before .before .before .before .before .before .before .before .before .before .before .before .before .before .before .before .before .k .given in
+    let g = c .before .before .before .before .before .before .before .before .before .before .before .before .before .before .before .before .before .before .close .given in
     let before : List ℕ = now (a .answer) in
     let k = g .0 .0 in
     let latency = g .0 .1 .0 in
@@ -74,7 +74,7 @@ mishtodran-latency-spec =
     (tie.spec
     returns
     latency-requires
-    enum-known-k
+    enum-known-close
     put-u32-requires
     put-u32-requires-2
     put-u32-requires-3

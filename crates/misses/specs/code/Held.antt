@@ -6,10 +6,16 @@ use Rattle.search.specs.Choice.{_when_else_}
 use mathlib.Core.Path.{_≡_}
 use Rattle.table.specs.Limits.{maxActivations, maxRun, horizon, maxOverloads, maxCapacity}
 use Rattle.table.specs.Record.{pad}
+use Rattle.table.specs.Find.{rowOf}
 use Rattle.table.specs.declared.Row.{Row}
+use Rattle.table.specs.declared.Table.{Table}
 use Rattle.segments.specs.code.Held.{dearest}
+use Rattle.windows.specs.Demand.{viewsOf}
 use Rattle.misses.specs.Overloads.{Overload, Piece, piecesOf, capacitiesOf}
 use Rattle.misses.specs.Sets.{members, allowed, setCost}
+use Rattle.misses.specs.Misses.{overloadsOf, byFigures}
+use Rattle.misses.specs.declared.Answer.{Answer}
+use Rattle.misses.specs.declared.Figures.{Figures}
 use Rattle.misses.specs.declared.Pieces.{Pieces}
 
 -- the first six of a list, with 0s for those that it lacks
@@ -59,11 +65,15 @@ abbrev pub piecesIn : Pieces → List Piece
 piecesIn p = piecesAt (p .chain) (p .segment) (p .cost) (p .count) 0
 
 -- what the figures of a chain b and a run of k are where nothing was refused before: within their limits
-pub record Asked (b : Row) (k close latency late last : ℕ) : Type 0 where
+pub record Asked (b : Row) (k : ℕ) (f : Figures) : Type 0 where
   pub typical : b .overload ≡ 0
   pub low : 1 ≤ k
   pub high : k ≤ maxRun
-  pub few : close ≤ maxActivations
-  pub near : latency ≤ horizon
-  pub count : late ≤ maxActivations
-  pub end : last ≤ horizon
+  pub few : f .close ≤ maxActivations
+  pub near : f .latency ≤ horizon
+  pub count : f .late ≤ maxActivations
+  pub end : f .last ≤ horizon
+
+-- what they give, of a chain of a table
+abbrev pub figuresAt : Table → ℕ → ℕ → Figures → Answer
+figuresAt t chain k f = byFigures (rowOf t chain) (viewsOf t chain) (overloadsOf t chain) k (f .close) (f .latency) (f .late) (f .last)

@@ -8,11 +8,9 @@ use Rattle.table.specs.declared.Table.{Table}
 use Rattle.table.specs.Read.{tableOf}
 use Rattle.table.proofs.Finds.{find-le}
 use Rattle.table.proofs.Stands.{row-there, stands}
-use Rattle.windows.specs.Demand.{others, viewsOf}
-use Rattle.misses.specs.Overloads.{overloads}
-use Rattle.misses.specs.Misses.{earlyOf, byBound, missesAt, missesIn}
+use Rattle.misses.specs.Misses.{earlyOf, missesAt, missesIn}
 use Rattle.misses.specs.declared.Answer.the-variants.{Refused}
-use Rattle.misses.proofs.Answers.{at-early, at-bound, chain-none, chain-found}
+use Rattle.misses.proofs.Answers.{at-early, chain-none, chain-found}
 use Rattle.misses.proofs.asking.misses_in.Statement.{statement}
 use Rattle.misses.proofs.asking.misses_in.Tie as tie
 
@@ -65,13 +63,7 @@ by-bound-requires : tie.Need-by-bound-requires
 by-bound-requires c κs = (c .before .before .before .before .before .before .before .before .pre, there (c .before .before .before .before), sym (judged (c .before .before)) ∙ c .before .if2 .left, c .bound .ensures)
 
 returns-3 : tie.Need-returns-3
-returns-3 c =
-    let s = c .before .before .before .before .before .before .before .before .before in
-    let at = c .before .before .before .before .before .before .before .find .result in
-    let b = rowOf (t s) at in
-    c .by-bound .ensures
-    ∙ ap (λ w. byBound b (viewsOf (t s) at) (overloads b (others (t s) at)) (s .args .k) (w .answer) (w .last)) (c .before .bound .ensures)
-    ∙ sym (at-bound (t s) at (s .args .k) (sym (judged (c .before .before .before)) ∙ c .before .before .if2 .left)) ∙ found (c .before .before .before .before .before)
+returns-3 c = c .by-bound .ensures ∙ found (c .before .before .before .before .before)
 
 pub misses-in-spec : {M : Type 1} → statement M
 misses-in-spec =

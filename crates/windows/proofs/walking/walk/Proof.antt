@@ -12,7 +12,8 @@ use Rattle.table.specs.Record.{rowAt}
 use Rattle.arrivals.proofs.Rows.{good-distances}
 use Rattle.windows.specs.Window.{windowOf}
 use Rattle.windows.specs.Latency.{marginOf, windowsOf}
-use Rattle.windows.specs.code.Load.{Load, loadOf, ownOf, Counted, demandIn}
+use Rattle.windows.specs.code.Load.{Load, loadOf, ownOf, demandIn}
+use Rattle.windows.specs.code.Climb.{Counted}
 use Rattle.windows.specs.declared.Window.the-variants.{At}
 use Rattle.windows.specs.declared.Answer.the-variants.{Figures}
 use Rattle.windows.proofs.Growth.{Growing, load-growing}
@@ -23,16 +24,16 @@ use Rattle.windows.proofs.walking.walk.Statement.{statement}
 use Rattle.windows.proofs.walking.walk.Tie as tie
 
 abbrev Inv-loop : tie.InvT-loop
-Inv-loop s own rates places at deadline counts₀ done₀ start₀ behind₀ latency₀ late₀ counts done start behind latency late =
-    Walk (demandIn (loadOf s own rates places)) (ownOf (loadOf s own rates places)) deadline done start behind latency late
-    × Counted (loadOf s own rates places) start counts
+Inv-loop s own held at deadline counts₀ done₀ start₀ behind₀ latency₀ late₀ counts done start behind latency late =
+    Walk (demandIn (loadOf s own held)) (ownOf (loadOf s own held)) deadline done start behind latency late
+    × Counted (loadOf s own held) start counts
 
 abbrev μ-loop : tie.MeasureT-loop
-μ-loop s own rates places at deadline counts₀ done₀ start₀ behind₀ latency₀ late₀ counts done start behind latency late = maxActivations - done
+μ-loop s own held at deadline counts₀ done₀ start₀ behind₀ latency₀ late₀ counts done start behind latency late = maxActivations - done
 
 -- the load, its demand and its distances
 abbrev load : tie.Start Inv-loop μ-loop → Load
-load c = loadOf (c .args .s .now) (c .args .own) (c .args .rates .now) (c .args .places .now)
+load c = loadOf (c .args .s .now) (c .args .own) (c .args .held .now)
 
 abbrev demand : tie.Start Inv-loop μ-loop → ℕ → ℕ → ℕ
 demand c = demandIn (load c)
@@ -69,7 +70,7 @@ deadline-le c = omega (arith, deadline-is c, c .before .before .pre .stands .goo
 
 -- the window that was found
 at : (c : tie.After-known-told Inv-loop μ-loop) → windowOf (demand (entry (head c)) (head c .loop .done + 1)) ≡ At (size c)
-at c = sym (c .before .before .before .climb .ensures .0) ∙ c .before .w .given .1
+at c = sym (c .before .before .before .climb .ensures .window) ∙ c .before .w .given .1
 
 deadline-at-requires : tie.Need-deadline-at-requires Inv-loop μ-loop
 deadline-at-requires c κs = omega (arith, c .before .pre .stands .there)
@@ -86,7 +87,7 @@ cast-climb : tie.Need-cast-climb Inv-loop μ-loop
 cast-climb c = search needs
 
 climb-requires : tie.Need-climb-requires Inv-loop μ-loop
-climb-requires c κs = let h = c .before .before in (entry h .pre, omega arith, omega arith, h .loop .inv .0 .under, h .loop .inv .1)
+climb-requires c κs = let h = c .before .before in record { sound = entry h .pre; some = omega arith; few = omega arith; under = h .loop .inv .0 .under; counted = h .loop .inv .1 }
 
 enum-known-w : tie.Need-enum-known-w Inv-loop μ-loop
 enum-known-w c = search needs
@@ -103,7 +104,7 @@ returns c =
     let s = entry h in
     c .refused .ensures
     ∙ walk-none (demand s) (own s) (dated h .deadline-at .result) (growing s) (h .loop .inv .0) (c .before .before .before .before .before .loop-test .taken)
-    (sym (c .before .before .before .climb .ensures .0) ∙ c .before .enum-told .given .1)
+    (sym (c .before .before .before .climb .ensures .window) ∙ c .before .enum-told .given .1)
     ∙ ap (windowsOf (demand s) (own s)) (deadline-is (dated h))
 
 sub-span : tie.Need-sub-span Inv-loop μ-loop
@@ -147,8 +148,8 @@ add-late c =
       walk-few (demand s) (own s) (dated h .deadline-at .result) (growing s) (h .loop .inv .0) (c .before .before .before .before .before .before .before .before .loop-test .taken) (at (found c)) (c .before .larger .ensures) (c .over .ensures),
     )
 
-cast-longest : tie.Need-cast-longest Inv-loop μ-loop
-cast-longest c = omega (arith, near (c .before))
+cast-greatest : tie.Need-cast-greatest Inv-loop μ-loop
+cast-greatest c = omega (arith, near (c .before))
 
 margin-requires : tie.Need-margin-requires Inv-loop μ-loop
 margin-requires c κs = (deadline-le (dated (head (found (c .before)))), near (c .before))
@@ -180,7 +181,7 @@ loop-again c =
     let s = entry h in (
       walk-on (demand s) (own s) (dated h .deadline-at .result) (growing s) (h .loop .inv .0) (o .before .before .before .before .before .before .before .before .loop-test .taken) (at f) (o .before .larger .ensures) (o .over .ensures)
           (o .before .before .delta .ensures) (c .if1 .left),
-      f .before .before .before .climb .ensures .1 (size f) (f .before .w .given .1),
+      f .before .before .before .climb .ensures .counted (size f) (f .before .w .given .1),
     )
 
 refused-requires-2 : tie.Need-refused-requires-2 Inv-loop μ-loop
@@ -217,7 +218,7 @@ walk-spec =
     cast-over
     over-requires
     add-late
-    cast-longest
+    cast-greatest
     margin-requires
     returns-2
     loop-less
