@@ -34,7 +34,6 @@ use Rattle.windows.specs.Window.{windowOf}
 use Rattle.windows.specs.Latency.{long, ends, latencyAt, upTo, latencyTo, lateTo, longer, marginOf, endsWith, boundOf}
 use Rattle.windows.specs.declared.Window.{Window}
 use Rattle.windows.specs.declared.Window.the-variants.{At, Nothing}
-use Rattle.windows.specs.declared.Windows.{Windows}
 use Rattle.windows.specs.declared.Answer.the-variants.{Figures}
 use Rattle.windows.proofs.Least.{window-at, window-none}
 use Rattle.windows.proofs.Walks.{Open, windows-end}
@@ -46,7 +45,7 @@ use Rattle.search.specs.Lists.{every as everyOf}
 use Rattle.misses.specs.Overloads.{Overload, overloads, Piece, piecesFrom, piecesOf, capacitiesOf}
 use Rattle.misses.specs.Sets.{members, together, allowed, setCost}
 use Rattle.misses.specs.Bad.{withCost, over, bad}
-use Rattle.misses.specs.Misses.{earlyOf, badOf, roomOf, byBound, missesOf, missesAt, missesIn}
+use Rattle.misses.specs.Misses.{earlyOf, badOf, roomOf, missesOf, missesAt, missesIn}
 use Rattle.misses.specs.declared.Answer.the-variants.{Misses}
 use Rattle.misses.proofs.Prices.{allowed-past}
 use Rattle.misses.proofs.Starts.{starts}

@@ -77,20 +77,20 @@ fn again(s: &[u8], a: usize, t: u64) -> bool
     1 < eta_up_to(s, a, t, 2)
 }
 
-// Whether any chain of a table is.
+// Whether any chain of a table is one.
 fn any_again(s: &[u8], t: u64) -> bool
     requires { ⌜ Taken (now s) × (t ≤ horizon) ⌝ }
     ensures { λ r. ⌜ ((b : Row) → r ≡ some (λ o. ltb 1 (η (o .list) t)) (overloads b (rows (tableOf (now (s .entry)))))) ⌝ }
 {
     let chains = count(s);
-    let mut a: usize = 0;
-    let mut j: usize = 0;
-    while j < chains {
-        if again(s, a, t) {
+    let mut at: usize = 0;
+    let mut chain: usize = 0;
+    while chain < chains {
+        if again(s, at, t) {
             return true;
         }
-        a = a + record_length(s, a);
-        j += 1;
+        at = at + record_length(s, at);
+        chain += 1;
     }
     false
 }

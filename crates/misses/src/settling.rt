@@ -6,11 +6,9 @@ use windows::Own;
 use windows::any_over;
 ghost use mathlib.Core.Path.{_≡_};
 ghost use mathlib.Core.Bool.{false};
-ghost use Prim.Native.Nat.{ℕ, _-_, _<_, min};
-ghost use lib.ListN.{getD};
-ghost use Rattle.packing.specs.Packing.{combinations};
+ghost use Prim.Native.Nat.{_-_, _<_, min};
 ghost use Rattle.windows.specs.code.Load.{loadOf};
-ghost use Rattle.misses.specs.code.Settling.{overWith, beyond, Tries, Settles, Open, Inside, Picks, BadFrom};
+ghost use Rattle.misses.specs.code.Settling.{overWith, beyond, NoneBeyond, Tries, Settles, Open, Inside, Picks, BadFrom};
 
 // Whether a set that costs so much is bad.
 pub fn over(s: &[u8], own: Own, held: &[u64; Own::HELD], close: u32, cost: u64) -> bool
@@ -86,7 +84,7 @@ pub fn lowest_bad(
     close: u32,
     costs: &[u64; COMBINATIONS],
 ) -> u64
-    requires { ⌜ Tries (loadOf (now s) own (now held)) close × (overWith (loadOf (now s) own (now held)) close 0 ≡ false) × ((m : ℕ) → m < combinations → getD (now costs) m 0 < beyond) ⌝ }
+    requires { ⌜ Tries (loadOf (now s) own (now held)) close × (overWith (loadOf (now s) own (now held)) close 0 ≡ false) × NoneBeyond (now costs) ⌝ }
     ensures { λ r. ⌜ BadFrom (overWith (loadOf (now (s .entry)) own (now (held .entry))) close) (now (costs .entry)) r ⌝ }
 {
     let mut ends = Settled {

@@ -1,6 +1,6 @@
 -- What the latency query answers, case by case. Assumes nothing.
 use Prim.Native.Nat.{ℕ}
-use mathlib.Core.Path.{_≡_, ap, ap₂, fun-ext, _∙_}
+use mathlib.Core.Path.{_≡_, ap, ap₂, fun-ext}
 use mathlib.Core.List.{List}
 use borrow.Author.Tests.{eq-eqb, ne-eqb}
 use Rattle.search.proofs.Choice.{when-yes, when-no}

@@ -68,5 +68,5 @@ impl Own {
     pub const HELD: usize = 2 * Table::CHAINS;
 
     // How many counts of arrivals a climb keeps: of each chain held, and of the chain itself at last.
-    pub const COUNTS: usize = Table::CHAINS + 1;
+    const COUNTS: usize = Table::CHAINS + 1;
 }

@@ -20,6 +20,9 @@ overWith l close cost = over (demandIn l) (ownOf l) (rowIn l .deadline) close co
 abbrev pub beyond : ℕ
 beyond = maxOverloads * dearest + 1
 
+abbrev pub NoneBeyond : List ℕ → Type 0
+NoneBeyond costs = (m : ℕ) → m < combinations → getD costs m 0 < beyond
+
 -- what a cost may be tried with: a load that has room for any set's
 pub record Tries (l : Load) (close : ℕ) : Type 0 where
   pub sound : Sound l

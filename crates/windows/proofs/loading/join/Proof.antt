@@ -120,8 +120,12 @@ term-requires : tie.Need-term-requires Inv-loop μ-loop
 term-requires c κs = here (c .before .before .before .before .before) (c .before .before .before .before .loop-test .taken)
 
 -- whether the chain adds was asked of its mark
-marks : (c : tie.After-adds Inv-loop μ-loop) → c .adds .result ≡ addsTo (start (c .before .before .before .before) .args .others) (overloadAt (s (c .before .before .before .before)) (c .before .before .before .before .loop .at))
-marks c = c .adds .ensures ∙ ap (addsTo (start (c .before .before .before .before) .args .others)) (c .before .overload-at .ensures)
+module _ (c : tie.After-adds Inv-loop μ-loop) where
+  abbrev turn : tie.At-loop Inv-loop μ-loop
+  turn = c .before .before .before .before
+
+  marks : c .adds .result ≡ addsTo (start turn .args .others) (overloadAt (s turn) (turn .loop .at))
+  marks = c .adds .ensures ∙ ap (addsTo (start turn .args .others)) (c .before .overload-at .ensures)
 
 -- what a chain that adds is, and with it
 module _ (c : tie.After-term Inv-loop μ-loop) where

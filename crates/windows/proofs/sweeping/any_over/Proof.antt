@@ -2,6 +2,7 @@
 -- not under its start.
 use Prim.Native.Nat.{ℕ, _+_, _-_, _≤_}
 use mathlib.Core.Path.{_≡_, ap, sym, _∙_}
+use mathlib.Core.Bool.{Bool}
 use native.Mathlib.Omega.{arith}
 use borrow.Author.Needs.{needs}
 use Rattle.table.specs.Limits.{maxDeadline}
@@ -52,8 +53,11 @@ deadline-le : (c : tie.After-deadline-at Inv-loop μ-loop) → c .deadline-at .r
 deadline-le c = omega (arith, deadline-is c, c .before .before .pre .0 .stands .good .deadline-max)
 
 -- what is said of it is said of the load
-told : (h : tie.At-loop Inv-loop μ-loop) → anyOver (demand (entry h)) (ownOf (load (entry h))) (dated h .deadline-at .result) (entry h .args .close) ≡ anyOver (demand (entry h)) (ownOf (load (entry h))) (rowAt (entry h .args .s .now) (entry h .args .own .at) .deadline) (entry h .args .close)
-told h = ap (λ d. anyOver (demand (entry h)) (ownOf (load (entry h))) d (entry h .args .close)) (deadline-is (dated h))
+abbrev over-by : tie.At-loop Inv-loop μ-loop → ℕ → Bool
+over-by h d = anyOver (demand (entry h)) (ownOf (load (entry h))) d (entry h .args .close)
+
+told : (h : tie.At-loop Inv-loop μ-loop) → over-by h (dated h .deadline-at .result) ≡ over-by h (rowAt (entry h .args .s .now) (entry h .args .own .at) .deadline)
+told h = ap (over-by h) (deadline-is (dated h))
 
 -- the window that was found
 at : (c : tie.After-known-told Inv-loop μ-loop) → windowOf (demand (entry (head c)) (head c .loop .done + 1)) ≡ At (c .before .w .given .0 .0)

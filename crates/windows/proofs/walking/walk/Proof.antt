@@ -1,5 +1,5 @@
 -- `walk` meets its contract. The loop's invariant is where the walk stands (`Walk`) and what is counted. The measure is how many activations are left.
-use Prim.Native.Nat.{ℕ, _+_, _-_, _≤_}
+use Prim.Native.Nat.{ℕ, _+_, _-_, _≤_, _<_}
 use mathlib.Core.Path.{_≡_, ap, sym, _∙_}
 use mathlib.Core.List.{List}
 use native.Mathlib.Omega.{arith}
@@ -60,6 +60,10 @@ found c = c .before .before .before
 abbrev size : tie.After-known-told Inv-loop μ-loop → ℕ
 size c = c .before .w .given .0 .0
 
+-- an activation is taken
+turn : (c : tie.After-known-told Inv-loop μ-loop) → head c .loop .done < maxActivations
+turn c = c .before .before .before .before .before .loop-test .taken
+
 -- the deadline is the chain's
 deadline-is : (c : tie.After-deadline-at Inv-loop μ-loop) → c .deadline-at .result ≡ rowAt (c .before .before .args .s .now) (c .before .before .args .own .at) .deadline
 unfolding rowAt
@@ -111,7 +115,7 @@ sub-span : tie.Need-sub-span Inv-loop μ-loop
 sub-span c =
     let h = head c in
     let s = entry h in
-    walk-ahead (demand s) (own s) (dated h .deadline-at .result) (growing s) (h .loop .inv .0) (c .before .before .before .before .before .loop-test .taken) (at c)
+    walk-ahead (demand s) (own s) (dated h .deadline-at .result) (growing s) (h .loop .inv .0) (turn c) (at c)
 
 cast-delta : tie.Need-cast-delta Inv-loop μ-loop
 cast-delta c = search needs
@@ -136,7 +140,7 @@ near : (c : tie.After-over Inv-loop μ-loop) → c .before .larger .result ≤ h
 near c =
     let h = head (found c) in
     let s = entry h in
-    walk-near (demand s) (own s) (dated h .deadline-at .result) (growing s) (h .loop .inv .0) (c .before .before .before .before .before .before .before .before .loop-test .taken) (at (found c)) (c .before .larger .ensures) (c .over .ensures)
+    walk-near (demand s) (own s) (dated h .deadline-at .result) (growing s) (h .loop .inv .0) (turn (found c)) (at (found c)) (c .before .larger .ensures) (c .over .ensures)
 
 add-late : tie.Need-add-late Inv-loop μ-loop
 add-late c =
@@ -145,7 +149,7 @@ add-late c =
     omega (
       arith,
       h .loop .inv .0 .some,
-      walk-few (demand s) (own s) (dated h .deadline-at .result) (growing s) (h .loop .inv .0) (c .before .before .before .before .before .before .before .before .loop-test .taken) (at (found c)) (c .before .larger .ensures) (c .over .ensures),
+      walk-few (demand s) (own s) (dated h .deadline-at .result) (growing s) (h .loop .inv .0) (turn (found c)) (at (found c)) (c .before .larger .ensures) (c .over .ensures),
     )
 
 cast-greatest : tie.Need-cast-greatest Inv-loop μ-loop
@@ -166,7 +170,7 @@ returns-2 c =
     let m : toZ w32 (ofZ w32 (c .margin .result)) ≡ marginOf deadline best =
     ap (λ z. toZ w32 (ofZ w32 z)) (c .margin .ensures) ∙ toZ-ofZ (margin-fits deadline best (deadline-le (dated h)) (near o)) in
     ap (λ z. record { answer = Figures (l .done + 1) best (l .late + o .over .result) z; last = size f }) m
-    ∙ walk-close (demand s) (own s) deadline (growing s) (l .inv .0) (o .before .before .before .before .before .before .before .before .loop-test .taken) (at f) (o .before .larger .ensures) (o .over .ensures)
+    ∙ walk-close (demand s) (own s) deadline (growing s) (l .inv .0) (turn f) (at f) (o .before .larger .ensures) (o .over .ensures)
     (o .before .before .delta .ensures) (c .before .if1 .taken)
     ∙ ap (windowsOf (demand s) (own s)) (deadline-is (dated h))
 
@@ -179,7 +183,7 @@ loop-again c =
     let f = found o in
     let h = head f in
     let s = entry h in (
-      walk-on (demand s) (own s) (dated h .deadline-at .result) (growing s) (h .loop .inv .0) (o .before .before .before .before .before .before .before .before .loop-test .taken) (at f) (o .before .larger .ensures) (o .over .ensures)
+      walk-on (demand s) (own s) (dated h .deadline-at .result) (growing s) (h .loop .inv .0) (turn f) (at f) (o .before .larger .ensures) (o .over .ensures)
           (o .before .before .delta .ensures) (c .if1 .left),
       f .before .before .before .climb .ensures .counted (size f) (f .before .w .given .1),
     )
