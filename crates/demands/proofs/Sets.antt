@@ -17,7 +17,7 @@ use Rattle.table.specs.Record.{distances}
 use Rattle.segments.specs.View.{View}
 use Rattle.windows.specs.Demand.{demandOf, typical}
 use Rattle.windows.specs.Window.{Solution, windowOf}
-use Rattle.windows.specs.Latency.{upTo}
+use Rattle.windows.specs.Latency.{upTo, longer}
 use Rattle.windows.specs.declared.Window.the-variants.{At}
 use Rattle.windows.proofs.Growth.{Paced}
 use Rattle.windows.proofs.Least.{window-only, window-at}
@@ -25,13 +25,13 @@ use Rattle.packing.specs.Packing.{bit}
 use Rattle.packing.proofs.Bits.{bit-suc}
 use Rattle.misses.specs.Overloads.{Piece}
 use Rattle.misses.specs.Sets.{members, agree, together, allowed, setCost}
-use Rattle.misses.specs.Bad.{withCost, longer, over, bad}
+use Rattle.misses.specs.Bad.{withCost, over, bad}
 use Rattle.misses.specs.Misses.{badOf}
 use Rattle.misses.proofs.Bools.{and-left, and-right}
 use Rattle.misses.proofs.Masks.{members-in, members-out}
 use Rattle.misses.proofs.Together.{agree-turn}
 use Rattle.misses.proofs.Turning.{bit-zero}
-use Rattle.misses.proofs.Sweeps.{some-one}
+use Rattle.windows.proofs.Sweeps.{some-one}
 use Rattle.misses.proofs.Existence.{combination-window}
 use Rattle.demands.specs.Figures.{Exactly, Closes}
 use Rattle.demands.specs.Misses.{pieceOf, Combination, marked, pieces, full, IsBad}

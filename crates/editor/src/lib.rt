@@ -43,12 +43,12 @@ pub extern "C" fn mishtodran_latency(table: &[u8], id: u32, answer: &mut [u8]) -
     }
     match windows::latency(table, id) {
         windows::Answer::Figures {
-            k,
+            close,
             latency,
             late,
             margin,
         } => {
-            let figures = [k, latency, late, unsigned(margin)];
+            let figures = [close, latency, late, unsigned(margin)];
             put_figures(answer, &figures);
             0
         }

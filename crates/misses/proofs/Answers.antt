@@ -15,19 +15,16 @@ use Rattle.table.specs.declared.Row.{Row}
 use Rattle.table.specs.declared.Table.{Table}
 use Rattle.table.specs.declared.Verdict.the-variants.{Accepted, Refused as Faulty}
 use Rattle.segments.specs.View.{View}
-use Rattle.windows.specs.Demand.{others, viewsOf}
-use Rattle.windows.specs.Latency.{boundOf}
+use Rattle.windows.specs.Demand.{viewsOf}
+use Rattle.windows.specs.Latency.{boundAt}
+use Rattle.windows.specs.declared.Windows.{Windows}
 use Rattle.packing.specs.Most.{mostUses}
 use Rattle.search.specs.Lists.{some}
-use Rattle.misses.specs.Overloads.{Overload, overloads, piecesOf}
-use Rattle.misses.specs.Misses.{earlyOf, badOf, roomOf, byFigures, byBound, missesBeside, missesAt, missesIn, missesOf}
+use Rattle.misses.specs.Overloads.{Overload, piecesOf}
+use Rattle.misses.specs.Misses.{earlyOf, badOf, roomOf, byFigures, byBound, missesBeside, overloadsOf, missesAt, missesIn, missesOf}
 use Rattle.misses.specs.declared.Answer.{Answer}
 use Rattle.misses.specs.declared.Answer.the-variants.{Misses, Refused}
 use Rattle.misses.proofs.Starts.{starts}
-
--- the statement allows one answer
-pub misses-unique : (s : List ℕ) (id k : ℕ) (a b : Answer) → a ≡ missesOf s id k → b ≡ missesOf s id k → a ≡ b
-misses-unique s id k a b e f = e ∙ sym f
 
 module _ (b : Row) (views : List View) (os : List Overload) (k close latency late last : ℕ) where
   abbrev answer : Answer
@@ -90,15 +87,18 @@ unfolding unless
 unless-some zero rest h = absurd (h refl)
 unless-some (suc n) rest h = refl
 
-module _ (t : Table) (at k : ℕ) where
-  pub at-early : (earlyOf (rowOf t at) k ≡ 0 → ⊥) → missesAt t at k ≡ Refused (earlyOf (rowOf t at) k)
+module _ (t : Table) (chain k : ℕ) where
+  pub at-early : (earlyOf (rowOf t chain) k ≡ 0 → ⊥) → missesAt t chain k ≡ Refused (earlyOf (rowOf t chain) k)
   unfolding missesAt missesBeside unless
-  at-early h = unless-some (earlyOf (rowOf t at) k) _ h
+  at-early h = unless-some (earlyOf (rowOf t chain) k) _ h
 
-  pub at-bound : earlyOf (rowOf t at) k ≡ 0
-      → missesAt t at k ≡ byBound (rowOf t at) (viewsOf t at) (overloads (rowOf t at) (others t at)) k (boundOf (rowOf t at) (viewsOf t at) .answer) (boundOf (rowOf t at) (viewsOf t at) .last)
+  -- what windows w would give
+  abbrev given : Windows → Answer
+  given w = byBound (rowOf t chain) (viewsOf t chain) (overloadsOf t chain) k (w .answer) (w .last)
+
+  pub at-bound : earlyOf (rowOf t chain) k ≡ 0 → (w : Windows) → w ≡ boundAt t chain → given w ≡ missesAt t chain k
   unfolding missesAt missesBeside unless
-  at-bound e = ap (λ n. unless Refused n (byBound (rowOf t at) (viewsOf t at) (overloads (rowOf t at) (others t at)) k (boundOf (rowOf t at) (viewsOf t at) .answer) (boundOf (rowOf t at) (viewsOf t at) .last))) e
+  at-bound e w f = ap given f ∙ sym (ap (λ n. unless Refused n (given (boundAt t chain))) e)
 
 module _ (t : Table) (id k : ℕ) where
   pub chain-none : findOf t id ≡ t .count → missesIn t id k ≡ Refused 12

@@ -17,16 +17,18 @@ use Rattle.arrivals.specs.Arrivals.{largest}
 use Rattle.table.specs.Record.{distances}
 use Rattle.segments.specs.View.{View}
 use Rattle.windows.specs.Demand.{demandOf, typical, others, viewsOf}
-use Rattle.windows.specs.code.Load.{Load, most, counted, Loads}
+use Rattle.windows.specs.code.Load.{viewsAt, Load, Loads}
+use Rattle.windows.specs.declared.Others.the-variants.{Typical}
 use Rattle.windows.proofs.Besides.{others-good}
 use Rattle.packing.specs.Most.{mostUses, capacity}
 use Rattle.packing.proofs.Laws.{most-same, most-bound}
 use Rattle.search.specs.Lists.{some}
 use Rattle.misses.specs.Overloads.{Overload, overloads, piecesOf}
 use Rattle.misses.specs.Bad.{over, bad}
-use Rattle.misses.specs.Misses.{badOf, roomOf, byFigures}
-use Rattle.misses.specs.code.Held.{gathered, piecesIn, Few, Asked}
-use Rattle.misses.specs.code.Settling.{overIn, beyond}
+use Rattle.misses.specs.Misses.{badOf, roomOf, overloadsOf}
+use Rattle.misses.specs.code.Held.{gathered, piecesIn, Few, Asked, figuresAt}
+use Rattle.misses.specs.code.Settling.{overWith, Tries}
+use Rattle.misses.specs.declared.Figures.{Figures}
 use Rattle.misses.specs.declared.Pieces.{Pieces}
 use Rattle.misses.specs.declared.Answer.{Answer}
 use Rattle.misses.specs.declared.Answer.the-variants.{Misses, Refused}
@@ -37,21 +39,33 @@ use Rattle.misses.proofs.Loading.{loads-over, loads-room}
 use Rattle.misses.proofs.Starts.{starts}
 use Rattle.misses.proofs.Answers.{none-late, too-many, starts-again, without, too-roomy, packs}
 
-module _ {t : Table} (good : GoodTable t) (at : ℕ) (there : at < t .count) {k close latency late last : ℕ} (asked : Asked (rowOf t at) k close latency late last) where
+module _ {t : Table} (good : GoodTable t) (chain : ℕ) (there : chain < t .count) {k : ℕ} {f : Figures} (asked : Asked (rowOf t chain) k f) where
+  abbrev close : ℕ
+  close = f .close
+
+  abbrev latency : ℕ
+  latency = f .latency
+
+  abbrev late : ℕ
+  late = f .late
+
+  abbrev last : ℕ
+  last = f .last
+
   abbrev b : Row
-  b = rowOf t at
+  b = rowOf t chain
 
   abbrev views : List View
-  views = viewsOf t at
+  views = viewsOf t chain
 
   abbrev os : List Overload
-  os = overloads b (others t at)
+  os = overloadsOf t chain
 
   abbrev answer : Answer
-  answer = byFigures b views os k close latency late last
+  answer = figuresAt t chain k f
 
   beside : overloads b (rows t) ≡ os
-  beside = beside-others t good at there (asked .typical)
+  beside = beside-others t good chain there (asked .typical)
 
   pub judged-late : late ≡ 0 → Misses 0 ≡ answer
   judged-late e = sym (none-late b views os k close latency late last e)
@@ -78,20 +92,20 @@ module _ {t : Table} (good : GoodTable t) (at : ℕ) (there : at < t .count) {k 
       twice = starting ∙ ap (some (starts last)) beside
 
       pub judged-few : Few p
-      judged-few = held-few (largest b k + latency) b (others t at) (others-good t good at) p is few
+      judged-few = held-few (largest b k + latency) b (others t chain) (others-good t good chain) p is few
 
       pub judged-again : again ≡ true → Refused 19 ≡ answer
       judged-again e = sym (starts-again b views os k close latency late last some-late few (sym twice ∙ e))
 
-      module _ (once : again ≡ false) {l : Load} (loads : Loads b (counted false views) l) where
+      module _ (once : again ≡ false) {l : Load} (loads : Loads b (viewsAt Typical t chain) l) where
         abbrev test : ℕ → Bool
-        test = overIn l (b .deadline) close
+        test = overWith l close
 
         same : test ≡ over (demandOf b (typical views)) (distances b) (b .deadline) close
-        same = fun-ext (λ c. loads-over loads (b .deadline) close c)
+        same = fun-ext (λ c. loads-over loads close c)
 
-        pub judged-room : l .once + beyond ≤ most
-        judged-room = loads-room t good at there l loads
+        pub judged-tries : Tries l close
+        judged-tries = record { sound = loads .sound; few = asked .few; room = loads-room t good chain there l loads }
 
         module _ {o : Bool} (tested : o ≡ test 0) where
           empty : badOf b views os close 0 ≡ o

@@ -5,7 +5,7 @@ pub mod Prices
 pub mod Sixes
 pub mod Gathers
 pub mod Starts
-pub mod Sweeps
+pub mod Worsening
 pub mod Settles
 pub mod Covers
 pub mod Packs
@@ -13,7 +13,7 @@ pub mod Held
 pub mod Loading
 pub mod Answers
 pub mod Judging
-pub mod Figures
+pub mod Limits
 pub mod Starred
 pub mod Existence
 pub mod Turning

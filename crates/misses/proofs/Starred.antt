@@ -31,10 +31,9 @@ use Rattle.segments.specs.Actives.{startOf, numbered, inOrder, actives}
 use Rattle.segments.specs.View.{View, viewOf}
 use Rattle.windows.specs.Demand.{termOf, countedPart, demandOf, typical, others, viewsOf}
 use Rattle.windows.specs.Window.{windowOf}
-use Rattle.windows.specs.Latency.{long, ends, latencyAt, upTo, latencyTo, lateTo, marginOf, endsWith, boundOf}
+use Rattle.windows.specs.Latency.{long, ends, latencyAt, upTo, latencyTo, lateTo, longer, marginOf, endsWith, boundOf}
 use Rattle.windows.specs.declared.Window.{Window}
 use Rattle.windows.specs.declared.Window.the-variants.{At, Nothing}
-use Rattle.windows.specs.declared.Windows.{Windows}
 use Rattle.windows.specs.declared.Answer.the-variants.{Figures}
 use Rattle.windows.proofs.Least.{window-at, window-none}
 use Rattle.windows.proofs.Walks.{Open, windows-end}
@@ -45,8 +44,8 @@ use Rattle.packing.proofs.Sample.{bad as anyTwo, each, capacity-2, capacity-3}
 use Rattle.search.specs.Lists.{every as everyOf}
 use Rattle.misses.specs.Overloads.{Overload, overloads, Piece, piecesFrom, piecesOf, capacitiesOf}
 use Rattle.misses.specs.Sets.{members, together, allowed, setCost}
-use Rattle.misses.specs.Bad.{withCost, longer, over, bad}
-use Rattle.misses.specs.Misses.{earlyOf, badOf, roomOf, byBound, missesOf, missesAt, missesIn}
+use Rattle.misses.specs.Bad.{withCost, over, bad}
+use Rattle.misses.specs.Misses.{earlyOf, badOf, roomOf, missesOf, missesAt, missesIn}
 use Rattle.misses.specs.declared.Answer.the-variants.{Misses}
 use Rattle.misses.proofs.Prices.{allowed-past}
 use Rattle.misses.proofs.Starts.{starts}
@@ -206,8 +205,7 @@ answers k n uses early e few most =
     ∙ ap (λ (x : Reading). missesIn (x .table) 1 k) reads
     ∙ chain-found sampled 1 k (λ x. omega (arith, x, finds))
     ∙ ap (λ j. missesAt sampled j k) finds
-    ∙ at-bound sampled 0 k early
-    ∙ ap (λ (w : Windows). byBound b views os k (w .answer) (w .last)) bounds
+    ∙ sym (at-bound sampled 0 k early _ (sym bounds))
     ∙ packs b views os k 1 64 1 64 (λ x. omega (arith, x)) (rw pieces (lit≤ tt)) starts-once (bad-sets 0) (ap (some (ltb 40)) r ∙ no-excess n few)
     ∙ ap (λ u. Misses (1 * u)) (most-same (badOf b views os 1) anyTwo (λ i. getD (roomOf b os k 64) i 0) (each n) (λ m l h. bad-sets m) (λ i h. ap (λ l. getD l i 0) r) ∙ most)
     ∙ ap Misses (omega arith)

@@ -1,5 +1,5 @@
 -- The miss query (01, 'Misses' and 'Numbers given back').
-use Prim.Native.Nat.{ℕ, zero, suc, _+_, _*_}
+use Prim.Native.Nat.{ℕ, _+_, _*_}
 use mathlib.Core.Bool.{Bool, not}
 use mathlib.Core.List.{List, [], _∷_}
 use lib.Dec.{eqb, ltb}
@@ -73,9 +73,12 @@ module _ (b : Row) (views : List View) (os : List Overload) (k : ℕ) where
   unfoldable pub missesBeside : Answer
   missesBeside = unless Refused (earlyOf b k) (byBound (boundOf b views .answer) (boundOf b views .last))
 
--- of the chain `at` of a table
+-- the overload chains beside a chain of a table, and its misses, by its number there
+abbrev pub overloadsOf : Table → ℕ → List Overload
+overloadsOf t chain = overloads (rowOf t chain) (others t chain)
+
 unfoldable pub missesAt : Table → ℕ → ℕ → Answer
-missesAt t at k = missesBeside (rowOf t at) (viewsOf t at) (overloads (rowOf t at) (others t at)) k
+missesAt t chain k = missesBeside (rowOf t chain) (viewsOf t chain) (overloadsOf t chain) k
 
 -- of the chain with the id, 12 if there is none
 unfoldable pub missesIn : Table → ℕ → ℕ → Answer

@@ -1,5 +1,6 @@
 // The miss query: over the bytes of an accepted table, and over any.
 use crate::Answer;
+use crate::Figures;
 use crate::Pieces;
 use crate::pricing::prices;
 use crate::settling::lowest_bad;
@@ -10,7 +11,6 @@ use packing::most_uses;
 use table::Table;
 use table::Verdict;
 use table::count;
-use table::deadline_at;
 use table::find;
 use table::gap_at;
 use table::judge;
@@ -18,6 +18,7 @@ use table::overload_at;
 use table::place;
 use table::record_length;
 use windows::Answer as Bound;
+use windows::Others;
 use windows::Own;
 use windows::Windows;
 use windows::bound;
@@ -29,25 +30,24 @@ ghost use Prim.Native.Nat.{ℕ, _+_, _≤_, _<_};
 ghost use lib.Dec.{ltb, leb};
 ghost use lib.ListN.{length, getD};
 ghost use Rattle.search.specs.Choice.{_when_else_};
-ghost use Rattle.table.specs.Limits.{horizon, maxActivations, maxDeadline, maxOverloads, maxCapacity};
+ghost use Rattle.table.specs.Limits.{horizon, maxOverloads, maxCapacity};
 ghost use Rattle.table.specs.declared.Row.{Row};
 ghost use Rattle.table.specs.Record.{rowAt};
 ghost use Rattle.table.specs.Find.{rowOf, rows};
 ghost use Rattle.table.specs.code.Taken.{Taken, Stands};
 ghost use Rattle.table.specs.Read.{tableOf};
 ghost use Rattle.arrivals.specs.Arrivals.{η};
-ghost use Rattle.windows.specs.Demand.{others, viewsOf};
-ghost use Rattle.windows.specs.Latency.{boundOf};
-ghost use Rattle.windows.specs.code.Load.{most, loadOf, Sound};
+ghost use Rattle.windows.specs.Latency.{boundAt};
+ghost use Rattle.windows.specs.code.Load.{loadOf};
 ghost use Rattle.packing.specs.Packing.{combinations};
 ghost use Rattle.packing.specs.Most.{mostUses};
 ghost use Rattle.packing.specs.Most.{capacity as capacityIn};
 ghost use Rattle.search.specs.Lists.{some};
 ghost use Rattle.misses.specs.Overloads.{overloads};
 ghost use Rattle.misses.specs.Bad.{bad as badIn};
-ghost use Rattle.misses.specs.Misses.{earlyOf, byFigures, byBound, missesAt, missesIn, missesOf};
-ghost use Rattle.misses.specs.code.Held.{Few, piecesIn, Asked};
-ghost use Rattle.misses.specs.code.Settling.{overIn, beyond};
+ghost use Rattle.misses.specs.Misses.{earlyOf, missesAt, missesIn, missesOf};
+ghost use Rattle.misses.specs.code.Held.{Few, piecesIn, Asked, figuresAt};
+ghost use Rattle.misses.specs.code.Settling.{overWith, Tries};
 
 // 13, 14 or 15, what is refused of the chain at `b` before any window; 0 for none of them.
 fn early(s: &[u8], b: usize, k: u32) -> u32
@@ -77,20 +77,20 @@ fn again(s: &[u8], a: usize, t: u64) -> bool
     1 < eta_up_to(s, a, t, 2)
 }
 
-// Whether any chain of a table is.
+// Whether any chain of a table is one.
 fn any_again(s: &[u8], t: u64) -> bool
     requires { ⌜ Taken (now s) × (t ≤ horizon) ⌝ }
     ensures { λ r. ⌜ ((b : Row) → r ≡ some (λ o. ltb 1 (η (o .list) t)) (overloads b (rows (tableOf (now (s .entry)))))) ⌝ }
 {
     let chains = count(s);
-    let mut a: usize = 0;
-    let mut j: usize = 0;
-    while j < chains {
-        if again(s, a, t) {
+    let mut at: usize = 0;
+    let mut chain: usize = 0;
+    while chain < chains {
+        if again(s, at, t) {
             return true;
         }
-        a = a + record_length(s, a);
-        j += 1;
+        at = at + record_length(s, at);
+        chain += 1;
     }
     false
 }
@@ -123,7 +123,8 @@ fn flag(cost: u64, lowest: u64) -> u8
     if lowest <= cost { 1 } else { 0 }
 }
 
-// The flags of all sets, by what they cost.
+// The flags of all sets, by what they cost. The lowest bad cost is above 0, so a set that is no combination, whose price is 0, has
+// no flag; nor has the empty set, which the packing never looks at.
 fn flags(costs: &[u64; COMBINATIONS], lowest: u64) -> [u8; COMBINATIONS]
     ensures { λ r. ⌜ ((m : ℕ) → m < combinations → getD r m 0 ≡ (1 when leb lowest (getD (now (costs .entry)) m 0) else 0)) ⌝ }
 {
@@ -137,98 +138,101 @@ fn flags(costs: &[u64; COMBINATIONS], lowest: u64) -> [u8; COMBINATIONS]
 }
 
 // The most uses any packing has of the bad ones among sets of the active segments held, where the empty set is not bad.
-fn packed(
-    s: &[u8],
-    own: Own,
-    rates: &[u64; Table::CHAINS],
-    places: &[usize; Table::CHAINS],
-    deadline: u32,
-    k: u32,
-    p: Pieces,
-) -> u32
-    requires { ⌜ Sound (loadOf (now s) own (now rates) (now places)) × (deadline ≤ maxDeadline) × (k ≤ maxActivations) × (own .once + beyond ≤ most) × (overIn (loadOf (now s) own (now rates) (now places)) deadline k 0 ≡ false) × Few p ⌝ }
-    ensures { λ r. ⌜ r ≡ mostUses (badIn (overIn (loadOf (now (s .entry)) own (now (rates .entry)) (now (places .entry))) deadline k) (piecesIn p)) (capacityIn (p .capacity)) ⌝ }
+fn packed(s: &[u8], own: Own, held: &[u64; Own::HELD], close: u32, p: Pieces) -> u32
+    requires { ⌜ Tries (loadOf (now s) own (now held)) close × (overWith (loadOf (now s) own (now held)) close 0 ≡ false) × Few p ⌝ }
+    ensures { λ r. ⌜ r ≡ mostUses (badIn (overWith (loadOf (now (s .entry)) own (now (held .entry))) close) (piecesIn p)) (capacityIn (p .capacity)) ⌝ }
 {
     let capacity = p.capacity;
     let costs = prices(p);
-    let lowest = lowest_bad(s, own, rates, places, deadline, k, &costs);
+    let lowest = lowest_bad(s, own, held, close, &costs);
     let bad = flags(&costs, lowest);
     most_uses(&bad, &capacity)
 }
 
-// What the figures of the full analysis give: K is `close`, and `last` the last window.
-fn by_figures(s: &[u8], at: usize, k: u32, close: u32, latency: u32, late: u32, last: u64) -> Answer
-    requires { ⌜ Taken (now s) × (at < tableOf (now s) .count) × Asked (rowOf (tableOf (now s)) at) k close latency late last ⌝ }
-    ensures { λ r. ⌜ r ≡ byFigures (rowOf (tableOf (now (s .entry))) at) (viewsOf (tableOf (now (s .entry))) at) (overloads (rowOf (tableOf (now (s .entry))) at) (others (tableOf (now (s .entry))) at)) k close latency late last ⌝ }
+// What the figures of the full analysis give in a run of k activations.
+fn by_figures(s: &[u8], chain: usize, k: u32, f: Figures) -> Answer
+    requires { ⌜ Taken (now s) × (chain < tableOf (now s) .count) × Asked (rowOf (tableOf (now s)) chain) k f ⌝ }
+    ensures { λ r. ⌜ r ≡ figuresAt (tableOf (now (s .entry))) chain k f ⌝ }
 {
+    let late = f.late;
     if late == 0 {
         return Answer::Misses(0);
     }
-    let b = place(s, at);
-    let deadline = deadline_at(s, b);
-    let p = Pieces::of(s, b, (k - 1) as u64 * gap_at(s, b) as u64 + latency as u64);
+    let b = place(s, chain);
+    let p = Pieces::of(
+        s,
+        b,
+        (k - 1) as u64 * gap_at(s, b) as u64 + f.latency as u64,
+    );
     if Table::OVERLOADS < p.count {
         return Answer::Refused(18);
     }
-    if any_again(s, last) {
+    if any_again(s, f.last) {
         return Answer::Refused(19);
     }
-    let mut rates = [0u64; Table::CHAINS];
-    let mut places = [0usize; Table::CHAINS];
-    let own = load(s, at, false, &mut rates, &mut places);
-    if over(s, own, &rates, &places, deadline, close, 0) {
+    let mut held = [0u64; Own::HELD];
+    let own = load(s, chain, Others::Typical, &mut held);
+    if over(s, own, &held, f.close, 0) {
         return Answer::Refused(20);
     }
     let capacity = p.capacity;
     if above(&capacity) {
         return Answer::Refused(21);
     }
-    Answer::Misses(late * packed(s, own, &rates, &places, deadline, close, p))
+    Answer::Misses(late * packed(s, own, &held, f.close, p))
 }
 
-// 16 or 17, or what the figures give.
-fn by_bound(s: &[u8], at: usize, k: u32, w: Windows) -> Answer
-    requires { ⌜ Taken (now s) × (at < tableOf (now s) .count) × (earlyOf (rowOf (tableOf (now s)) at) k ≡ 0) × (w ≡ boundOf (rowOf (tableOf (now s)) at) (viewsOf (tableOf (now s)) at)) ⌝ }
-    ensures { λ r. ⌜ r ≡ byBound (rowOf (tableOf (now (s .entry))) at) (viewsOf (tableOf (now (s .entry))) at) (overloads (rowOf (tableOf (now (s .entry))) at) (others (tableOf (now (s .entry))) at)) k (w .answer) (w .last) ⌝ }
+// 16 or 17, or what the figures give, where nothing is refused before any window.
+fn by_bound(s: &[u8], chain: usize, k: u32, w: Windows) -> Answer
+    requires { ⌜ Taken (now s) × (chain < tableOf (now s) .count) × (earlyOf (rowOf (tableOf (now s)) chain) k ≡ 0) × (w ≡ boundAt (tableOf (now s)) chain) ⌝ }
+    ensures { λ r. ⌜ r ≡ missesAt (tableOf (now (s .entry))) chain k ⌝ }
 {
     let answer = w.answer;
     match answer {
         Bound::Figures {
-            k: close,
+            close,
             latency,
             late,
             margin: _,
-        } => by_figures(s, at, k, close, latency, late, w.last),
+        } => {
+            let f = Figures {
+                close,
+                latency,
+                late,
+                last: w.last,
+            };
+            by_figures(s, chain, k, f)
+        }
         Bound::Refused(n) => Answer::Refused(n),
     }
 }
 
-// The misses of the chain `at` in a run of k activations, where its windows are worked out already.
-pub fn misses_with(s: &[u8], at: usize, k: u32, w: Windows) -> Answer
-    requires { ⌜ Taken (now s) × (at < tableOf (now s) .count) × (w ≡ boundOf (rowOf (tableOf (now s)) at) (viewsOf (tableOf (now s)) at)) ⌝ }
-    ensures { λ r. ⌜ r ≡ missesAt (tableOf (now (s .entry))) at k ⌝ }
+// The misses of the chain of that number in a run of k activations, where its windows are worked out already.
+pub fn misses_with(s: &[u8], chain: usize, k: u32, w: Windows) -> Answer
+    requires { ⌜ Taken (now s) × (chain < tableOf (now s) .count) × (w ≡ boundAt (tableOf (now s)) chain) ⌝ }
+    ensures { λ r. ⌜ r ≡ missesAt (tableOf (now (s .entry))) chain k ⌝ }
 {
-    let n = early(s, place(s, at), k);
+    let n = early(s, place(s, chain), k);
     if n != 0 {
         return Answer::Refused(n);
     }
-    by_bound(s, at, k, w)
+    by_bound(s, chain, k, w)
 }
 
 // The misses of the chain with the id, of an accepted table.
-pub fn misses_in(s: &[u8], id: u32, k: u32) -> Answer
+fn misses_in(s: &[u8], id: u32, k: u32) -> Answer
     requires { ⌜ Taken (now s) ⌝ }
     ensures { λ r. ⌜ r ≡ missesIn (tableOf (now (s .entry))) id k ⌝ }
 {
-    let at = find(s, id);
-    if at == count(s) {
+    let chain = find(s, id);
+    if chain == count(s) {
         return Answer::Refused(12);
     }
-    let n = early(s, place(s, at), k);
+    let n = early(s, place(s, chain), k);
     if n != 0 {
         return Answer::Refused(n);
     }
-    by_bound(s, at, k, bound(s, at))
+    by_bound(s, chain, k, bound(s, chain))
 }
 
 // The misses of the chain with the id in a run of k activations, of a stored table.

@@ -5,7 +5,6 @@ mod pricing;
 mod settling;
 
 pub use asking::misses;
-pub use asking::misses_in;
 pub use asking::misses_with;
 use table::Table;
 
@@ -15,24 +14,32 @@ pub enum Answer {
     Refused(u32),
 }
 
+// The figures of the full analysis that misses go by: K, latency, late, and the last window B(K).
+struct Figures {
+    close: u32,
+    latency: u32,
+    late: u32,
+    last: u64,
+}
+
 // The active segments of the overload chains in a row: how many chains and active segments there are, and of the first six
 // each one's chain, segment, cost and capacity; 0 past them.
-pub struct Pieces {
-    pub chains: usize,
-    pub count: usize,
-    pub chain: [usize; Table::OVERLOADS],
-    pub segment: [usize; Table::OVERLOADS],
-    pub cost: [u64; Table::OVERLOADS],
-    pub capacity: [u8; Table::OVERLOADS],
+struct Pieces {
+    chains: usize,
+    count: usize,
+    chain: [usize; Table::OVERLOADS],
+    segment: [usize; Table::OVERLOADS],
+    cost: [u64; Table::OVERLOADS],
+    capacity: [u8; Table::OVERLOADS],
 }
 
 // Costs that are settled: none up to `good` is bad, each from `bad` on is.
-pub struct Settled {
-    pub good: u64,
-    pub bad: u64,
+struct Settled {
+    good: u64,
+    bad: u64,
 }
 
 impl Settled {
     // More than any set costs.
-    pub const BEYOND: u64 = Table::OVERLOADS as u64 * Table::TASKS as u64 * Table::COST as u64 + 1;
+    const BEYOND: u64 = Table::OVERLOADS as u64 * Table::TASKS as u64 * Table::COST as u64 + 1;
 }

@@ -1,19 +1,15 @@
-// What the combinations cost.
+// What the combinations cost. A price of 0 stands for 'no combination': the one combination that costs 0 is the empty set, and
+// that is not bad where prices are made, since 20 has answered before.
 use crate::Pieces;
 use packing::COMBINATIONS;
 use table::Table;
 ghost use mathlib.Core.Path.{_≡_};
-ghost use mathlib.Core.Bool.{true};
-ghost use mathlib.Core.List.{List, []};
-ghost use Prim.Native.Nat.{ℕ, _+_, _≤_, _<_};
-ghost use lib.Dec.{eqb};
+ghost use mathlib.Core.List.{List};
+ghost use Prim.Native.Nat.{ℕ, _≤_, _<_};
 ghost use lib.ListN.{getD};
-ghost use Rattle.search.specs.Choice.{_when_else_};
 ghost use Rattle.table.specs.Limits.{maxOverloads};
 ghost use Rattle.packing.specs.Packing.{bit, combinations};
-ghost use Rattle.search.specs.Lists.{every};
-ghost use Rattle.misses.specs.Sets.{agree};
-ghost use Rattle.misses.specs.code.Held.{pieceAt, piecesAt, membersAt, priceOf, Few, piecesIn};
+ghost use Rattle.misses.specs.code.Held.{piecesAt, agreesAt, agreesAfter, priceOf, Few, piecesIn};
 ghost use Rattle.segments.specs.code.Held.{dearest};
 
 // 1 if the active segment i is in the set m, else 0.
@@ -33,7 +29,7 @@ fn agrees(
     j: usize,
 ) -> bool
     requires { ⌜ (i < maxOverloads) × (j < maxOverloads) ⌝ }
-    ensures { λ r. ⌜ r ≡ (agree (pieceAt (now (chain .entry)) (now (segment .entry)) [] i) (pieceAt (now (chain .entry)) (now (segment .entry)) [] j) when eqb (bit j m) 1 else true) ⌝ }
+    ensures { λ r. ⌜ r ≡ agreesAt (now (chain .entry)) (now (segment .entry)) m i j ⌝ }
 {
     if has(m, j) == 0 {
         return true;
@@ -53,7 +49,7 @@ fn agrees_with_all(
     i: usize,
 ) -> bool
     requires { ⌜ (i < n) × (n ≤ maxOverloads) ⌝ }
-    ensures { λ r. ⌜ ((costs : List ℕ) → r ≡ every (agree (pieceAt (now (chain .entry)) (now (segment .entry)) costs i)) (membersAt (now (chain .entry)) (now (segment .entry)) costs n m (i + 1))) ⌝ }
+    ensures { λ r. ⌜ ((costs : List ℕ) → r ≡ agreesAfter (now (chain .entry)) (now (segment .entry)) costs n m i) ⌝ }
 {
     let mut j = i + 1;
     while j < n {
@@ -82,13 +78,13 @@ fn price(
     let mut sum: u64 = 0;
     let mut i: usize = 0;
     while i < n {
-        let at = i;
+        let here = i;
         i += 1;
-        if has(m, at) == 1 {
-            if !agrees_with_all(chain, segment, n, m, at) {
+        if has(m, here) == 1 {
+            if !agrees_with_all(chain, segment, n, m, here) {
                 return 0;
             }
-            sum = sum + cost[at];
+            sum = sum + cost[here];
         }
     }
     sum

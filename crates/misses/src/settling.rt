@@ -1,70 +1,31 @@
 // The lowest bad cost. A combination is bad by its cost alone, and costs only get worse, so each sum that is tried settles all
 // those below it or all those above it.
 use crate::Settled;
-use arrivals::delta;
 use packing::COMBINATIONS;
-use table::Table;
 use windows::Own;
-use windows::Window;
-use windows::climb;
+use windows::any_over;
 ghost use mathlib.Core.Path.{_≡_};
 ghost use mathlib.Core.Bool.{false};
-ghost use Prim.Native.Nat.{ℕ, _+_, _-_, _≤_, _<_, min};
-ghost use lib.ListN.{getD};
-ghost use Rattle.table.specs.Limits.{maxActivations, maxDeadline};
-ghost use Rattle.packing.specs.Packing.{combinations};
-ghost use Rattle.windows.specs.code.Load.{most, loadOf, Sound};
-ghost use Rattle.misses.specs.code.Settling.{overIn, beyond, Settles, Open, Inside, Picks, BadFrom};
+ghost use Prim.Native.Nat.{_-_, _<_, min};
+ghost use Rattle.windows.specs.code.Load.{loadOf};
+ghost use Rattle.misses.specs.code.Settling.{overWith, beyond, NoneBeyond, Tries, Settles, Open, Inside, Picks, BadFrom};
 
-// Whether a set that costs so much is bad. The climb to each window starts where the one before ended.
-pub fn over(
-    s: &[u8],
-    own: Own,
-    rates: &[u64; Table::CHAINS],
-    places: &[usize; Table::CHAINS],
-    deadline: u32,
-    k: u32,
-    cost: u64,
-) -> bool
-    requires { ⌜ Sound (loadOf (now s) own (now rates) (now places)) × (deadline ≤ maxDeadline) × (k ≤ maxActivations) × (own .once + cost ≤ most) ⌝ }
-    ensures { λ r. ⌜ r ≡ overIn (loadOf (now (s .entry)) own (now (rates .entry)) (now (places .entry))) deadline k cost ⌝ }
+// Whether a set that costs so much is bad.
+pub fn over(s: &[u8], own: Own, held: &[u64; Own::HELD], close: u32, cost: u64) -> bool
+    requires { ⌜ Tries (loadOf (now s) own (now held)) close × (cost < beyond) ⌝ }
+    ensures { λ r. ⌜ r ≡ overWith (loadOf (now (s .entry)) own (now (held .entry))) close cost ⌝ }
 {
-    let at = own.at;
     let mut dearer = own;
     dearer.once = dearer.once + cost;
-    let mut counts = [0u64; Own::COUNTS];
-    let mut start: u64 = 1;
-    let mut done: u32 = 0;
-    while done < k {
-        let q = done as u64 + 1;
-        let w = climb(s, dearer, rates, places, q, start, &mut counts);
-        let Window::At(t) = w else {
-            return true;
-        };
-        if delta(s, at, q) + (deadline as u64) < t {
-            return true;
-        }
-        start = t;
-        done += 1;
-    }
-    false
+    any_over(s, dearer, held, close)
 }
 
 // One round: the open cost c is tried.
-fn round(
-    s: &[u8],
-    own: Own,
-    rates: &[u64; Table::CHAINS],
-    places: &[usize; Table::CHAINS],
-    deadline: u32,
-    k: u32,
-    ends: Settled,
-    c: u64,
-) -> Settled
-    requires { ⌜ Sound (loadOf (now s) own (now rates) (now places)) × (deadline ≤ maxDeadline) × (k ≤ maxActivations) × (own .once + beyond ≤ most) × Settles (overIn (loadOf (now s) own (now rates) (now places)) deadline k) ends × Open ends c ⌝ }
-    ensures { λ r. ⌜ Settles (overIn (loadOf (now (s .entry)) own (now (rates .entry)) (now (places .entry))) deadline k) r × (r .bad - r .good < ends .bad - ends .good) ⌝ }
+fn round(s: &[u8], own: Own, held: &[u64; Own::HELD], close: u32, ends: Settled, c: u64) -> Settled
+    requires { ⌜ Tries (loadOf (now s) own (now held)) close × Settles (overWith (loadOf (now s) own (now held)) close) ends × Open ends c ⌝ }
+    ensures { λ r. ⌜ Settles (overWith (loadOf (now (s .entry)) own (now (held .entry))) close) r × (r .bad - r .good < ends .bad - ends .good) ⌝ }
 {
-    if over(s, own, rates, places, deadline, k, c) {
+    if over(s, own, held, close, c) {
         Settled {
             good: ends.good,
             bad: c,
@@ -115,18 +76,16 @@ fn pick(costs: &[u64; COMBINATIONS], ends: Settled) -> u64
     best
 }
 
-// The cost from which on sets are bad, where the empty set is not.
+// The cost from which on sets are bad, where the empty set is not: it is above 0.
 pub fn lowest_bad(
     s: &[u8],
     own: Own,
-    rates: &[u64; Table::CHAINS],
-    places: &[usize; Table::CHAINS],
-    deadline: u32,
-    k: u32,
+    held: &[u64; Own::HELD],
+    close: u32,
     costs: &[u64; COMBINATIONS],
 ) -> u64
-    requires { ⌜ Sound (loadOf (now s) own (now rates) (now places)) × (deadline ≤ maxDeadline) × (k ≤ maxActivations) × (own .once + beyond ≤ most) × (overIn (loadOf (now s) own (now rates) (now places)) deadline k 0 ≡ false) × ((m : ℕ) → m < combinations → getD (now costs) m 0 < beyond) ⌝ }
-    ensures { λ r. ⌜ BadFrom (overIn (loadOf (now (s .entry)) own (now (rates .entry)) (now (places .entry))) deadline k) (now (costs .entry)) r ⌝ }
+    requires { ⌜ Tries (loadOf (now s) own (now held)) close × (overWith (loadOf (now s) own (now held)) close 0 ≡ false) × NoneBeyond (now costs) ⌝ }
+    ensures { λ r. ⌜ BadFrom (overWith (loadOf (now (s .entry)) own (now (held .entry))) close) (now (costs .entry)) r ⌝ }
 {
     let mut ends = Settled {
         good: 0,
@@ -134,7 +93,7 @@ pub fn lowest_bad(
     };
     let mut c = pick(costs, ends);
     while c != 0 {
-        ends = round(s, own, rates, places, deadline, k, ends, c);
+        ends = round(s, own, held, close, ends, c);
         c = pick(costs, ends);
     }
     ends.bad

@@ -59,13 +59,13 @@ fn put_answers(out: &mut [u8], at: usize, answer: Latency, missed: Missed) -> us
 {
     match answer {
         Latency::Figures {
-            k,
+            close,
             latency,
             late,
             margin,
         } => {
-            let after_k = put_number(out, at, k);
-            let after_latency = put_number(out, after_k, latency);
+            let after_close = put_number(out, at, close);
+            let after_latency = put_number(out, after_close, latency);
             let after_late = put_number(out, after_latency, late);
             let after_margin = put_signed(out, after_late, margin);
             put_missed(out, after_margin, missed)

@@ -90,13 +90,13 @@ fn latency_right(s: &[u8], c: Case) -> bool {
     let answer = windows::latency(s, c.values[0]);
     match answer {
         windows::Answer::Figures {
-            k,
+            close,
             latency,
             late,
             margin,
         } => {
             c.number == 0
-                && k == c.values[1]
+                && close == c.values[1]
                 && latency == c.values[2]
                 && late == c.values[3]
                 && lifted(margin) == wide(c.values[4])

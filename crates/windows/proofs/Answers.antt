@@ -1,32 +1,32 @@
 -- What the latency query answers, case by case. Assumes nothing.
 use Prim.Native.Nat.{ℕ}
-use mathlib.Core.Path.{_≡_, ap, ap₂, fun-ext, _∙_}
+use mathlib.Core.Path.{_≡_, ap, ap₂, fun-ext}
 use mathlib.Core.List.{List}
 use borrow.Author.Tests.{eq-eqb, ne-eqb}
 use Rattle.search.proofs.Choice.{when-yes, when-no}
-use Rattle.table.specs.Find.{rowOf, findOf}
+use Rattle.table.specs.Record.{distances}
+use Rattle.table.specs.Find.{findOf}
 use Rattle.table.specs.Read.{byVerdict, readTable}
 use Rattle.table.specs.declared.Row.{Row}
 use Rattle.table.specs.declared.Table.{Table}
 use Rattle.table.specs.declared.Verdict.the-variants.{Accepted, Refused as Faulty}
 use Rattle.segments.specs.View.{View}
-use Rattle.windows.specs.Demand.{viewsOf}
-use Rattle.windows.specs.Latency.{windowsOf, boundOf, latencyIn, latencyOf}
-use Rattle.windows.specs.code.Load.{Load, ownOf, demandIn, Loads}
+use Rattle.windows.specs.Latency.{windowsOf, boundOf, boundAt, latencyIn, latencyOf}
+use Rattle.windows.specs.code.Load.{Load, windowsIn, Loads}
 use Rattle.windows.specs.declared.Answer.the-variants.{Refused}
 
 -- a load of b gives b's figures
-pub loads-bound : {b : Row} {vs : List View} {l : Load} {deadline : ℕ} → Loads b vs l → deadline ≡ b .deadline → windowsOf (demandIn l) (ownOf l) deadline ≡ boundOf b vs
+pub loads-bound : {b : Row} {vs : List View} {l : Load} → Loads b vs l → windowsIn l ≡ boundOf b vs
 unfolding boundOf
-loads-bound {b} {l = l} a e =
-    ap (windowsOf (demandIn l) (ownOf l)) e ∙ ap₂ (λ d ds. windowsOf d ds (b .deadline)) (fun-ext (λ q. fun-ext (λ t. a .demand q t))) (a .own)
+loads-bound {l = l} a =
+    ap₂ (λ d (r : Row). windowsOf d (distances r) (r .deadline)) (fun-ext (λ q. fun-ext (λ t. a .demand q t))) (a .chain)
 
 module _ (t : Table) (id : ℕ) where
   pub chain-none : findOf t id ≡ t .count → latencyIn t id ≡ Refused 12
   unfolding latencyIn
   chain-none e = when-yes _ _ (eq-eqb _ _ e)
 
-  pub chain-found : (findOf t id ≡ t .count → ⊥) → latencyIn t id ≡ boundOf (rowOf t (findOf t id)) (viewsOf t (findOf t id)) .answer
+  pub chain-found : (findOf t id ≡ t .count → ⊥) → latencyIn t id ≡ boundAt t (findOf t id) .answer
   unfolding latencyIn
   chain-found h = when-no _ _ (ne-eqb _ _ h)
 

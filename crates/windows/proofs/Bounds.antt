@@ -5,12 +5,11 @@ use mathlib.Core.List.{List}
 use native.Mathlib.Omega.{arith}
 use native.Mathlib.Numerals.{add-one}
 use native.Mathlib.Nat.{le-trans, le-refl, mul-le-mul, mul-le-mul-left}
-use lib.ListN.{getD}
 use Rattle.table.specs.Limits.{horizon, maxActivations, maxDistances}
 use Rattle.arrivals.specs.Arrivals.{η}
 use Rattle.table.specs.code.Good.{GoodDistances}
 use Rattle.arrivals.proofs.Counts.{η-near}
-use Rattle.windows.specs.code.Load.{heldAt, heldOf, Held}
+use Rattle.windows.specs.code.Load.{heldRate, heldAt, heldOf, Held}
 use Rattle.segments.specs.code.Held.{dearest}
 use Rattle.windows.proofs.Growth.{held-fewer}
 
@@ -24,18 +23,18 @@ turns-le good n rate t h k l = mul-le-mul (le-trans h (le-trans (η-near good t)
 pub own-le : (q cost : ℕ) → q ≤ maxActivations → cost ≤ dearest → q * cost ≤ maxActivations * dearest
 own-le q cost h k = mul-le-mul h k
 
-module _ (s rates places : List ℕ) where
+module _ (s held : List ℕ) where
   -- one chain more, in the code's shape
-  pub held-on : (n t : ℕ) → heldOf s rates places (n + 1) t ≡ heldOf s rates places n t + η (heldAt s places n) t * getD rates n 0
+  pub held-on : (n t : ℕ) → heldOf s held (n + 1) t ≡ heldOf s held n t + η (heldAt s held n) t * heldRate held n
   unfolding heldOf
-  held-on n t = ap (λ k. heldOf s rates places k t) (add-one n)
+  held-on n t = ap (λ k. heldOf s held k t) (add-one n)
 
-  pub held-le : (n t : ℕ) → Held s rates places n → t ≤ horizon → heldOf s rates places n t ≤ n * busiest
+  pub held-le : (n t : ℕ) → Held s held n → t ≤ horizon → heldOf s held n t ≤ n * busiest
   unfolding heldOf
   held-le zero t h l = omega arith
   held-le (suc n) t h l =
       omega (
         arith,
-        held-le n t (held-fewer s rates places n h) l,
-        turns-le (h .stands n (le-refl (suc n)) .good .list) (η (heldAt s places n) t) (getD rates n 0) t (le-refl _) (h .cheap n (le-refl (suc n))) l,
+        held-le n t (held-fewer s held n h) l,
+        turns-le (h .stands n (le-refl (suc n)) .good .list) (η (heldAt s held n) t) (heldRate held n) t (le-refl _) (h .cheap n (le-refl (suc n))) l,
       )

@@ -15,7 +15,7 @@ use Rattle.arrivals.specs.Arrivals.{δ}
 use Rattle.table.specs.code.Good.{GoodDistances}
 use Rattle.arrivals.proofs.Distances.{δ-one}
 use Rattle.windows.specs.Window.{windowOf}
-use Rattle.windows.specs.Latency.{ends, closeOf, latencyTo, lateTo, marginOf, refusal, endsWith, windowsOf}
+use Rattle.windows.specs.Latency.{ends, closeOf, latencyTo, lateTo, marginOf, unbounded, endsWith, windowsOf}
 use Rattle.windows.specs.declared.Window.{Window}
 use Rattle.windows.specs.declared.Window.the-variants.{At, Nothing}
 use Rattle.windows.specs.declared.Windows.{Windows}
@@ -24,13 +24,13 @@ use Rattle.windows.proofs.Least.{window-at, window-under, under-lift}
 use Rattle.windows.proofs.Growth.{Growing}
 use Rattle.windows.proofs.Walks.{Open, windows-end}
 
--- the windows close at k, with t the last: each before it is there, and reaches past the next activation
-pub record Closes (demand : ℕ → ℕ → ℕ) (ds : List ℕ) (k t : ℕ) : Type 0 where
-  pub low : 1 ≤ k
-  pub high : k ≤ maxActivations
-  pub last : windowOf (demand k) ≡ At t
-  pub shut : t ≤ δ ds (k + 1)
-  pub reach : (q : ℕ) → 1 ≤ q → q < k → (s : ℕ) × (windowOf (demand q) ≡ At s) × (δ ds (q + 1) < s)
+-- the windows close at `close`, with t the last: each before it is there, and reaches past the next activation
+pub record Closes (demand : ℕ → ℕ → ℕ) (ds : List ℕ) (close t : ℕ) : Type 0 where
+  pub low : 1 ≤ close
+  pub high : close ≤ maxActivations
+  pub last : windowOf (demand close) ≡ At t
+  pub shut : t ≤ δ ds (close + 1)
+  pub reach : (q : ℕ) → 1 ≤ q → q < close → (s : ℕ) × (windowOf (demand q) ≡ At s) × (δ ds (q + 1) < s)
 
 module _ (demand : ℕ → ℕ → ℕ) (ds : List ℕ) where
   abbrev test : ℕ → Bool
@@ -46,83 +46,83 @@ module _ (demand : ℕ → ℕ → ℕ) (ds : List ℕ) where
 
   module _ (deadline : ℕ) where
     -- then that is the answer
-    pub closes-answer : {k t : ℕ} → Closes demand ds k t
+    pub closes-answer : {close t : ℕ} → Closes demand ds close t
         → windowsOf demand ds deadline
-        ≡ record { answer = Figures k (latencyTo demand ds k) (lateTo demand ds deadline k) (marginOf deadline (latencyTo demand ds k)); last = t }
+        ≡ record { answer = Figures close (latencyTo demand ds close) (lateTo demand ds deadline close) (marginOf deadline (latencyTo demand ds close)); last = t }
     unfolding Open
-    closes-answer {k} {t} c =
-        windows-end demand ds deadline k (c .low) (c .high) (ap (λ w. ends w (δ ds (k + 1))) (c .last) ∙ le-leb t (δ ds (k + 1)) (c .shut))
+    closes-answer {close} {t} c =
+        windows-end demand ds deadline close (c .low) (c .high) (ap (λ w. ends w (δ ds (close + 1))) (c .last) ∙ le-leb t (δ ds (close + 1)) (c .shut))
         (λ q l h e. let r = c .reach q l h in
         omega (arith, r .2, leb-true (r .0) (δ ds (q + 1)) (sym (ap (λ w. ends w (δ ds (q + 1))) (r .1)) ∙ e)))
-        ∙ ap (endsWith demand ds deadline k) (c .last)
+        ∙ ap (endsWith demand ds deadline close) (c .last)
 
     -- what figures say
-    pub record Closed (k latency late last : ℕ) (margin : ℤ) : Type 0 where
-      pub closes : Closes demand ds k last
-      pub longest : latency ≡ latencyTo demand ds k
-      pub count : late ≡ lateTo demand ds deadline k
+    pub record Closed (close latency late last : ℕ) (margin : ℤ) : Type 0 where
+      pub closes : Closes demand ds close last
+      pub greatest : latency ≡ latencyTo demand ds close
+      pub count : late ≡ lateTo demand ds deadline close
       pub rest : margin ≡ marginOf deadline latency
 
-    pub answer-closed : {k latency late : ℕ} {margin : ℤ} → windowsOf demand ds deadline .answer ≡ Figures k latency late margin
-        → Closed k latency late (windowsOf demand ds deadline .last) margin
+    pub answer-closed : {close latency late : ℕ} {margin : ℤ} → windowsOf demand ds deadline .answer ≡ Figures close latency late margin
+        → Closed close latency late (windowsOf demand ds deadline .last) margin
     unfolding windowsOf closeOf
-    answer-closed {k} {latency} {late} {margin} e = ⊎-elim still (λ h. by h (windowOf (demand at)) refl) (lt-or-le maxActivations at)
+    answer-closed {close} {latency} {late} {margin} e = ⊎-elim still (λ h. by h (windowOf (demand found)) refl) (lt-or-le maxActivations found)
       where
-        at : ℕ
-        at = closeOf demand ds
+        found : ℕ
+        found = closeOf demand ds
 
-        still : maxActivations < at → Closed k latency late (windowsOf demand ds deadline .last) margin
+        still : maxActivations < found → Closed close latency late (windowsOf demand ds deadline .last) margin
         still h =
-            let f : windowsOf demand ds deadline ≡ refusal 17 = when-yes _ _ (lt-ltb maxActivations at h) in
+            let f : windowsOf demand ds deadline ≡ unbounded 17 = when-yes _ _ (lt-ltb maxActivations found h) in
             let z : _≡_ {A = ℕ} 0 1 = cc in
             absurd (omega arith)
 
-        by : at ≤ maxActivations → (w : Window) → windowOf (demand at) ≡ w → Closed k latency late (windowsOf demand ds deadline .last) margin
+        by : found ≤ maxActivations → (w : Window) → windowOf (demand found) ≡ w → Closed close latency late (windowsOf demand ds deadline .last) margin
         by h Nothing g =
-            let f : windowsOf demand ds deadline ≡ refusal 16 = when-no _ _ (le-ltb maxActivations at h) ∙ ap (endsWith demand ds deadline at) g in
+            let f : windowsOf demand ds deadline ≡ unbounded 16 = when-no _ _ (le-ltb maxActivations found h) ∙ ap (endsWith demand ds deadline found) g in
             let z : _≡_ {A = ℕ} 0 1 = cc in
             absurd (omega arith)
         by h (At t) g =
-            let f : windowsOf demand ds deadline ≡ endsWith demand ds deadline at (At t) =
-            when-no _ _ (le-ltb maxActivations at h) ∙ ap (endsWith demand ds deadline at) g in
-            let x : at ≡ k = cc in
+            let f : windowsOf demand ds deadline ≡ endsWith demand ds deadline found (At t) =
+            when-no _ _ (le-ltb maxActivations found h) ∙ ap (endsWith demand ds deadline found) g in
+            let x : found ≡ close = cc in
             let l : windowsOf demand ds deadline .last ≡ t = ap (λ (w : Windows). w .last) f in
-            let c : Closes demand ds at t = record {
+            let c : Closes demand ds found t = record {
               low = first-ge test 1 maxActivations;
               high = h;
               last = g;
-              shut = leb-true t (δ ds (at + 1)) (sym (ap (λ w. ends w (δ ds (at + 1))) g) ∙ first-hit test 1 maxActivations (omega arith));
+              shut = leb-true t (δ ds (found + 1)) (sym (ap (λ w. ends w (δ ds (found + 1))) g) ∙ first-hit test 1 maxActivations (omega arith));
               reach = λ q m n. open-window q (first-miss test 1 maxActivations q m n);
             } in
             record {
               closes = subst₂ (Closes demand ds) x (sym l) c;
-              longest = cc;
+              greatest = cc;
               count = cc;
               rest = cc;
             }
 
 -- every window up to the last is there: it reaches past its activation, and not past the last
-module _ {demand : ℕ → ℕ → ℕ} {ds : List ℕ} (growing : Growing demand) (good : GoodDistances ds) {k t : ℕ} (c : Closes demand ds k t) where
+module _ {demand : ℕ → ℕ → ℕ} {ds : List ℕ} (growing : Growing demand) (good : GoodDistances ds) {close t : ℕ} (c : Closes demand ds close t) where
   -- the windows never fall
   rises : (q s r : ℕ) → 1 ≤ q → windowOf (demand q) ≡ At s → windowOf (demand (q + 1)) ≡ At r → s ≤ r
   rises q s r l e f =
       let a = window-at (demand (q + 1)) r f in
       under-lift (demand q) (demand (q + 1)) s (growing .more q) (window-under (demand q) (growing .grows q l) s e) .under r (a .low) (le-of-eq (sym (a .solves)))
 
-  there : (q : ℕ) → 1 ≤ q → q ≤ k → (s : ℕ) × (windowOf (demand q) ≡ At s)
+  there : (q : ℕ) → 1 ≤ q → q ≤ close → (s : ℕ) × (windowOf (demand q) ≡ At s)
   there q l h =
       ⊎-elim (λ e. (t, ap (λ p. windowOf (demand p)) e ∙ c .last)) (λ m. let r = c .reach q l m in (r .0, r .1)) (eq-or-lt-of-le h)
 
-  up : (n q s : ℕ) → q + n ≡ k → 1 ≤ q → windowOf (demand q) ≡ At s → s ≤ t
+  up : (n q s : ℕ) → q + n ≡ close → 1 ≤ q → windowOf (demand q) ≡ At s → s ≤ t
   up zero q s e l f =
-      let g : q ≡ k = omega arith in
+      let g : q ≡ close = omega arith in
       let same : At s ≡ At t = sym f ∙ ap (λ p. windowOf (demand p)) g ∙ c .last in
       let x : s ≡ t = cc in le-of-eq x
   up (suc n) q s e l f =
       let r = there (q + 1) (omega arith) (omega arith) in
       le-trans (rises q s (r .0) l f (r .1)) (up n (q + 1) (r .0) (omega arith) (omega arith) (r .1))
 
-  behind : (q s : ℕ) → 1 ≤ q → q ≤ k → windowOf (demand q) ≡ At s → δ ds q ≤ s
+  behind : (q s : ℕ) → 1 ≤ q → q ≤ close → windowOf (demand q) ≡ At s → δ ds q ≤ s
   behind zero s l h f = absurd (omega arith)
   behind (suc zero) s l h f = omega (arith, δ-one good)
   behind (suc (suc p)) s l h f =
@@ -130,7 +130,7 @@ module _ {demand : ℕ → ℕ → ℕ} {ds : List ℕ} (growing : Growing deman
       let e : suc p + 1 ≡ suc (suc p) = omega arith in
       omega (arith, r .2, ap (δ ds) e, rises (suc p) (r .0) s (omega arith) (r .1) (ap (λ q. windowOf (demand q)) e ∙ f))
 
-  pub windows-there : (q : ℕ) → 1 ≤ q → q ≤ k → (s : ℕ) × (windowOf (demand q) ≡ At s) × (δ ds q ≤ s) × (s ≤ t)
+  pub windows-there : (q : ℕ) → 1 ≤ q → q ≤ close → (s : ℕ) × (windowOf (demand q) ≡ At s) × (δ ds q ≤ s) × (s ≤ t)
   windows-there q l h =
       let r = there q l h in
-      (r .0, r .1, behind q (r .0) l h (r .1), up (k - q) q (r .0) (omega arith) l (r .1))
+      (r .0, r .1, behind q (r .0) l h (r .1), up (close - q) q (r .0) (omega arith) l (r .1))

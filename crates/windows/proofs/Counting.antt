@@ -12,27 +12,28 @@ use Rattle.table.specs.Limits.{maxChains}
 use Rattle.arrivals.specs.Arrivals.{η}
 use Rattle.table.specs.code.Good.{GoodDistances}
 use Rattle.arrivals.proofs.Counts.{η-mono}
-use Rattle.windows.specs.code.Load.{Load, heldAt, Behind, Counted, Sound}
+use Rattle.windows.specs.code.Load.{Load, heldAt, Sound}
+use Rattle.windows.specs.code.Climb.{Behind, Counted}
 
-module _ {s places : List ℕ} where
+module _ {s held : List ℕ} where
   -- the chain i is counted too
-  pub behind-next : {i n t : ℕ} {counts : List ℕ} → Behind s places i n t counts → i < n → n ≤ maxChains
-      → (count : ℕ) → count ≡ η (heldAt s places i) t → Behind s places (i + 1) n t (set counts i count)
+  pub behind-next : {i n t : ℕ} {counts : List ℕ} → Behind s held i n t counts → i < n → n ≤ maxChains
+      → (count : ℕ) → count ≡ η (heldAt s held i) t → Behind s held (i + 1) n t (set counts i count)
   behind-next {i} {n} {t} {counts} b h few count e =
       let within : i < length counts = omega (arith, b .size) in
-      let same : getD (set counts i count) i 0 ≡ η (heldAt s places i) t = getD-set-same counts i count 0 within ∙ e in
+      let same : getD (set counts i count) i 0 ≡ η (heldAt s held i) t = getD-set-same counts i count 0 within ∙ e in
       record {
         size = length-set counts i count ∙ b .size;
-        all = λ j k. ⊎-elim (λ e. subst (λ m. getD (set counts i count) m 0 ≡ η (heldAt s places m) t) (sym e) same)
+        all = λ j k. ⊎-elim (λ e. subst (λ m. getD (set counts i count) m 0 ≡ η (heldAt s held m) t) (sym e) same)
             (λ l. getD-set-other counts i j count 0 (λ q. omega (arith, l, q)) ∙ b .all j l) (eq-or-lt-of-le (let l : j ≤ i = omega arith in l));
         rest = λ j k. ⊎-elim (λ l. le-trans (le-of-eq (getD-set-other counts i j count 0 (λ q. omega (arith, l, q)))) (b .rest j k))
-            (λ l. ⊎-elim (λ z. subst (λ m. getD (set counts i count) m 0 ≤ η (heldAt s places m) t) z (le-of-eq same))
+            (λ l. ⊎-elim (λ z. subst (λ m. getD (set counts i count) m 0 ≤ η (heldAt s held m) t) z (le-of-eq same))
             (λ z. le-trans (le-of-eq (getD-set-other counts i j count 0 (λ q. omega (arith, z, q)))) (b .rest j k)) (eq-or-lt-of-le l)) (lt-or-le j i);
       }
 
   -- a later t has no fewer arrivals
-  pub behind-later : {n t u : ℕ} {counts : List ℕ} → Behind s places n n t counts → ((j : ℕ) → j < n → GoodDistances (heldAt s places j)) → t ≤ u
-      → Behind s places 0 n u counts
+  pub behind-later : {n t u : ℕ} {counts : List ℕ} → Behind s held n n t counts → ((j : ℕ) → j < n → GoodDistances (heldAt s held j)) → t ≤ u
+      → Behind s held 0 n u counts
   behind-later b good h =
       record {
         size = b .size;
@@ -41,7 +42,7 @@ module _ {s places : List ℕ} where
       }
 
   -- the chain's own count stands past them
-  pub behind-own : {n t : ℕ} {counts : List ℕ} → Behind s places 0 n t counts → n ≤ maxChains → (count : ℕ) → Behind s places 0 n t (set counts maxChains count)
+  pub behind-own : {n t : ℕ} {counts : List ℕ} → Behind s held 0 n t counts → n ≤ maxChains → (count : ℕ) → Behind s held 0 n t (set counts maxChains count)
   behind-own {counts = counts} b few count =
       record {
         size = length-set counts maxChains count ∙ b .size;

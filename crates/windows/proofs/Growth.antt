@@ -4,7 +4,6 @@ use mathlib.Core.List.{List}
 use mathlib.Core.Bool.{Bool, true, false}
 use native.Mathlib.Omega.{arith}
 use native.Mathlib.Nat.{mul-le-mul-right, mul-pos, le-refl}
-use lib.ListN.{getD}
 use Rattle.search.specs.Choice.{_when_else_}
 use Rattle.search.specs.Lists.{All}
 use Rattle.search.proofs.Choice.{when-cases}
@@ -19,7 +18,7 @@ use Rattle.segments.specs.Tasks.{chainCost}
 use Rattle.segments.specs.View.{View, allOf, dearestOf}
 use Rattle.segments.proofs.Bounds.{own-less}
 use Rattle.windows.specs.Demand.{asynchronous, termOf, countedPart, demandOf}
-use Rattle.windows.specs.code.Load.{Load, heldOf, Held, ownOf, demandIn, Sound}
+use Rattle.windows.specs.code.Load.{Load, heldRate, heldOf, Held, ownOf, demandIn, Sound}
 use Rattle.windows.proofs.Least.{Grows}
 
 -- a demand for q activations in t that never falls with t, and not with q
@@ -83,21 +82,20 @@ module _ (b : Row) (vs : List View) (good : GoodRow b) (paced : Paced vs) where
   }
 
 -- the same of a demand as the code holds it
-module _ (s rates places : List ℕ) where
-  pub held-fewer : (n : ℕ) → Held s rates places (suc n) → Held s rates places n
+module _ (s held : List ℕ) where
+  pub held-fewer : (n : ℕ) → Held s held (suc n) → Held s held n
   held-fewer n h = record {
     few = omega (arith, h .few);
-    rates-size = h .rates-size;
-    places-size = h .places-size;
+    size = h .size;
     stands = λ i l. h .stands i (omega arith);
     cheap = λ i l. h .cheap i (omega arith);
   }
 
-  pub held-mono : (n t u : ℕ) → Held s rates places n → t ≤ u → heldOf s rates places n t ≤ heldOf s rates places n u
+  pub held-mono : (n t u : ℕ) → Held s held n → t ≤ u → heldOf s held n t ≤ heldOf s held n u
   unfolding heldOf
   held-mono zero t u h l = le-refl 0
   held-mono (suc n) t u h l =
-      omega (arith, held-mono n t u (held-fewer n h) l, mul-le-mul-right (getD rates n 0) (η-mono (h .stands n (le-refl (suc n)) .good .list) t u l))
+      omega (arith, held-mono n t u (held-fewer n h) l, mul-le-mul-right (heldRate held n) (η-mono (h .stands n (le-refl (suc n)) .good .list) t u l))
 
 pub load-growing : (l : Load) → Sound l → Growing (demandIn l)
 unfolding demandIn
@@ -105,7 +103,7 @@ load-growing l ok = record {
   grows = λ q h. record {
     some = λ t k. omega (arith, mul-pos h (ok .some));
     mono = λ s t k.
-        omega (arith, again-mono q (l .part) _ _ (η-mono (ok .stands .good .list) s t k), held-mono (l .bytes) (l .rates) (l .places) (l .count) s t (ok .held) k);
+        omega (arith, again-mono q (l .part) _ _ (η-mono (ok .stands .good .list) s t k), held-mono (l .bytes) (l .held) (l .count) s t (ok .held) k);
   };
   more = λ q t. omega (arith, again-more q (l .part) (η (ownOf l) t), ok .part);
 }

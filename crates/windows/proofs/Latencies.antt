@@ -38,35 +38,35 @@ module _ (demand : ℕ → ℕ → ℕ) (ds : List ℕ) where
   unfolding latencyTo upTo mostOf
   latency-none = refl
 
-  pub latency-more : (k : ℕ) → latencyTo demand ds (k + 1) ≡ max (latencyTo demand ds k) (latencyAt demand ds (k + 1))
+  pub latency-more : (close : ℕ) → latencyTo demand ds (close + 1) ≡ max (latencyTo demand ds close) (latencyAt demand ds (close + 1))
   unfolding latencyTo upTo mostOf
-  latency-more k = rw add-one (omega arith)
+  latency-more close = rw add-one (omega arith)
 
-  pub latency-near : (k : ℕ) → latencyTo demand ds k ≤ horizon
+  pub latency-near : (close : ℕ) → latencyTo demand ds close ≤ horizon
   unfolding latencyTo latencyAt upTo mostOf
   latency-near zero = zero-le
-  latency-near (suc k) = omega (arith, long-le (demand (suc k)), latency-near k)
+  latency-near (suc close) = omega (arith, long-le (demand (suc close)), latency-near close)
 
   -- it is the greatest of them, and one of them
-  latency-each : (k q : ℕ) → 1 ≤ q → q ≤ k → latencyAt demand ds q ≤ latencyTo demand ds k
+  latency-each : (close q : ℕ) → 1 ≤ q → q ≤ close → latencyAt demand ds q ≤ latencyTo demand ds close
   unfolding latencyTo upTo mostOf
   latency-each zero q l h = absurd (omega arith)
-  latency-each (suc k) q l h =
-      ⊎-elim (λ e. omega (arith, ap (latencyAt demand ds) e)) (λ m. omega (arith, latency-each k q l (omega arith))) (eq-or-lt-of-le h)
+  latency-each (suc close) q l h =
+      ⊎-elim (λ e. omega (arith, ap (latencyAt demand ds) e)) (λ m. omega (arith, latency-each close q l (omega arith))) (eq-or-lt-of-le h)
 
-  latency-some : (k : ℕ) → (q : ℕ) × (1 ≤ q) × (q ≤ suc k) × (latencyAt demand ds q ≡ latencyTo demand ds (suc k))
+  latency-some : (close : ℕ) → (q : ℕ) × (1 ≤ q) × (q ≤ suc close) × (latencyAt demand ds q ≡ latencyTo demand ds (suc close))
   unfolding latencyTo upTo mostOf
   latency-some zero = (1, le-refl 1, le-refl 1, omega arith)
-  latency-some (suc k) =
-      let r = latency-some k in
-      ⊎-elim (λ h. (r .0, r .1, omega (arith, r .2), omega (arith, r .3))) (λ h. (suc (suc k), omega arith, le-refl (suc (suc k)), omega arith))
-      (lt-or-le (latencyAt demand ds (suc (suc k))) (latencyTo demand ds (suc k)))
+  latency-some (suc close) =
+      let r = latency-some close in
+      ⊎-elim (λ h. (r .0, r .1, omega (arith, r .2), omega (arith, r .3))) (λ h. (suc (suc close), omega arith, le-refl (suc (suc close)), omega arith))
+      (lt-or-le (latencyAt demand ds (suc (suc close))) (latencyTo demand ds (suc close)))
 
-  pub latency-greatest : (k : ℕ) → 1 ≤ k → Greatest (λ n. (q : ℕ) × (1 ≤ q) × (q ≤ k) × (latencyAt demand ds q ≡ n)) (latencyTo demand ds k)
+  pub latency-greatest : (close : ℕ) → 1 ≤ close → Greatest (λ n. (q : ℕ) × (1 ≤ q) × (q ≤ close) × (latencyAt demand ds q ≡ n)) (latencyTo demand ds close)
   latency-greatest zero h = absurd (omega arith)
-  latency-greatest (suc k) h = record {
-    holds = latency-some k;
-    above = λ n r. omega (arith, latency-each (suc k) (r .0) (r .1) (r .2), r .3);
+  latency-greatest (suc close) h = record {
+    holds = latency-some close;
+    above = λ n r. omega (arith, latency-each (suc close) (r .0) (r .1) (r .2), r .3);
   }
 
   module _ (deadline : ℕ) where
@@ -74,11 +74,11 @@ module _ (demand : ℕ → ℕ → ℕ) (ds : List ℕ) where
     unfolding lateTo upTo sumOf
     late-none = refl
 
-    pub late-more : (k : ℕ) → lateTo demand ds deadline (k + 1) ≡ lateTo demand ds deadline k + overOf (latencyAt demand ds (k + 1)) deadline
+    pub late-more : (close : ℕ) → lateTo demand ds deadline (close + 1) ≡ lateTo demand ds deadline close + overOf (latencyAt demand ds (close + 1)) deadline
     unfolding lateTo upTo sumOf
-    late-more k = rw add-one (omega arith)
+    late-more close = rw add-one (omega arith)
 
-    pub late-few : (k : ℕ) → lateTo demand ds deadline k ≤ k
+    pub late-few : (close : ℕ) → lateTo demand ds deadline close ≤ close
     unfolding lateTo upTo sumOf
     late-few zero = zero-le
-    late-few (suc k) = omega (arith, over-le (latencyAt demand ds (suc k)) deadline, late-few k)
+    late-few (suc close) = omega (arith, over-le (latencyAt demand ds (suc close)) deadline, late-few close)

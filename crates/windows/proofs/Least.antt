@@ -12,7 +12,7 @@ use Rattle.search.proofs.Choice.{when-yes, when-no, true-not-false, lt-or-le}
 use Rattle.search.proofs.Find.{first-is, first-none, first-hit, first-ge, first-miss}
 use Rattle.table.specs.Limits.{horizon}
 use Rattle.windows.specs.Window.{Solution, WindowOf, within, windowOf}
-use Rattle.windows.specs.code.Load.{Under}
+use Rattle.windows.specs.code.Climb.{Under}
 use Rattle.windows.specs.declared.Window.{Window}
 use Rattle.windows.specs.declared.Window.the-variants.{At, Nothing}
 

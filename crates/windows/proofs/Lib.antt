@@ -8,6 +8,7 @@ pub mod Joining
 pub mod Besides
 pub mod Latencies
 pub mod Walks
+pub mod Sweeps
 pub mod Closing
 pub mod Margins
 pub mod Signs

@@ -31,7 +31,7 @@ use Rattle.segments.specs.Segments.{stretches, onward, around, nonempty, cuts, 
 use Rattle.segments.specs.View.{viewOf}
 use Rattle.windows.specs.Demand.{termOf, countedPart, demandOf, viewsOf}
 use Rattle.windows.specs.Window.{windowOf}
-use Rattle.windows.specs.code.Load.{Under}
+use Rattle.windows.specs.code.Climb.{Under}
 use Rattle.windows.specs.Latency.{overOf, marginOf, boundOf, latencyIn, latencyOf}
 use Rattle.windows.specs.declared.Windows.{Windows}
 use Rattle.windows.specs.declared.Window.the-variants.{At, Nothing}

@@ -16,16 +16,6 @@ use Rattle.segments.proofs.Views.{alike-all, alike-dearest}
 use Rattle.windows.specs.Demand.{termOf, demandOf, typical}
 use Rattle.windows.specs.Latency.{boundOf}
 
--- no order of the views moves the demand, and so no figure
-module _ {vs ws : List View} (p : List·Permᴰ vs ws) (b : Row) where
-  pub perm-demand : demandOf b vs ≡ demandOf b ws
-  unfolding demandOf
-  perm-demand = fun-ext (λ q. fun-ext (λ t. omega (arith, perm-sum (λ v. termOf v t) p)))
-
-  pub perm-bound : boundOf b vs ≡ boundOf b ws
-  unfolding boundOf
-  perm-bound = rw perm-demand
-
 pub alike-term : {v w : View} → Alike v w → (t : ℕ) → termOf v t ≡ termOf w t
 unfolding termOf
 alike-term s t = rw (s .list, s .free, s .kind, s .first, alike-all s, alike-dearest s)

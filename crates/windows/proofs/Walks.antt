@@ -15,8 +15,8 @@ use Rattle.arrivals.specs.Arrivals.{δ}
 use Rattle.table.specs.code.Good.{GoodDistances}
 use Rattle.arrivals.proofs.Distances.{δ-one}
 use Rattle.windows.specs.Window.{Solution, windowOf}
-use Rattle.windows.specs.code.Load.{Under}
-use Rattle.windows.specs.Latency.{ends, closeOf, latencyAt, latencyTo, overOf, lateTo, marginOf, refusal, endsWith, windowsOf}
+use Rattle.windows.specs.code.Climb.{Under}
+use Rattle.windows.specs.Latency.{ends, closeOf, latencyAt, latencyTo, overOf, lateTo, marginOf, unbounded, endsWith, windowsOf}
 use Rattle.windows.specs.declared.Window.the-variants.{At, Nothing}
 use Rattle.windows.specs.declared.Windows.{Windows}
 use Rattle.windows.specs.declared.Answer.the-variants.{Figures}
@@ -47,7 +47,7 @@ module _ (demand : ℕ → ℕ → ℕ) (ds : List ℕ) where
         let f : closeOf demand ds ≡ q = first-is _ 1 maxActivations q l (omega arith) e o in
         rw f (when-no _ _ (le-ltb maxActivations q h))
 
-    pub windows-open : Open (maxActivations + 1) → windowsOf demand ds deadline ≡ refusal 17
+    pub windows-open : Open (maxActivations + 1) → windowsOf demand ds deadline ≡ unbounded 17
     unfolding windowsOf closeOf Open
     windows-open o =
         let f : closeOf demand ds ≡ 1 + maxActivations = first-none _ 1 maxActivations o in
@@ -60,7 +60,7 @@ module _ (demand : ℕ → ℕ → ℕ) (ds : List ℕ) where
       pub under : Under (demand (done + 1)) start
       pub next : behind ≡ δ ds (done + 1)
       pub ahead : behind ≤ start
-      pub longest : latency ≡ latencyTo demand ds done
+      pub greatest : latency ≡ latencyTo demand ds done
       pub count : late ≡ lateTo demand ds deadline done
       pub still : Open (done + 1)
 
@@ -70,19 +70,19 @@ module _ (demand : ℕ → ℕ → ℕ) (ds : List ℕ) where
       under = under-one (demand 1);
       next = sym (δ-one good);
       ahead = zero-le;
-      longest = latency-none demand ds;
+      greatest = latency-none demand ds;
       count = late-none demand ds deadline;
       still = open-one;
     }
 
     module _ (growing : Growing demand) {done start behind latency late : ℕ} (w : Walk done start behind latency late) where
-      pub walk-open : maxActivations ≤ done → refusal 17 ≡ windowsOf demand ds deadline
+      pub walk-open : maxActivations ≤ done → unbounded 17 ≡ windowsOf demand ds deadline
       walk-open h =
           let e : done + 1 ≡ maxActivations + 1 = omega (arith, w .some) in
           sym (windows-open (subst Open e (w .still)))
 
       module _ (turn : done < maxActivations) where
-        pub walk-none : windowOf (demand (done + 1)) ≡ Nothing → refusal 16 ≡ windowsOf demand ds deadline
+        pub walk-none : windowOf (demand (done + 1)) ≡ Nothing → unbounded 16 ≡ windowsOf demand ds deadline
         walk-none e =
             sym (windows-end (done + 1) (omega arith) (omega arith) (ap (λ x. ends x (δ ds (done + 1 + 1))) e) (w .still)
             ∙ ap (endsWith demand ds deadline (done + 1)) e)
@@ -101,7 +101,7 @@ module _ (demand : ℕ → ℕ → ℕ) (ds : List ℕ) where
             here = ap (λ x. t - x) (w .next) ∙ sym (latency-is demand ds (done + 1) t at)
 
             longer : best ≡ latencyTo demand ds (done + 1)
-            longer = b ∙ ap₂ max (w .longest) here ∙ sym (latency-more demand ds done)
+            longer = b ∙ ap₂ max (w .greatest) here ∙ sym (latency-more demand ds done)
 
             later : late + more ≡ lateTo demand ds deadline (done + 1)
             later = ap₂ _+_ (w .count) (m ∙ ap (λ n. overOf n deadline) here) ∙ sym (late-more demand ds deadline done)
@@ -132,7 +132,7 @@ module _ (demand : ℕ → ℕ → ℕ) (ds : List ℕ) where
                     (window-under (demand (done + 1)) (growing .grows (done + 1) (omega arith)) t at);
                 next = n;
                 ahead = omega arith;
-                longest = longer;
+                greatest = longer;
                 count = later;
                 still = open-more (done + 1) (w .still)
                     (λ e. omega (arith, leb-true t (δ ds (done + 1 + 1)) (sym (ap (λ x. ends x (δ ds (done + 1 + 1))) at) ∙ e)));

@@ -34,12 +34,12 @@ countedPart b = ownPart b when asynchronous (b .kind) else 0
 unfoldable pub demandOf : Row → List View → ℕ → ℕ → ℕ
 demandOf b others q t = q * chainCost b + (η (distances b) t - q) * countedPart b + sumOf (λ v. termOf v t) others
 
--- every chain of a table but the chain k, in table order, and the views that k has of them
+-- every chain of a table but that one, in table order, and the views that it has of them
 abbrev pub others : Table → ℕ → List Row
-others t k = take k (rows t) ++ drop (k + 1) (rows t)
+others t chain = take chain (rows t) ++ drop (chain + 1) (rows t)
 
 unfoldable pub viewsOf : Table → ℕ → List View
-viewsOf t k = map (λ a. viewOf a (rowOf t k)) (others t k)
+viewsOf t chain = map (λ a. viewOf a (rowOf t chain)) (others t chain)
 
 -- the views of chains without overload mark
 unfoldable pub typical : List View → List View

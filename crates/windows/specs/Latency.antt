@@ -6,7 +6,7 @@ use lib.Dec.{eqb, ltb, leb}
 use lib.IntN.{ℤ, pos, _-ℤ_}
 use Rattle.search.specs.Choice.{_when_else_}
 use Rattle.search.specs.Find.{first}
-use Rattle.search.specs.Lists.{sumOf, mostOf}
+use Rattle.search.specs.Lists.{sumOf, mostOf, some}
 use Rattle.table.specs.Limits.{maxActivations}
 use Rattle.table.specs.Find.{rowOf, findOf}
 use Rattle.table.specs.Read.{byVerdict, readTable, tableOf}
@@ -41,54 +41,64 @@ closeOf demand ds = first (λ q. ends (windowOf (demand q)) (δ ds (q + 1))) 1 m
 unfoldable pub latencyAt : (ℕ → ℕ → ℕ) → List ℕ → ℕ → ℕ
 latencyAt demand ds q = long (windowOf (demand q)) - δ ds q
 
--- the activations up to k
+-- the activations up to one of them
 unfoldable pub upTo : ℕ → List ℕ
 upTo zero = []
-upTo (suc k) = suc k ∷ upTo k
+upTo (suc q) = suc q ∷ upTo q
 
--- latency: the greatest B(q) − δ(q), q ≤ k
+-- latency: the greatest B(q) − δ(q), q ≤ K, where K is `close`
 unfoldable pub latencyTo : (ℕ → ℕ → ℕ) → List ℕ → ℕ → ℕ
-latencyTo demand ds k = mostOf (latencyAt demand ds) (upTo k)
+latencyTo demand ds close = mostOf (latencyAt demand ds) (upTo close)
 
 -- late: how many of them exceed the deadline
 abbrev pub overOf : ℕ → ℕ → ℕ
 overOf x deadline = 1 when ltb deadline x else 0
 
 unfoldable pub lateTo : (ℕ → ℕ → ℕ) → List ℕ → ℕ → ℕ → ℕ
-lateTo demand ds deadline k = sumOf (λ q. overOf (latencyAt demand ds q) deadline) (upTo k)
+lateTo demand ds deadline close = sumOf (λ q. overOf (latencyAt demand ds q) deadline) (upTo close)
+
+-- whether one of them exceeds it; a window that is not there is past the horizon, and so longer than any limit
+abbrev pub longer : Window → ℕ → Bool
+longer (At t) limit = ltb limit t
+longer Nothing limit = true
+
+abbrev pub anyOver : (ℕ → ℕ → ℕ) → List ℕ → ℕ → ℕ → Bool
+anyOver demand ds deadline close = some (λ q. longer (windowOf (demand q)) (δ ds q + deadline)) (upTo close)
 
 -- margin: deadline minus latency, signed
 abbrev pub marginOf : ℕ → ℕ → ℤ
 marginOf deadline latency = pos deadline -ℤ pos latency
 
 -- a refusal has no last window
-abbrev pub refusal : ℕ → Windows
-refusal n = record { answer = Refused n; last = 0 }
+abbrev pub unbounded : ℕ → Windows
+unbounded n = record { answer = Refused n; last = 0 }
 
--- what the windows give where they end at k, and B(k) is the last
+-- what the windows give where they end at `close`, and its window is the last
 abbrev pub endsWith : (ℕ → ℕ → ℕ) → List ℕ → ℕ → ℕ → Window → Windows
-endsWith demand ds deadline k Nothing = refusal 16
-endsWith demand ds deadline k (At t) =
+endsWith demand ds deadline close Nothing = unbounded 16
+endsWith demand ds deadline close (At t) =
     record {
-      answer = Figures k (latencyTo demand ds k) (lateTo demand ds deadline k) (marginOf deadline (latencyTo demand ds k));
+      answer = Figures close (latencyTo demand ds close) (lateTo demand ds deadline close) (marginOf deadline (latencyTo demand ds close));
       last = t;
     }
 
 -- no solution, 16; q = 1,024 still open, 17
 unfoldable pub windowsOf : (ℕ → ℕ → ℕ) → List ℕ → ℕ → Windows
 windowsOf demand ds deadline =
-    refusal 17 when ltb maxActivations (closeOf demand ds) else
+    unbounded 17 when ltb maxActivations (closeOf demand ds) else
     endsWith demand ds deadline (closeOf demand ds) (windowOf (demand (closeOf demand ds)))
 
 -- every figure of b is a function of its row and its views of the others
 unfoldable pub boundOf : Row → List View → Windows
 boundOf b others = windowsOf (demandOf b others) (distances b) (b .deadline)
 
+-- those of a chain of a table, by its number there
+abbrev pub boundAt : Table → ℕ → Windows
+boundAt t chain = boundOf (rowOf t chain) (viewsOf t chain)
+
 -- the chain with the id, 12 if there is none
 unfoldable pub latencyIn : Table → ℕ → Answer
-latencyIn t id =
-    Refused 12 when eqb (findOf t id) (t .count) else
-    boundOf (rowOf t (findOf t id)) (viewsOf t (findOf t id)) .answer
+latencyIn t id = Refused 12 when eqb (findOf t id) (t .count) else boundAt t (findOf t id) .answer
 
 -- what the latency query answers for the chain with the id, of a stored table, whose own refusals come first
 unfoldable pub latencyOf : List ℕ → ℕ → Answer
@@ -96,9 +106,9 @@ latencyOf s id = byVerdict Refused (readTable s .verdict) (latencyIn (tableOf s)
 
 -- document 01's number for each answer, 0 or the refusal, and its values: K, latency, late, margin, or none
 abbrev pub numberOf : Answer → ℕ
-numberOf (Figures k latency late margin) = 0
+numberOf (Figures close latency late margin) = 0
 numberOf (Refused n) = n
 
 abbrev pub valuesOf : Answer → List ℤ
-valuesOf (Figures k latency late margin) = pos k ∷ pos latency ∷ pos late ∷ margin ∷ []
+valuesOf (Figures close latency late margin) = pos close ∷ pos latency ∷ pos late ∷ margin ∷ []
 valuesOf (Refused n) = []

@@ -4,18 +4,15 @@ use crate::Window;
 use arrivals::eta_from;
 use table::Table;
 ghost use mathlib.Core.Path.{_≡_};
-ghost use Prim.Native.Nat.{ℕ, _-_, _≤_};
+ghost use Prim.Native.Nat.{_-_, _≤_};
 ghost use lib.Dec.{eqb};
-ghost use lib.ListN.{getD};
 ghost use Rattle.search.specs.Choice.{_when_else_};
-ghost use Rattle.table.specs.Limits.{horizon, maxActivations, maxChains};
+ghost use Rattle.table.specs.Limits.{horizon};
 ghost use Rattle.table.specs.Record.{rowAt, distances};
 ghost use Rattle.table.specs.code.Taken.{Stands};
 ghost use Rattle.arrivals.specs.Arrivals.{η};
-ghost use Rattle.windows.specs.Window.{windowOf};
-ghost use Rattle.windows.specs.code.Load.{Under};
-ghost use Rattle.windows.specs.code.Load.{loadOf, heldOf, Held, Behind, Counted, demandIn, Sound};
-ghost use Rattle.windows.specs.declared.Window.the-variants.{At};
+ghost use Rattle.windows.specs.code.Load.{loadOf, heldOf, Held};
+ghost use Rattle.windows.specs.code.Climb.{Behind, CountsHeld, Climbs, Climbed};
 
 // How far a is past b, 0 if it is not.
 fn past(a: u64, b: u64) -> u64
@@ -36,23 +33,22 @@ fn own_count(s: &[u8], at: usize, part: u64, t: u64, before: u64) -> u64
 }
 
 // What the n chains held add in t. Each one's arrivals are counted on from those counted before.
-fn held(
+fn held_sum(
     s: &[u8],
-    rates: &[u64; Table::CHAINS],
-    places: &[usize; Table::CHAINS],
+    held: &[u64; Own::HELD],
     n: usize,
     t: u64,
     counts: &mut [u64; Own::COUNTS],
 ) -> u64
-    requires { ⌜ Held (now s) (now rates) (now places) n × (t ≤ horizon) × Behind (now s) (now places) 0 n t (now counts) ⌝ }
-    ensures { λ r. ⌜ (r ≡ heldOf (now (s .entry)) (now (rates .entry)) (now (places .entry)) n t) × Behind (now (s .entry)) (now (places .entry)) n n t (now (counts .exit)) × (getD (now (counts .exit)) maxChains 0 ≡ getD (now (counts .entry)) maxChains 0) ⌝ }
+    requires { ⌜ Held (now s) (now held) n × (t ≤ horizon) × Behind (now s) (now held) 0 n t (now counts) ⌝ }
+    ensures { λ r. ⌜ (r ≡ heldOf (now (s .entry)) (now (held .entry)) n t) × CountsHeld (now (s .entry)) (now (held .entry)) n t (now (counts .entry)) (now (counts .exit)) ⌝ }
 {
     let mut sum: u64 = 0;
     let mut i: usize = 0;
     while i < n {
-        let count = eta_from(s, places[i], t, counts[i]);
+        let count = eta_from(s, held[Table::CHAINS + i] as usize, t, counts[i]);
         counts[i] = count;
-        sum = sum + count * rates[i];
+        sum = sum + count * held[i];
         i += 1;
     }
     sum
@@ -63,14 +59,13 @@ fn held(
 pub fn climb(
     s: &[u8],
     own: Own,
-    rates: &[u64; Table::CHAINS],
-    places: &[usize; Table::CHAINS],
+    held: &[u64; Own::HELD],
     q: u64,
     start: u64,
     counts: &mut [u64; Own::COUNTS],
 ) -> Window
-    requires { ⌜ Sound (loadOf (now s) own (now rates) (now places)) × (1 ≤ q) × (q ≤ maxActivations) × Under (demandIn (loadOf (now s) own (now rates) (now places)) q) start × Counted (loadOf (now s) own (now rates) (now places)) start (now counts) ⌝ }
-    ensures { λ r. ⌜ (r ≡ windowOf (demandIn (loadOf (now (s .entry)) own (now (rates .entry)) (now (places .entry))) q)) × ((t : ℕ) → r ≡ At t → Counted (loadOf (now (s .entry)) own (now (rates .entry)) (now (places .entry))) t (now (counts .exit))) ⌝ }
+    requires { ⌜ Climbs (loadOf (now s) own (now held)) q start (now counts) ⌝ }
+    ensures { λ r. ⌜ Climbed (loadOf (now (s .entry)) own (now (held .entry))) q r (now (counts .exit)) ⌝ }
 {
     let fixed = q * own.cost + own.once;
     let mut t = start;
@@ -78,7 +73,7 @@ pub fn climb(
         let mine = own_count(s, own.at, own.part, t, counts[Table::CHAINS]);
         counts[Table::CHAINS] = mine;
         let more = past(mine, q) * own.part;
-        let d = fixed + more + held(s, rates, places, own.count, t, counts);
+        let d = fixed + more + held_sum(s, held, own.count, t, counts);
         if d == t {
             return Window::At(t);
         }

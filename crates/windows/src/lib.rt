@@ -2,13 +2,13 @@
 mod climbing;
 mod loading;
 mod query;
+mod sweeping;
 mod walking;
 
-pub use climbing::climb;
 pub use loading::load;
 pub use query::bound;
 pub use query::latency;
-pub use query::latency_in;
+pub use sweeping::any_over;
 use table::Table;
 
 // The least t that equals its demand, or none up to the horizon.
@@ -17,10 +17,10 @@ pub enum Window {
     Nothing,
 }
 
-// What the latency query answers: the figures, or the refusal's number.
+// What the latency query answers: the figures, K first, or the refusal's number.
 pub enum Answer {
     Figures {
-        k: u32,
+        close: u32,
         latency: u32,
         late: u32,
         margin: i32,
@@ -34,14 +34,27 @@ pub struct Windows {
     pub last: u64,
 }
 
+// Which other chains of its table add to a chain's demand: all, or those without overload mark.
+pub enum Others {
+    All,
+    Typical,
+}
+
 // What another chain adds in t: η(t) times `rate`, and `once`.
 struct Term {
     rate: u64,
     once: u64,
 }
 
+// The chains of a table from `from` up to `to`, not including it; the record of the first starts at `at`.
+struct Span {
+    at: usize,
+    from: usize,
+    to: usize,
+}
+
 // A chain's own part of its demand: where its record stands, its cost, its own first part (0 if it is synchronous), what the others
-// add once, and how many of them are held: two arrays beside it have each one's rate, and the place of its record.
+// add once, and how many of them are held in an array beside it, because their η counts.
 pub struct Own {
     pub at: usize,
     pub cost: u64,
@@ -51,6 +64,9 @@ pub struct Own {
 }
 
 impl Own {
+    // The numbers of the chains held: of the i-th its rate at i, and the place of its record at CHAINS + i.
+    pub const HELD: usize = 2 * Table::CHAINS;
+
     // How many counts of arrivals a climb keeps: of each chain held, and of the chain itself at last.
-    pub const COUNTS: usize = Table::CHAINS + 1;
+    const COUNTS: usize = Table::CHAINS + 1;
 }

@@ -1,5 +1,7 @@
 // The load of a chain beside the others of its table.
+use crate::Others;
 use crate::Own;
+use crate::Span;
 use crate::Term;
 use segments::ahead;
 use segments::all_cost;
@@ -15,22 +17,19 @@ use table::place;
 use table::record_length;
 use table::tasks_at;
 ghost use mathlib.Core.Path.{_≡_};
-ghost use mathlib.Core.List.{List, [], map};
-ghost use Prim.Native.Nat.{ℕ, _+_, _*_, _-_, _≤_, _<_};
+ghost use mathlib.Core.List.{List, []};
+ghost use Prim.Native.Nat.{ℕ, _*_, _<_};
 ghost use lib.ListN.{length};
-ghost use lib.Seq.{slice};
 ghost use Rattle.table.specs.Limits.{maxChains};
 ghost use Rattle.table.specs.Record.{rowAt};
 ghost use Rattle.table.specs.declared.Row.{Row};
-ghost use Rattle.table.specs.Find.{rowOf, rows};
-ghost use Rattle.table.specs.Place.{placeOf};
+ghost use Rattle.table.specs.Find.{rowOf};
 ghost use Rattle.table.specs.code.Taken.{Taken, Stands};
 ghost use Rattle.table.specs.Read.{tableOf};
 ghost use Rattle.segments.specs.Tasks.{floorOf};
 ghost use Rattle.segments.specs.View.{viewOf};
-ghost use Rattle.windows.specs.Demand.{countedPart, viewsOf};
-ghost use Rattle.windows.specs.code.Load.{most, loadOf, Sound, Joined, Loads, counted, Adds};
-ghost use Rattle.segments.specs.code.Held.{dearest};
+ghost use Rattle.windows.specs.Demand.{countedPart};
+ghost use Rattle.windows.specs.code.Load.{addsTo, viewsAt, viewsFrom, loadOf, Joins, Joined, Loads, Adds};
 
 // What the chain at `a` adds to the demand of a chain with this floor.
 fn term(s: &[u8], a: usize, floor: u32) -> Term
@@ -71,7 +70,7 @@ fn part(s: &[u8], at: usize, floor: u32) -> u64
 // The chain at `at` alone: nothing is held.
 fn alone(s: &[u8], at: usize, floor: u32) -> Own
     requires { ⌜ Stands (now s) at × (floor ≡ floorOf (rowAt (now s) at)) ⌝ }
-    ensures { λ r. ⌜ ((rates places : List ℕ) → length rates ≡ maxChains → length places ≡ maxChains → Loads (rowAt (now (s .entry)) at) [] (loadOf (now (s .entry)) r rates places)) × (r .at ≡ at) ⌝ }
+    ensures { λ r. ⌜ ((held : List ℕ) → length held ≡ 2 * maxChains → Loads (rowAt (now (s .entry)) at) [] (loadOf (now (s .entry)) r held)) × (r .at ≡ at) ⌝ }
 {
     Own {
         at,
@@ -82,36 +81,43 @@ fn alone(s: &[u8], at: usize, floor: u32) -> Own
     }
 }
 
-// The chains from `from`, whose record starts at `start`, up to `to` beside the chain, those with overload mark only where
-// `overload` says so: of each what it adds once, and its rate and place where its η counts.
-fn beside(
-    s: &[u8],
-    start: usize,
-    from: usize,
-    to: usize,
-    floor: u32,
-    overload: bool,
-    own: Own,
-    rates: &mut [u64; Table::CHAINS],
-    places: &mut [usize; Table::CHAINS],
-) -> Own
-    requires { ⌜ Taken (now s) × (start ≡ placeOf (tableOf (now s)) from) × (from ≤ to) × (to ≤ tableOf (now s) .count) × (floor ≡ floorOf (rowAt (now s) (own .at))) × Sound (loadOf (now s) own (now rates) (now places)) × (own .count + (to - from) ≤ maxChains) × (own .once + (to - from) * dearest ≤ most) ⌝ }
-    ensures { λ r. ⌜ Joined (loadOf (now (s .entry)) own (now (rates .entry)) (now (places .entry))) (counted overload (map (λ a. viewOf a (rowAt (now (s .entry)) (own .at))) (slice from to (rows (tableOf (now (s .entry))))))) (loadOf (now (s .entry)) r (now (rates .exit)) (now (places .exit))) ⌝ }
+// Whether a chain with this overload mark is among the others that add.
+fn adds(others: Others, overload: u8) -> bool
+    ensures { λ r. ⌜ r ≡ addsTo others overload ⌝ }
 {
+    match others {
+        Others::All => true,
+        Others::Typical => overload == 0,
+    }
+}
+
+// Those of a span that add beside the chain: of each what it adds once, and its rate and place where its η counts.
+fn join(
+    s: &[u8],
+    span: Span,
+    floor: u32,
+    others: Others,
+    own: Own,
+    held: &mut [u64; Own::HELD],
+) -> Own
+    requires { ⌜ Joins (now s) span floor own (now held) ⌝ }
+    ensures { λ r. ⌜ Joined (loadOf (now (s .entry)) own (now (held .entry))) (viewsFrom others (now (s .entry)) (own .at) span) (loadOf (now (s .entry)) r (now (held .exit))) ⌝ }
+{
+    let to = span.to;
     let mut l = own;
-    let mut at = start;
-    let mut j = from;
-    while j < to {
+    let mut at = span.at;
+    let mut chain = span.from;
+    while chain < to {
         let here = at;
         at = at + record_length(s, at);
-        j += 1;
-        if overload || overload_at(s, here) == 0 {
+        chain += 1;
+        if adds(others, overload_at(s, here)) {
             let x = term(s, here, floor);
             l.once = l.once + x.once;
             if x.rate != 0 {
                 let i = l.count;
-                rates[i] = x.rate;
-                places[i] = here;
+                held[i] = x.rate;
+                held[Table::CHAINS + i] = here as u64;
                 l.count = i + 1;
             }
         }
@@ -119,31 +125,26 @@ fn beside(
     l
 }
 
-// The chain k beside all others of its table, or beside those without overload mark.
-pub fn load(
-    s: &[u8],
-    k: usize,
-    overload: bool,
-    rates: &mut [u64; Table::CHAINS],
-    places: &mut [usize; Table::CHAINS],
-) -> Own
-    requires { ⌜ Taken (now s) × (k < tableOf (now s) .count) × (length (now rates) ≡ maxChains) × (length (now places) ≡ maxChains) ⌝ }
-    ensures { λ r. ⌜ Loads (rowOf (tableOf (now (s .entry))) k) (counted overload (viewsOf (tableOf (now (s .entry))) k)) (loadOf (now (s .entry)) r (now (rates .exit)) (now (places .exit))) × (r .at ≡ placeOf (tableOf (now (s .entry))) k) ⌝ }
+// The chain of that number beside others of its table.
+pub fn load(s: &[u8], chain: usize, others: Others, held: &mut [u64; Own::HELD]) -> Own
+    requires { ⌜ Taken (now s) × (chain < tableOf (now s) .count) × (length (now held) ≡ 2 * maxChains) ⌝ }
+    ensures { λ r. ⌜ Loads (rowOf (tableOf (now (s .entry))) chain) (viewsAt others (tableOf (now (s .entry))) chain) (loadOf (now (s .entry)) r (now (held .exit))) ⌝ }
 {
-    let at = place(s, k);
+    let at = place(s, chain);
     let chains = count(s);
     let floor = floor_of(s, at);
     let own = alone(s, at, floor);
-    let first = beside(s, 0, 0, k, floor, overload, own, rates, places);
-    beside(
-        s,
-        at + record_length(s, at),
-        k + 1,
-        chains,
-        floor,
-        overload,
-        first,
-        rates,
-        places,
-    )
+    let earlier = Span {
+        at: 0,
+        from: 0,
+        to: chain,
+    };
+    let first = join(s, earlier, floor, others, own, held);
+    let next = at + record_length(s, at);
+    let later = Span {
+        at: next,
+        from: chain + 1,
+        to: chains,
+    };
+    join(s, later, floor, others, first, held)
 }

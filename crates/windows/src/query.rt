@@ -1,42 +1,40 @@
 // The latency query: over the bytes of an accepted table, and over any.
 use crate::Answer;
+use crate::Others;
+use crate::Own;
 use crate::Windows;
 use crate::loading::load;
 use crate::walking::walk;
-use table::Table;
 use table::Verdict;
 use table::count;
 use table::find;
 use table::judge;
 ghost use mathlib.Core.Path.{_≡_};
 ghost use Prim.Native.Nat.{_<_};
-ghost use Rattle.table.specs.Find.{rowOf};
 ghost use Rattle.table.specs.code.Taken.{Taken};
 ghost use Rattle.table.specs.Read.{tableOf};
-ghost use Rattle.windows.specs.Demand.{viewsOf};
-ghost use Rattle.windows.specs.Latency.{boundOf, latencyIn, latencyOf};
+ghost use Rattle.windows.specs.Latency.{boundAt, latencyIn, latencyOf};
 
-// What the windows of the chain k give, worked out once for whoever needs it.
-pub fn bound(s: &[u8], k: usize) -> Windows
-    requires { ⌜ Taken (now s) × (k < tableOf (now s) .count) ⌝ }
-    ensures { λ r. ⌜ r ≡ boundOf (rowOf (tableOf (now (s .entry))) k) (viewsOf (tableOf (now (s .entry))) k) ⌝ }
+// What the windows of the chain of that number give, worked out once for whoever needs it.
+pub fn bound(s: &[u8], chain: usize) -> Windows
+    requires { ⌜ Taken (now s) × (chain < tableOf (now s) .count) ⌝ }
+    ensures { λ r. ⌜ r ≡ boundAt (tableOf (now (s .entry))) chain ⌝ }
 {
-    let mut rates = [0u64; Table::CHAINS];
-    let mut places = [0usize; Table::CHAINS];
-    let own = load(s, k, true, &mut rates, &mut places);
-    walk(s, own, &rates, &places)
+    let mut held = [0u64; Own::HELD];
+    let own = load(s, chain, Others::All, &mut held);
+    walk(s, own, &held)
 }
 
 // The answer for the chain with the id, of an accepted table.
-pub fn latency_in(s: &[u8], id: u32) -> Answer
+fn latency_in(s: &[u8], id: u32) -> Answer
     requires { ⌜ Taken (now s) ⌝ }
     ensures { λ r. ⌜ r ≡ latencyIn (tableOf (now (s .entry))) id ⌝ }
 {
-    let k = find(s, id);
-    if k == count(s) {
+    let chain = find(s, id);
+    if chain == count(s) {
         return Answer::Refused(12);
     }
-    let w = bound(s, k);
+    let w = bound(s, chain);
     w.answer
 }
 

@@ -10,9 +10,8 @@ use table::deadline_at;
 ghost use mathlib.Core.Path.{_≡_};
 ghost use Prim.Native.Nat.{max, _≤_};
 ghost use Rattle.table.specs.Limits.{horizon, maxDeadline};
-ghost use Rattle.table.specs.Record.{rowAt};
-ghost use Rattle.windows.specs.Latency.{overOf, marginOf, refusal, windowsOf};
-ghost use Rattle.windows.specs.code.Load.{loadOf, ownOf, demandIn, Sound};
+ghost use Rattle.windows.specs.Latency.{overOf, marginOf, unbounded};
+ghost use Rattle.windows.specs.code.Load.{loadOf, Sound, windowsIn};
 
 fn larger(a: u64, b: u64) -> u64
     ensures { λ r. ⌜ r ≡ max a b ⌝ }
@@ -35,8 +34,9 @@ fn margin(deadline: u32, latency: u32) -> i32
     (deadline as i32) - (latency as i32)
 }
 
+// No figures: the refusal's number alone.
 fn refused(n: u32) -> Windows
-    ensures { λ r. ⌜ r ≡ refusal n ⌝ }
+    ensures { λ r. ⌜ r ≡ unbounded n ⌝ }
 {
     Windows {
         answer: Answer::Refused(n),
@@ -45,14 +45,9 @@ fn refused(n: u32) -> Windows
 }
 
 // Takes q = 1, 2, ..: each window's climb, and its count of arrivals, starts where the window before ended.
-pub fn walk(
-    s: &[u8],
-    own: Own,
-    rates: &[u64; Table::CHAINS],
-    places: &[usize; Table::CHAINS],
-) -> Windows
-    requires { ⌜ Sound (loadOf (now s) own (now rates) (now places)) ⌝ }
-    ensures { λ r. ⌜ r ≡ windowsOf (demandIn (loadOf (now (s .entry)) own (now (rates .entry)) (now (places .entry)))) (ownOf (loadOf (now (s .entry)) own (now (rates .entry)) (now (places .entry)))) (rowAt (now (s .entry)) (own .at) .deadline) ⌝ }
+pub fn walk(s: &[u8], own: Own, held: &[u64; Own::HELD]) -> Windows
+    requires { ⌜ Sound (loadOf (now s) own (now held)) ⌝ }
+    ensures { λ r. ⌜ r ≡ windowsIn (loadOf (now (s .entry)) own (now (held .entry))) ⌝ }
 {
     let at = own.at;
     let deadline = deadline_at(s, at);
@@ -64,7 +59,7 @@ pub fn walk(
     let mut late: u32 = 0;
     while done < Table::ACTIVATIONS {
         let q = done + 1;
-        let w = climb(s, own, rates, places, q as u64, start, &mut counts);
+        let w = climb(s, own, held, q as u64, start, &mut counts);
         let Window::At(t) = w else {
             return refused(16);
         };
@@ -73,13 +68,13 @@ pub fn walk(
         latency = larger(latency, span);
         late = late + over(span, deadline as u64);
         if t <= next {
-            let longest = latency as u32;
+            let greatest = latency as u32;
             return Windows {
                 answer: Answer::Figures {
-                    k: q,
-                    latency: longest,
+                    close: q,
+                    latency: greatest,
                     late,
-                    margin: margin(deadline, longest),
+                    margin: margin(deadline, greatest),
                 },
                 last: t,
             };

@@ -20,8 +20,8 @@ returns c = let a = c .before .before .before .args in
 latency-requires : tie.Need-latency-requires
 latency-requires c κs = search needs
 
-enum-known-k : tie.Need-enum-known-k
-enum-known-k c = search needs
+enum-known-close : tie.Need-enum-known-close
+enum-known-close c = search needs
 
 unsigned-requires : tie.Need-unsigned-requires
 unsigned-requires c κs = search needs
@@ -40,7 +40,7 @@ same-length c = search needs
 
 returns-2 : tie.Need-returns-2
 returns-2 c = let a = c .before .before .before .before .before .before .before .before .before .before .before .before .before .args in
-    let told = c .before .before .before .before .before .before .before .k .given in
+    let told = c .before .before .before .before .before .before .before .close .given in
     let close = told .0 .0 in
     let latency = told .0 .1 .0 in
     let late = told .0 .1 .1 .0 in
@@ -65,7 +65,7 @@ mishtodran-latency-spec =
     (tie.spec
     returns
     latency-requires
-    enum-known-k
+    enum-known-close
     unsigned-requires
     slice-aggregate-put-figures
     put-figures-requires

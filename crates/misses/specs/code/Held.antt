@@ -1,15 +1,25 @@
 -- The active segments of the overload chains as the code holds them.
-use Prim.Native.Nat.{ℕ, zero, suc, _+_, _*_, _-_, _/_, _^_, _≤_, min}
+use Prim.Native.Nat.{ℕ, zero, suc, _+_, _-_, _/_, _^_, _≤_, min}
 use mathlib.Core.List.{List, [], _∷_, map}
+use mathlib.Core.Bool.{Bool, true}
+use lib.Dec.{eqb}
 use lib.ListN.{length, getD, take}
 use Rattle.search.specs.Choice.{_when_else_}
+use Rattle.search.specs.Lists.{every}
+use Rattle.packing.specs.Packing.{bit}
 use mathlib.Core.Path.{_≡_}
 use Rattle.table.specs.Limits.{maxActivations, maxRun, horizon, maxOverloads, maxCapacity}
 use Rattle.table.specs.Record.{pad}
+use Rattle.table.specs.Find.{rowOf}
 use Rattle.table.specs.declared.Row.{Row}
+use Rattle.table.specs.declared.Table.{Table}
 use Rattle.segments.specs.code.Held.{dearest}
+use Rattle.windows.specs.Demand.{viewsOf}
 use Rattle.misses.specs.Overloads.{Overload, Piece, piecesOf, capacitiesOf}
-use Rattle.misses.specs.Sets.{members, allowed, setCost}
+use Rattle.misses.specs.Sets.{members, agree, allowed, setCost}
+use Rattle.misses.specs.Misses.{overloadsOf, byFigures}
+use Rattle.misses.specs.declared.Answer.{Answer}
+use Rattle.misses.specs.declared.Figures.{Figures}
 use Rattle.misses.specs.declared.Pieces.{Pieces}
 
 -- the first six of a list, with 0s for those that it lacks
@@ -46,6 +56,13 @@ piecesAt chains segments costs (suc n) i = pieceAt chains segments costs i ∷ p
 abbrev pub membersAt : List ℕ → List ℕ → List ℕ → ℕ → ℕ → ℕ → List Piece
 membersAt chains segments costs n m i = members (piecesAt chains segments costs (n - i) i) (m / 2 ^ i)
 
+-- whether the one after i others may stand with the one after j others, if that is in the mask m; and with all of m that come after it
+abbrev pub agreesAt : List ℕ → List ℕ → ℕ → ℕ → ℕ → Bool
+agreesAt chains segments m i j = agree (pieceAt chains segments [] i) (pieceAt chains segments [] j) when eqb (bit j m) 1 else true
+
+abbrev pub agreesAfter : List ℕ → List ℕ → List ℕ → ℕ → ℕ → ℕ → Bool
+agreesAfter chains segments costs n m i = every (agree (pieceAt chains segments costs i)) (membersAt chains segments costs n m (i + 1))
+
 -- what a mask costs, 0 where it is no combination
 unfoldable pub priceOf : List Piece → ℕ → ℕ
 priceOf ps m = setCost (members ps m) when allowed ps m else 0
@@ -59,11 +76,15 @@ abbrev pub piecesIn : Pieces → List Piece
 piecesIn p = piecesAt (p .chain) (p .segment) (p .cost) (p .count) 0
 
 -- what the figures of a chain b and a run of k are where nothing was refused before: within their limits
-pub record Asked (b : Row) (k close latency late last : ℕ) : Type 0 where
+pub record Asked (b : Row) (k : ℕ) (f : Figures) : Type 0 where
   pub typical : b .overload ≡ 0
   pub low : 1 ≤ k
   pub high : k ≤ maxRun
-  pub few : close ≤ maxActivations
-  pub near : latency ≤ horizon
-  pub count : late ≤ maxActivations
-  pub end : last ≤ horizon
+  pub few : f .close ≤ maxActivations
+  pub near : f .latency ≤ horizon
+  pub count : f .late ≤ maxActivations
+  pub end : f .last ≤ horizon
+
+-- what they give, of a chain of a table
+abbrev pub figuresAt : Table → ℕ → ℕ → Figures → Answer
+figuresAt t chain k f = byFigures (rowOf t chain) (viewsOf t chain) (overloadsOf t chain) k (f .close) (f .latency) (f .late) (f .last)

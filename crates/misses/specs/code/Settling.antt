@@ -5,20 +5,29 @@ use mathlib.Core.Bool.{Bool, true, false}
 use mathlib.Core.List.{List}
 use lib.Dec.{leb}
 use lib.ListN.{getD}
-use Rattle.table.specs.Limits.{maxOverloads}
-use Rattle.windows.specs.code.Load.{Load, ownOf, demandIn}
+use Rattle.table.specs.Limits.{maxOverloads, maxActivations}
+use Rattle.windows.specs.code.Load.{onceLimit, Load, rowIn, ownOf, demandIn, Sound}
 use Rattle.packing.specs.Packing.{combinations}
 use Rattle.misses.specs.Bad.{over}
 use Rattle.segments.specs.code.Held.{dearest}
 use Rattle.misses.specs.declared.Settled.{Settled}
 
 -- a set that costs so much is bad, by the demand of a load
-abbrev pub overIn : Load → ℕ → ℕ → ℕ → Bool
-overIn l deadline k cost = over (demandIn l) (ownOf l) deadline k cost
+abbrev pub overWith : Load → ℕ → ℕ → Bool
+overWith l close cost = over (demandIn l) (ownOf l) (rowIn l .deadline) close cost
 
 -- no set costs so much
 abbrev pub beyond : ℕ
 beyond = maxOverloads * dearest + 1
+
+abbrev pub NoneBeyond : List ℕ → Type 0
+NoneBeyond costs = (m : ℕ) → m < combinations → getD costs m 0 < beyond
+
+-- what a cost may be tried with: a load that has room for any set's
+pub record Tries (l : Load) (close : ℕ) : Type 0 where
+  pub sound : Sound l
+  pub few : close ≤ maxActivations
+  pub room : l .once + beyond ≤ onceLimit
 
 -- no cost up to `good` is over, and each from `bad` on is, up to what no set costs
 pub record Settles (over : ℕ → Bool) (s : Settled) : Type 0 where

@@ -1,27 +1,61 @@
 -- A demand as the code holds it, and when it's the demand of a chain b beside others.
 use Prim.Native.Nat.{ℕ, zero, suc, _+_, _*_, _-_, _<_, _≤_}
 use mathlib.Core.Path.{_≡_}
-use mathlib.Core.List.{List}
-use mathlib.Core.Bool.{Bool, true, false}
+use mathlib.Core.List.{List, map}
+use mathlib.Core.Bool.{Bool, true}
+use lib.Dec.{eqb}
 use lib.ListN.{length, getD}
+use lib.Seq.{slice}
 use Rattle.search.specs.Lists.{sumOf}
 use Rattle.table.specs.Limits.{maxChains}
 use Rattle.table.specs.Record.{rowAt, distances}
+use Rattle.table.specs.Find.{rows}
+use Rattle.table.specs.Place.{placeOf}
+use Rattle.table.specs.Read.{tableOf}
 use Rattle.table.specs.declared.Row.{Row}
-use Rattle.table.specs.code.Taken.{Stands}
+use Rattle.table.specs.declared.Table.{Table}
+use Rattle.table.specs.code.Taken.{Taken, Stands}
 use Rattle.arrivals.specs.Arrivals.{η}
-use Rattle.segments.specs.View.{View}
+use Rattle.segments.specs.Tasks.{floorOf}
+use Rattle.segments.specs.View.{View, viewOf}
 use Rattle.segments.specs.code.Held.{dearest}
-use Rattle.windows.specs.Demand.{termOf, demandOf, typical}
+use Rattle.windows.specs.Demand.{termOf, demandOf, typical, viewsOf}
+use Rattle.windows.specs.Latency.{windowsOf, anyOver}
+use Rattle.windows.specs.declared.Others.{Others}
+use Rattle.windows.specs.declared.Others.the-variants.{All, Typical}
 use Rattle.windows.specs.declared.Own.{Own}
+use Rattle.windows.specs.declared.Span.{Span}
 use Rattle.windows.specs.declared.Term.{Term}
+use Rattle.windows.specs.declared.Windows.{Windows}
 
 -- all others together, with a set's cost beside them, cost no more
-abbrev pub most : ℕ
-most = 2 * maxChains * dearest
+abbrev pub onceLimit : ℕ
+onceLimit = 2 * maxChains * dearest
+
+-- what is held of chains whose η counts: of the i-th its rate, and the place of its record, which gives its distances
+abbrev pub heldRate : List ℕ → ℕ → ℕ
+heldRate held i = getD held i 0
+
+abbrev pub heldPlace : List ℕ → ℕ → ℕ
+heldPlace held i = getD held (maxChains + i) 0
+
+abbrev pub heldAt : List ℕ → List ℕ → ℕ → List ℕ
+heldAt s held i = distances (rowAt s (heldPlace held i))
+
+-- what the first n of them add in t: η(t) times its rate each
+unfoldable pub heldOf : List ℕ → List ℕ → ℕ → ℕ → ℕ
+heldOf s held zero t = 0
+heldOf s held (suc n) t = heldOf s held n t + η (heldAt s held n) t * heldRate held n
+
+-- n chains are held: each one's record stands in the bytes, and its rate is no more than a chain costs
+pub record Held (s held : List ℕ) (n : ℕ) : Type 0 where
+  pub few : n ≤ maxChains
+  pub size : length held ≡ 2 * maxChains
+  pub stands : (i : ℕ) → i < n → Stands s (heldPlace held i)
+  pub cheap : (i : ℕ) → i < n → heldRate held i ≤ dearest
 
 -- a table's bytes; the chain: the place of its record, its cost, its own first part, 0 if it's synchronous; what the others add
--- once; and of those that add η(t) times a rate, how many there are, their rates, and the places of their records
+-- once; and how many are held beside it, and what is held of them
 pub record Load : Type 0 where
   pub bytes : List ℕ
   pub at : ℕ
@@ -29,78 +63,79 @@ pub record Load : Type 0 where
   pub part : ℕ
   pub once : ℕ
   pub count : ℕ
-  pub rates : List ℕ
-  pub places : List ℕ
+  pub held : List ℕ
 
-abbrev pub loadOf : List ℕ → Own → List ℕ → List ℕ → Load
-loadOf s own rates places =
-    record {
-      bytes = s;
-      at = own .at;
-      cost = own .cost;
-      part = own .part;
-      once = own .once;
-      count = own .count;
-      rates = rates;
-      places = places;
-    }
+abbrev pub loadOf : List ℕ → Own → List ℕ → Load
+loadOf s own held =
+    record { bytes = s; at = own .at; cost = own .cost; part = own .part; once = own .once; count = own .count; held = held }
 
--- the distances of the chain i that is held
-abbrev pub heldAt : List ℕ → List ℕ → ℕ → List ℕ
-heldAt s places i = distances (rowAt s (getD places i 0))
+-- the chain, and its distances
+abbrev pub rowIn : Load → Row
+rowIn l = rowAt (l .bytes) (l .at)
 
--- what the first n chains held add in t: η(t) times its rate each
-unfoldable pub heldOf : List ℕ → List ℕ → List ℕ → ℕ → ℕ → ℕ
-heldOf s rates places zero t = 0
-heldOf s rates places (suc n) t = heldOf s rates places n t + η (heldAt s places n) t * getD rates n 0
-
-pub record Held (s rates places : List ℕ) (n : ℕ) : Type 0 where
-  pub few : n ≤ maxChains
-  pub rates-size : length rates ≡ maxChains
-  pub places-size : length places ≡ maxChains
-  pub stands : (i : ℕ) → i < n → Stands s (getD places i 0)
-  pub cheap : (i : ℕ) → i < n → getD rates i 0 ≤ dearest
-
--- of the first i chains held all arrivals in t are counted, and of the others, up to n, no more than there are
-pub record Behind (s places : List ℕ) (i n t : ℕ) (counts : List ℕ) : Type 0 where
-  pub size : length counts ≡ maxChains + 1
-  pub all : (j : ℕ) → j < i → getD counts j 0 ≡ η (heldAt s places j) t
-  pub rest : (j : ℕ) → j < n → getD counts j 0 ≤ η (heldAt s places j) t
-
--- the chain's own distances
 abbrev pub ownOf : Load → List ℕ
-ownOf l = distances (rowAt (l .bytes) (l .at))
+ownOf l = distances (rowIn l)
 
 -- the demand for q activations in t
 unfoldable pub demandIn : Load → ℕ → ℕ → ℕ
-demandIn l q t = q * l .cost + (η (ownOf l) t - q) * l .part + l .once + heldOf (l .bytes) (l .rates) (l .places) (l .count) t
+demandIn l q t = q * l .cost + (η (ownOf l) t - q) * l .part + l .once + heldOf (l .bytes) (l .held) (l .count) t
 
--- and of the chain's own, at last, no more than there are
-pub record Counted (l : Load) (t : ℕ) (counts : List ℕ) : Type 0 where
-  pub own : getD counts maxChains 0 ≤ η (ownOf l) t
-  pub held : Behind (l .bytes) (l .places) 0 (l .count) t counts
+-- what its windows give, and whether one up to `close` is over the deadline
+abbrev pub windowsIn : Load → Windows
+windowsIn l = windowsOf (demandIn l) (ownOf l) (rowIn l .deadline)
 
+abbrev pub overIn : Load → ℕ → Bool
+overIn l close = anyOver (demandIn l) (ownOf l) (rowIn l .deadline) close
+
+-- its parts are within what a table can hold
 pub record Sound (l : Load) : Type 0 where
   pub stands : Stands (l .bytes) (l .at)
   pub some : 1 ≤ l .cost
   pub cheap : l .cost ≤ dearest
   pub part : l .part ≤ l .cost
-  pub once : l .once ≤ most
-  pub held : Held (l .bytes) (l .rates) (l .places) (l .count)
+  pub once : l .once ≤ onceLimit
+  pub held : Held (l .bytes) (l .held) (l .count)
 
 -- the load with a cost more
-abbrev pub plus : Load → ℕ → Load
-plus l cost =
-    record {
-      bytes = l .bytes;
-      at = l .at;
-      cost = l .cost;
-      part = l .part;
-      once = l .once + cost;
-      count = l .count;
-      rates = l .rates;
-      places = l .places;
-    }
+abbrev pub dearer : Load → ℕ → Load
+dearer l cost =
+    record { bytes = l .bytes; at = l .at; cost = l .cost; part = l .part; once = l .once + cost; count = l .count; held = l .held }
+
+-- which others add: all, or those without overload mark; of views, and of the chains of a table
+abbrev pub addsTo : Others → ℕ → Bool
+addsTo All overload = true
+addsTo Typical overload = eqb overload 0
+
+abbrev pub counted : Others → List View → List View
+counted All vs = vs
+counted Typical vs = typical vs
+
+abbrev pub viewsAt : Others → Table → ℕ → List View
+viewsAt others t chain = counted others (viewsOf t chain)
+
+-- of the chains from `from` up to `to`, and of a span of them as the chain at `at` sees it
+abbrev pub viewsBetween : Others → Table → Row → ℕ → ℕ → List View
+viewsBetween others t b from to = counted others (map (λ a. viewOf a b) (slice from to (rows t)))
+
+abbrev pub viewsFrom : Others → List ℕ → ℕ → Span → List View
+viewsFrom others s at span = viewsBetween others (tableOf s) (rowAt s at) (span .from) (span .to)
+
+-- what a view adds in t, as η(t) times a rate, and a cost once
+pub record Adds (v : View) (x : Term) : Type 0 where
+  pub rate : x .rate ≤ dearest
+  pub once : x .once ≤ dearest
+  pub term : (t : ℕ) → termOf v t ≡ η (v .list) t * x .rate + x .once
+
+-- what is asked for where the chains of a span are to stand beside a load: room for all of them
+pub record Joins (s : List ℕ) (span : Span) (floor : ℕ) (own : Own) (held : List ℕ) : Type 0 where
+  pub taken : Taken s
+  pub start : span .at ≡ placeOf (tableOf s) (span .from)
+  pub order : span .from ≤ span .to
+  pub inside : span .to ≤ tableOf s .count
+  pub floor-is : floor ≡ floorOf (rowAt s (own .at))
+  pub sound : Sound (loadOf s own held)
+  pub few : own .count + (span .to - span .from) ≤ maxChains
+  pub room : own .once + (span .to - span .from) * dearest ≤ onceLimit
 
 -- r is the load l with the chains of these views beside it
 pub record Joined (l : Load) (vs : List View) (r : Load) : Type 0 where
@@ -114,23 +149,7 @@ pub record Joined (l : Load) (vs : List View) (r : Load) : Type 0 where
 -- l is the load of b beside the chains of these views
 pub record Loads (b : Row) (vs : List View) (l : Load) : Type 0 where
   pub sound : Sound l
-  pub own : ownOf l ≡ distances b
+  pub chain : rowIn l ≡ b
   pub count : l .count ≤ length vs
   pub once : l .once ≤ length vs * dearest
   pub demand : (q t : ℕ) → demandIn l q t ≡ demandOf b vs q t
-
--- the views that count: all, or the typical ones alone
-abbrev pub counted : Bool → List View → List View
-counted true vs = vs
-counted false vs = typical vs
-
--- what a view adds in t, as η(t) times a rate, and a cost once
-pub record Adds (v : View) (x : Term) : Type 0 where
-  pub rate : x .rate ≤ dearest
-  pub once : x .once ≤ dearest
-  pub term : (t : ℕ) → termOf v t ≡ η (v .list) t * x .rate + x .once
-
--- where a climb from below may start: under every s in which its demand fits
-pub record Under (d : ℕ → ℕ) (t : ℕ) : Type 0 where
-  pub low : 1 ≤ t
-  pub under : (s : ℕ) → 1 ≤ s → d s ≤ s → t ≤ s

@@ -1,4 +1,4 @@
--- The loop's invariant: an overload chain may start again exactly where one from the chain j on may; that one's record starts at `a`.
+-- The loop's invariant: an overload chain may start again exactly where one from `chain` on may; its record starts at `at`.
 use Prim.Native.Nat.{_+_, _-_, _≤_, _<_}
 use mathlib.Core.Path.{_≡_, refl, ap, sym, _∙_}
 use mathlib.Core.List.{[], _∷_}
@@ -18,22 +18,26 @@ use Rattle.misses.proofs.asking.any_again.Statement.{statement}
 use Rattle.misses.proofs.asking.any_again.Tie as tie
 
 abbrev Inv-loop : tie.InvT-loop
-Inv-loop s t chains a₀ j₀ a j =
-    (j ≤ tableOf s .count) × (a ≡ placeOf (tableOf s) j)
-    × ((b : Row) → some (starts t) (overloads b (drop j (rows (tableOf s)))) ≡ some (starts t) (overloads b (rows (tableOf s))))
+Inv-loop s t chains at₀ chain₀ at chain =
+    (chain ≤ tableOf s .count) × (at ≡ placeOf (tableOf s) chain)
+    × ((b : Row) → some (starts t) (overloads b (drop chain (rows (tableOf s)))) ≡ some (starts t) (overloads b (rows (tableOf s))))
 
 abbrev μ-loop : tie.MeasureT-loop
-μ-loop s t chains a₀ j₀ a j = tableOf s .count - j
+μ-loop s t chains at₀ chain₀ at chain = tableOf s .count - chain
 
--- the chain j is there
-within : (c : tie.In-loop Inv-loop μ-loop) → c .before .loop .j < tableOf (now (c .before .before .before .before .args .s)) .count
+-- the chain is there
+within : (c : tie.In-loop Inv-loop μ-loop) → c .before .loop .chain < tableOf (now (c .before .before .before .before .args .s)) .count
 within c = omega (arith, c .before .before .count .ensures, c .loop-test .taken)
 
 -- whether it may start again
-asked : (c : tie.After-again Inv-loop μ-loop) (b : Row)
-    → c .again .result ≡ some (starts (c .before .before .before .before .before .args .t)) (overloads b (rowOf (tableOf (now (c .before .before .before .before .before .args .s))) (c .before .before .loop .j) ∷ []))
-asked c b =
-    c .again .ensures b ∙ ap (λ r. some (starts (c .before .before .before .before .before .args .t)) (overloads b (r ∷ []))) (row-there (c .before .before .before .before .before .pre .0) (c .before .before .loop .inv .1) (within (c .before)))
+module _ (c : tie.After-again Inv-loop μ-loop) where
+  abbrev start : tie.Start Inv-loop μ-loop
+  start = c .before .before .before .before .before
+
+  asked : (b : Row) → c .again .result ≡ some (starts (start .args .t)) (overloads b (rowOf (tableOf (now (start .args .s))) (c .before .before .loop .chain) ∷ []))
+  asked b =
+      c .again .ensures b
+      ∙ ap (λ r. some (starts (start .args .t)) (overloads b (r ∷ []))) (row-there (start .pre .0) (c .before .before .loop .inv .1) (within (c .before)))
 
 count-requires : tie.Need-count-requires Inv-loop μ-loop
 count-requires c κs = c .before .pre .0
@@ -48,17 +52,17 @@ returns : tie.Need-returns Inv-loop μ-loop
 returns c b =
     let s = c .before .before .before .before .before .before in
     let l = c .before .before .before .loop in
-    sym (again-here b (tableOf (now (s .args .s))) (s .pre .0 .good) (s .args .t) (l .j) (within (c .before .before)) (sym (asked (c .before) b) ∙ c .if1 .taken))
+    sym (again-here b (tableOf (now (s .args .s))) (s .pre .0 .good) (s .args .t) (l .chain) (within (c .before .before)) (sym (asked (c .before) b) ∙ c .if1 .taken))
     ∙ l .inv .2 b
 
 record-length-requires : tie.Need-record-length-requires Inv-loop μ-loop
 record-length-requires c κs = omega (arith, stands (c .before .before .before .before .before .before .pre .0) (c .before .before .before .loop .inv .1) (within (c .before .before)) .there)
 
-add-a : tie.Need-add-a Inv-loop μ-loop
-add-a c = omega (arith, c .record-length .ensures, stands (c .before .before .before .before .before .before .before .pre .0) (c .before .before .before .before .loop .inv .1) (within (c .before .before .before)) .there)
+add-at : tie.Need-add-at Inv-loop μ-loop
+add-at c = omega (arith, c .record-length .ensures, stands (c .before .before .before .before .before .before .before .pre .0) (c .before .before .before .before .loop .inv .1) (within (c .before .before .before)) .there)
 
-add-j : tie.Need-add-j Inv-loop μ-loop
-add-j c = omega (arith, c .before .before .before .before .before .before .before .pre .0 .good .few, within (c .before .before .before))
+add-chain : tie.Need-add-chain Inv-loop μ-loop
+add-chain c = omega (arith, c .before .before .before .before .before .before .before .pre .0 .good .few, within (c .before .before .before))
 
 loop-less : tie.Need-loop-less Inv-loop μ-loop
 loop-less c = omega (arith, within (c .before .before .before))
@@ -69,8 +73,8 @@ loop-again c =
     let l = c .before .before .before .before .loop in
     let h = within (c .before .before .before) in (
       omega (arith, h),
-      ap (λ n. l .a + n) (c .record-length .ensures) ∙ place-next (s .pre .0) (l .inv .1) h,
-      λ b. sym (again-later b (tableOf (now (s .args .s))) (s .pre .0 .good) (s .args .t) (l .j) h (sym (asked (c .before .before) b) ∙ c .before .if1 .left))
+      ap (λ n. l .at + n) (c .record-length .ensures) ∙ place-next (s .pre .0) (l .inv .1) h,
+      λ b. sym (again-later b (tableOf (now (s .args .s))) (s .pre .0 .good) (s .args .t) (l .chain) h (sym (asked (c .before .before) b) ∙ c .before .if1 .left))
           ∙ l .inv .2 b,
     )
 
@@ -78,7 +82,7 @@ returns-2 : tie.Need-returns-2 Inv-loop μ-loop
 returns-2 c b =
     let s = c .before .before .before .before in
     let l = c .before .loop in
-    sym (again-past b (tableOf (now (s .args .s))) (s .pre .0 .good) (s .args .t) (l .j) (omega (arith, c .before .before .count .ensures, c .loop-test .left)))
+    sym (again-past b (tableOf (now (s .args .s))) (s .pre .0 .good) (s .args .t) (l .chain) (omega (arith, c .before .before .count .ensures, c .loop-test .left)))
     ∙ l .inv .2 b
 
 pub any-again-spec : {M : Type 1} → statement M
@@ -92,8 +96,8 @@ any-again-spec =
     again-requires
     returns
     record-length-requires
-    add-a
-    add-j
+    add-at
+    add-chain
     loop-less
     loop-again
     returns-2)

@@ -1,39 +1,47 @@
 -- A chain was found, or none bears the id.
 use mathlib.Core.Path.{_≡_, ap, sym, _∙_}
 use native.Mathlib.Omega.{arith}
-use Prim.Native.Nat.{_<_}
+use Prim.Native.Nat.{ℕ, _<_}
 use denote.Ref.{now}
 use Rattle.table.specs.Find.{rowOf}
 use Rattle.table.specs.declared.Table.{Table}
 use Rattle.table.specs.Read.{tableOf}
 use Rattle.table.proofs.Finds.{find-le}
 use Rattle.table.proofs.Stands.{row-there, stands}
-use Rattle.windows.specs.Demand.{others, viewsOf}
-use Rattle.misses.specs.Overloads.{overloads}
-use Rattle.misses.specs.Misses.{earlyOf, byBound, missesAt, missesIn}
+use Rattle.misses.specs.Misses.{earlyOf, missesAt, missesIn}
 use Rattle.misses.specs.declared.Answer.the-variants.{Refused}
-use Rattle.misses.proofs.Answers.{at-early, at-bound, chain-none, chain-found}
+use Rattle.misses.proofs.Answers.{at-early, chain-none, chain-found}
 use Rattle.misses.proofs.asking.misses_in.Statement.{statement}
 use Rattle.misses.proofs.asking.misses_in.Tie as tie
 
 abbrev t : tie.Start → Table
 t s = tableOf (now (s .args .s))
 
--- the chain is there
-there : (c : tie.Else1) → c .before .before .find .result < t (c .before .before .before .before) .count
-there c = let s = c .before .before .before .before in omega (arith, find-le (t s) (s .args .id), c .before .before .find .ensures, c .before .count .ensures, c .if1 .left)
+-- a chain bears the id
+module _ (c : tie.Else1) where
+  abbrev start : tie.Start
+  start = c .before .before .before .before
 
--- and what is asked is asked of it
-found : (c : tie.Else1) → missesAt (t (c .before .before .before .before)) (c .before .before .find .result) (c .before .before .before .before .args .k) ≡ missesIn (t (c .before .before .before .before)) (c .before .before .before .before .args .id) (c .before .before .before .before .args .k)
-found c =
-    let s = c .before .before .before .before in
-    let f = c .before .before .find .ensures in
-    ap (λ j. missesAt (t s) j (s .args .k)) f
-    ∙ sym (chain-found (t s) (s .args .id) (s .args .k) (λ e. c .if1 .left (f ∙ e ∙ sym (c .before .count .ensures))))
+  abbrev chain : ℕ
+  chain = c .before .before .find .result
+
+  there : chain < t start .count
+  there = omega (arith, find-le (t start) (start .args .id), c .before .before .find .ensures, c .before .count .ensures, c .if1 .left)
+
+  -- and what is asked is asked of it
+  found : missesAt (t start) chain (start .args .k) ≡ missesIn (t start) (start .args .id) (start .args .k)
+  found =
+      let f = c .before .before .find .ensures in
+      ap (λ j. missesAt (t start) j (start .args .k)) f
+      ∙ sym (chain-found (t start) (start .args .id) (start .args .k) (λ e. c .if1 .left (f ∙ e ∙ sym (c .before .count .ensures))))
 
 -- what is refused of it before any window
-judged : (c : tie.After-early) → c .early .result ≡ earlyOf (rowOf (t (c .before .before .before .before .before .before)) (c .before .before .before .before .find .result)) (c .before .before .before .before .before .before .args .k)
-judged c = c .early .ensures ∙ ap (λ r. earlyOf r (c .before .before .before .before .before .before .args .k)) (row-there (c .before .before .before .before .before .before .pre) (c .before .place .ensures) (there (c .before .before)))
+module _ (c : tie.After-early) where
+  abbrev known : tie.Else1
+  known = c .before .before
+
+  judged : c .early .result ≡ earlyOf (rowOf (t (start known)) (chain known)) (start known .args .k)
+  judged = c .early .ensures ∙ ap (λ r. earlyOf r (start known .args .k)) (row-there (start known .pre) (c .before .place .ensures) (there known))
 
 find-requires : tie.Need-find-requires
 find-requires c κs = c .before .pre
@@ -47,31 +55,27 @@ returns c =
     sym (chain-none (t s) (s .args .id) (s .args .k) (sym (c .before .before .find .ensures) ∙ c .if1 .taken ∙ c .before .count .ensures))
 
 place-requires : tie.Need-place-requires
-place-requires c κs = (c .before .before .before .before .pre, omega (arith, there c))
+place-requires c κs = (start c .pre, omega (arith, there c))
 
 early-requires : tie.Need-early-requires
-early-requires c κs = omega (arith, stands (c .before .before .before .before .before .pre) (c .place .ensures) (there (c .before)) .there)
+early-requires c κs = omega (arith, stands (start (c .before) .pre) (c .place .ensures) (there (c .before)) .there)
 
 returns-2 : tie.Need-returns-2
 returns-2 c =
-    let s = c .before .before .before .before .before .before .before in
+    let d = known (c .before) in
     let e = judged (c .before) in
-    ap Refused e ∙ sym (at-early (t s) (c .before .before .before .before .before .find .result) (s .args .k) (λ z. c .if2 .taken (e ∙ z))) ∙ found (c .before .before .before)
+    ap Refused e ∙ sym (at-early (t (start d)) (chain d) (start d .args .k) (λ z. c .if2 .taken (e ∙ z))) ∙ found d
 
 bound-requires : tie.Need-bound-requires
-bound-requires c κs = (c .before .before .before .before .before .before .before .pre, there (c .before .before .before))
+bound-requires c κs = let d = known (c .before) in (start d .pre, there d)
 
 by-bound-requires : tie.Need-by-bound-requires
-by-bound-requires c κs = (c .before .before .before .before .before .before .before .before .pre, there (c .before .before .before .before), sym (judged (c .before .before)) ∙ c .before .if2 .left, c .bound .ensures)
+by-bound-requires c κs =
+    let d = known (c .before .before) in
+    (start d .pre, there d, sym (judged (c .before .before)) ∙ c .before .if2 .left, c .bound .ensures)
 
 returns-3 : tie.Need-returns-3
-returns-3 c =
-    let s = c .before .before .before .before .before .before .before .before .before in
-    let at = c .before .before .before .before .before .before .before .find .result in
-    let b = rowOf (t s) at in
-    c .by-bound .ensures
-    ∙ ap (λ w. byBound b (viewsOf (t s) at) (overloads b (others (t s) at)) (s .args .k) (w .answer) (w .last)) (c .before .bound .ensures)
-    ∙ sym (at-bound (t s) at (s .args .k) (sym (judged (c .before .before .before)) ∙ c .before .before .if2 .left)) ∙ found (c .before .before .before .before .before)
+returns-3 c = c .by-bound .ensures ∙ found (c .before .before .before .before .before)
 
 pub misses-in-spec : {M : Type 1} → statement M
 misses-in-spec =

@@ -6,11 +6,9 @@ use Rattle.table.specs.Find.{rowOf}
 use Rattle.table.specs.declared.Table.{Table}
 use Rattle.table.specs.Read.{tableOf}
 use Rattle.table.proofs.Stands.{row-there, stands}
-use Rattle.windows.specs.Demand.{others, viewsOf}
-use Rattle.misses.specs.Overloads.{overloads}
-use Rattle.misses.specs.Misses.{earlyOf, byBound}
+use Rattle.misses.specs.Misses.{earlyOf}
 use Rattle.misses.specs.declared.Answer.the-variants.{Refused}
-use Rattle.misses.proofs.Answers.{at-early, at-bound}
+use Rattle.misses.proofs.Answers.{at-early}
 use Rattle.misses.proofs.asking.misses_with.Statement.{statement}
 use Rattle.misses.proofs.asking.misses_with.Tie as tie
 
@@ -18,7 +16,7 @@ abbrev t : tie.Start → Table
 t s = tableOf (now (s .args .s))
 
 -- what is refused before any window
-judged : (c : tie.After-early) → c .early .result ≡ earlyOf (rowOf (t (c .before .before .before)) (c .before .before .before .args .at)) (c .before .before .before .args .k)
+judged : (c : tie.After-early) → c .early .result ≡ earlyOf (rowOf (t (c .before .before .before)) (c .before .before .before .args .chain)) (c .before .before .before .args .k)
 judged c =
     let s = c .before .before .before in
     c .early .ensures ∙ ap (λ r. earlyOf r (s .args .k)) (row-there (s .pre .0) (c .before .place .ensures) (s .pre .1))
@@ -33,18 +31,13 @@ returns : tie.Need-returns
 returns c =
     let s = c .before .before .before .before in
     let e = judged (c .before) in
-    ap Refused e ∙ sym (at-early (t s) (s .args .at) (s .args .k) (λ z. c .if1 .taken (e ∙ z)))
+    ap Refused e ∙ sym (at-early (t s) (s .args .chain) (s .args .k) (λ z. c .if1 .taken (e ∙ z)))
 
 by-bound-requires : tie.Need-by-bound-requires
 by-bound-requires c κs = let p = c .before .before .before .before .pre in (p .0, p .1, sym (judged (c .before)) ∙ c .if1 .left, p .2)
 
 returns-2 : tie.Need-returns-2
-returns-2 c =
-    let s = c .before .before .before .before .before in
-    let b = rowOf (t s) (s .args .at) in
-    c .by-bound .ensures
-    ∙ ap (λ w. byBound b (viewsOf (t s) (s .args .at)) (overloads b (others (t s) (s .args .at))) (s .args .k) (w .answer) (w .last)) (s .pre .2)
-    ∙ sym (at-bound (t s) (s .args .at) (s .args .k) (sym (judged (c .before .before)) ∙ c .before .if1 .left))
+returns-2 c = c .by-bound .ensures
 
 pub misses-with-spec : {M : Type 1} → statement M
 misses-with-spec =

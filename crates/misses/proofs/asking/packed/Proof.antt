@@ -8,7 +8,7 @@ use Rattle.packing.proofs.Laws.{most-same}
 use Rattle.windows.specs.code.Load.{loadOf}
 use Rattle.misses.specs.Bad.{bad}
 use Rattle.misses.specs.code.Held.{piecesIn}
-use Rattle.misses.specs.code.Settling.{overIn}
+use Rattle.misses.specs.code.Settling.{overWith}
 use Rattle.misses.proofs.Packs.{price-within, flags-bad}
 use Rattle.misses.proofs.asking.packed.Statement.{statement}
 use Rattle.misses.proofs.asking.packed.Tie as tie
@@ -22,10 +22,7 @@ lowest-bad-requires c κs =
     let p = s .args .p in (
       s .pre .0,
       s .pre .1,
-      s .pre .2,
-      s .pre .3,
-      s .pre .4,
-      λ m h. omega (arith, c .before .prices .ensures m h, price-within (p .chain) (p .segment) (p .cost) (p .count) m (s .pre .5 .cheap) (s .pre .5 .few)),
+      λ m h. omega (arith, c .before .prices .ensures m h, price-within (p .chain) (p .segment) (p .cost) (p .count) m (s .pre .2 .cheap) (s .pre .2 .few)),
     )
 
 flags-requires : tie.Need-flags-requires
@@ -38,13 +35,13 @@ returns : tie.Need-returns
 returns c =
     let s = c .before .before .before .before .before .before .before .before .before .before in
     let a = s .args in
-    let test = overIn (loadOf (now (a .s)) (a .own) (now (a .rates)) (now (a .places))) (a .deadline) (a .k) in
+    let test = overWith (loadOf (now (a .s)) (a .own) (now (a .held))) (a .close) in
     let flags = c .before .before .before .flags in
     let lowest = c .before .before .before .before .before .lowest-bad in
     let prices = c .before .before .before .before .before .before .before .prices in
     c .most-uses .ensures
     ∙ most-same (flagged (flags .result)) (bad test (piecesIn (a .p))) (capacity (a .p .capacity)) (capacity (a .p .capacity))
-    (λ m some h. flags-bad test (piecesIn (a .p)) (s .pre .4) (prices .result) (flags .result) (lowest .result) (prices .ensures) (lowest .ensures) (flags .ensures) m h)
+    (λ m some h. flags-bad test (piecesIn (a .p)) (s .pre .1) (prices .result) (flags .result) (lowest .result) (prices .ensures) (lowest .ensures) (flags .ensures) m h)
     (λ i h. refl)
 
 pub packed-spec : {M : Type 1} → statement M

@@ -4,17 +4,17 @@ use mathlib.Core.Path.{_≡_, subst}
 use native.Mathlib.Omega.{arith}
 use denote.Ref.{now}
 use Rattle.windows.specs.code.Load.{loadOf}
-use Rattle.misses.specs.code.Settling.{overIn, Settles, Picks}
-use Rattle.misses.proofs.Sweeps.{load-worsens}
+use Rattle.misses.specs.code.Settling.{overWith, Settles, Picks}
+use Rattle.misses.proofs.Worsening.{load-worsens}
 use Rattle.misses.proofs.Settles.{settles-none, settles-tell}
 use Rattle.misses.proofs.settling.lowest_bad.Statement.{statement}
 use Rattle.misses.proofs.settling.lowest_bad.Tie as tie
 
 abbrev Inv-loop : tie.InvT-loop
-Inv-loop s own rates places deadline k costs ends₀ c₀ ends c = Settles (overIn (loadOf s own rates places) deadline k) ends × Picks ends costs c
+Inv-loop s own held close costs ends₀ c₀ ends c = Settles (overWith (loadOf s own held) close) ends × Picks ends costs c
 
 abbrev μ-loop : tie.MeasureT-loop
-μ-loop s own rates places deadline k costs ends₀ c₀ ends c = ends .bad - ends .good
+μ-loop s own held close costs ends₀ c₀ ends c = ends .bad - ends .good
 
 pick-requires : tie.Need-pick-requires Inv-loop μ-loop
 pick-requires c κs = tt
@@ -23,15 +23,15 @@ loop-holds : tie.Need-loop-holds Inv-loop μ-loop
 loop-holds c =
     let s = c .before .before in
     let a = s .args in
-    let worsens = load-worsens (loadOf (now (a .s)) (a .own) (now (a .rates)) (now (a .places))) (s .pre .0) (a .deadline) (a .k) in
-    (settles-none _ worsens (s .pre .4), c .pick .ensures)
+    let worsens = load-worsens (loadOf (now (a .s)) (a .own) (now (a .held))) (s .pre .0 .sound) (a .close) in
+    (settles-none _ worsens (s .pre .1), c .pick .ensures)
 
 round-requires : tie.Need-round-requires Inv-loop μ-loop
 round-requires c κs =
     let p = c .before .before .before .before .pre in
     let l = c .before .loop in
     let z : l .c ≡ 0 → ⊥ = c .loop-test .taken in
-    (p .0, p .1, p .2, p .3, l .inv .0, l .inv .1 .one (omega arith))
+    (p .0, l .inv .0, l .inv .1 .one (omega arith))
 
 pick-requires-2 : tie.Need-pick-requires-2 Inv-loop μ-loop
 pick-requires-2 c κs = tt
@@ -47,7 +47,7 @@ returns c =
     let l = c .before .loop in
     let s = c .before .before .before .before in
     let costs = now (s .args .costs) in
-    settles-tell _ (l .ends) costs (l .inv .0) (subst (Picks (l .ends) costs) (c .loop-test .left) (l .inv .1)) (s .pre .5)
+    settles-tell _ (l .ends) costs (l .inv .0) (subst (Picks (l .ends) costs) (c .loop-test .left) (l .inv .1)) (s .pre .2)
 
 pub lowest-bad-spec : {M : Type 1} → statement M
 lowest-bad-spec =

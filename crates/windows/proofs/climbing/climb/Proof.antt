@@ -13,8 +13,8 @@ use Rattle.table.specs.Limits.{horizon, maxChains}
 use Rattle.arrivals.specs.Arrivals.{η}
 use Rattle.arrivals.proofs.Counts.{η-mono}
 use Rattle.search.proofs.Choice.{when-cases}
-use Rattle.windows.specs.code.Load.{Under}
-use Rattle.windows.specs.code.Load.{Load, loadOf, ownOf, Counted, demandIn}
+use Rattle.windows.specs.code.Climb.{Under, Counted}
+use Rattle.windows.specs.code.Load.{Load, loadOf, ownOf, demandIn}
 use Rattle.windows.specs.Latency.{long}
 use Rattle.windows.proofs.Least.{Grows, under-climbs, under-next, under-solves, under-none}
 use Rattle.windows.proofs.Growth.{load-growing}
@@ -24,11 +24,11 @@ use Rattle.windows.proofs.climbing.climb.Statement.{statement}
 use Rattle.windows.proofs.climbing.climb.Tie as tie
 
 abbrev Inv-loop : tie.InvT-loop
-Inv-loop s own rates places q start counts₀ fixed t₀ counts t =
-    Under (demandIn (loadOf s own rates places) q) t × Counted (loadOf s own rates places) t counts
+Inv-loop s own held q start counts₀ fixed t₀ counts t =
+    Under (demandIn (loadOf s own held) q) t × Counted (loadOf s own held) t counts
 
 abbrev μ-loop : tie.MeasureT-loop
-μ-loop s own rates places q start counts₀ fixed t₀ counts t = horizon + 1 - t
+μ-loop s own held q start counts₀ fixed t₀ counts t = horizon + 1 - t
 
 -- the places that the answers speak of
 abbrev start : tie.At-loop Inv-loop μ-loop → tie.Start Inv-loop μ-loop
@@ -37,21 +37,21 @@ start c = c .before .before .before .before
 abbrev head : tie.After-own-count Inv-loop μ-loop → tie.At-loop Inv-loop μ-loop
 head c = c .before .before .before
 
-abbrev counted : tie.After-held Inv-loop μ-loop → tie.After-own-count Inv-loop μ-loop
+abbrev counted : tie.After-held-sum Inv-loop μ-loop → tie.After-own-count Inv-loop μ-loop
 counted c = c .before .before .before .before
 
 -- the load, and its demand
 abbrev load : tie.Start Inv-loop μ-loop → Load
-load c = loadOf (c .args .s .now) (c .args .own) (c .args .rates .now) (c .args .places .now)
+load c = loadOf (c .args .s .now) (c .args .own) (c .args .held .now)
 
 abbrev demand : tie.Start Inv-loop μ-loop → ℕ → ℕ
 demand c = demandIn (load c) (c .args .q)
 
 grows : (c : tie.Start Inv-loop μ-loop) → Grows (demand c)
-grows c = load-growing (load c) (c .pre .0) .grows (c .args .q) (c .pre .1)
+grows c = load-growing (load c) (c .pre .sound) .grows (c .args .q) (c .pre .some)
 
 fixed-le : (c : tie.Start Inv-loop μ-loop) → c .args .q * c .args .own .cost + c .args .own .once ≤ 100000000000
-fixed-le c = omega (arith, own-le (c .args .q) (c .args .own .cost) (c .pre .2) (c .pre .0 .cheap), c .pre .0 .once)
+fixed-le c = omega (arith, own-le (c .args .q) (c .args .own .cost) (c .pre .few) (c .pre .sound .cheap), c .pre .sound .once)
 
 mul-fixed : tie.Need-mul-fixed Inv-loop μ-loop
 mul-fixed c = omega (arith, fixed-le (c .before .before))
@@ -60,13 +60,13 @@ add-fixed : tie.Need-add-fixed Inv-loop μ-loop
 add-fixed c = omega (arith, fixed-le (c .before .before .before))
 
 loop-holds : tie.Need-loop-holds Inv-loop μ-loop
-loop-holds c = (c .before .before .before .pre .3, c .before .before .before .pre .4)
+loop-holds c = (c .before .before .before .pre .under, c .before .before .before .pre .counted)
 
 element-copy-out-own-count : tie.Need-element-copy-out-own-count Inv-loop μ-loop
 element-copy-out-own-count c = omega (arith, c .before .loop .inv .1 .held .size)
 
 own-count-requires : tie.Need-own-count-requires Inv-loop μ-loop
-own-count-requires c κs = let h = c .before .before in (start h .pre .0 .stands, c .before .loop-test .taken, h .loop .inv .1 .own)
+own-count-requires c κs = let h = c .before .before in (start h .pre .sound .stands, c .before .loop-test .taken, h .loop .inv .1 .own)
 
 element-write-counts : tie.Need-element-write-counts Inv-loop μ-loop
 element-write-counts c = omega (arith, head c .loop .inv .1 .held .size)
@@ -102,7 +102,7 @@ module _ (c : tie.After-own-count Inv-loop μ-loop) where
 
   more-le : (c .own-count .result - q) * part ≤ busiest
   more-le =
-      let ok = s .pre .0 in
+      let ok = s .pre .sound in
       turns-le (ok .stands .good .list) (c .own-count .result - q) part (head c .loop .t) (le-trans (sub-le _ _) own-counted) (le-trans (ok .part) (ok .cheap))
       (c .before .before .loop-test .taken)
 
@@ -112,59 +112,60 @@ mul-more c = rw (c .before .past .ensures) (omega (arith, more-le (c .before .be
 add-d : tie.Need-add-d Inv-loop μ-loop
 add-d c = rw (c .before .past .ensures) (omega (arith, more-le (c .before .before), fixed-le (start (head (c .before .before)))))
 
-held-requires : tie.Need-held-requires Inv-loop μ-loop
-held-requires c κs =
+held-sum-requires : tie.Need-held-sum-requires Inv-loop μ-loop
+held-sum-requires c κs =
     let h = head (c .before .before .before) in
-    let ok = start h .pre .0 in
+    let ok = start h .pre .sound in
     (ok .held, c .before .before .before .before .before .loop-test .taken, behind-own (h .loop .inv .1 .held) (ok .held .few) _)
 
 add-d-2 : tie.Need-add-d-2 Inv-loop μ-loop
 add-d-2 c =
     let h = head (counted c) in
     let l = load (start h) in
-    let ok = start h .pre .0 in
+    let ok = start h .pre .sound in
     rw (c .before .before .before .past .ensures)
     (omega (
       arith,
       more-le (counted c),
       fixed-le (start h),
-      c .held .ensures .0,
-      held-le (l .bytes) (l .rates) (l .places) (l .count) (h .loop .t) (ok .held) (c .before .before .before .before .before .before .loop-test .taken),
+      c .held-sum .ensures .0,
+      held-le (l .bytes) (l .held) (l .count) (h .loop .t) (ok .held) (c .before .before .before .before .before .before .loop-test .taken),
       ok .held .few,
     ))
 
 -- what the loop makes is the demand in t
-demand-is : (c : tie.After-held Inv-loop μ-loop)
-    → q (counted c) * s (counted c) .args .own .cost + s (counted c) .args .own .once + c .before .before .before .past .result * part (counted c) + c .held .result
+demand-is : (c : tie.After-held-sum Inv-loop μ-loop)
+    → q (counted c) * s (counted c) .args .own .cost + s (counted c) .args .own .once + c .before .before .before .past .result * part (counted c) + c .held-sum .result
     ≡ demand (s (counted c)) (head (counted c) .loop .t)
 unfolding demandIn
-demand-is c = omega (arith, ap (λ n. n * part (counted c)) (c .before .before .before .past .ensures) ∙ more-is (counted c), c .held .ensures .0)
+demand-is c = omega (arith, ap (λ n. n * part (counted c)) (c .before .before .before .past .ensures) ∙ more-is (counted c), c .held-sum .ensures .0)
 
 -- t grows
-climbs : (c : tie.After-held Inv-loop μ-loop) → head (counted c) .loop .t ≤ demand (s (counted c)) (head (counted c) .loop .t)
+climbs : (c : tie.After-held-sum Inv-loop μ-loop) → head (counted c) .loop .t ≤ demand (s (counted c)) (head (counted c) .loop .t)
 climbs c = let l = head (counted c) .loop in under-climbs (demand (s (counted c))) (grows (s (counted c))) (l .t) (l .inv .0)
 
 -- what is counted is no more than there is in t, and later
-caught : (c : tie.After-held Inv-loop μ-loop) (u : ℕ) → head (counted c) .loop .t ≤ u → Counted (load (s (counted c))) u (c .held .last .1 .1 .1 .1 .1 .0)
+caught : (c : tie.After-held-sum Inv-loop μ-loop) (u : ℕ) → head (counted c) .loop .t ≤ u → Counted (load (s (counted c))) u (c .held-sum .last .1 .1 .1 .1 .0)
 caught c u h =
     let o = counted c in
-    let ok = s o .pre .0 in
+    let ok = s o .pre .sound in
     let l = head o .loop in
-    let e : getD (c .held .last .1 .1 .1 .1 .1 .0) maxChains 0 ≡ o .own-count .result =
-    c .held .ensures .2 ∙ getD-set-same (l .counts) maxChains (o .own-count .result) 0 (omega (arith, l .inv .1 .held .size)) in
+    let e : getD (c .held-sum .last .1 .1 .1 .1 .0) maxChains 0 ≡ o .own-count .result =
+    c .held-sum .ensures .1 .own ∙ getD-set-same (l .counts) maxChains (o .own-count .result) 0 (omega (arith, l .inv .1 .held .size)) in
     record {
       own = le-trans (le-of-eq e) (le-trans (own-counted o) (η-mono (ok .stands .good .list) (l .t) u h));
-      held = behind-later (c .held .ensures .1) (λ j k. ok .held .stands j k .good .list) h;
+      held = behind-later (c .held-sum .ensures .1 .all) (λ j k. ok .held .stands j k .good .list) h;
     }
 
 returns : tie.Need-returns Inv-loop μ-loop
 returns c =
     let e = c .before in
     let h = head (counted e) in
-    let d = demand (start h) in (
-      under-solves d (grows (start h)) (h .loop .t) (h .loop .inv .0) (e .before .before .before .before .before .before .loop-test .taken) (sym (c .if1 .taken) ∙ demand-is e),
-      λ u f. caught e u (le-of-eq (ap long f)),
-    )
+    let d = demand (start h) in
+    record {
+      window = under-solves d (grows (start h)) (h .loop .t) (h .loop .inv .0) (e .before .before .before .before .before .before .loop-test .taken) (sym (c .if1 .taken) ∙ demand-is e);
+      counted = λ u f. caught e u (le-of-eq (ap long f));
+    }
 
 loop-less : tie.Need-loop-less Inv-loop μ-loop
 loop-less c = omega (arith, climbs (c .before), demand-is (c .before), c .if1 .left, c .before .before .before .before .before .before .before .loop-test .taken)
@@ -180,10 +181,11 @@ loop-again c =
 
 returns-2 : tie.Need-returns-2 Inv-loop μ-loop
 returns-2 c =
-    let h = c .before in (
-      under-none (demand (start h)) (grows (start h)) (h .loop .t) (h .loop .inv .0) (c .loop-test .left),
-      λ u e. absurd (let z : _≡_ {A = ℕ} 0 1 = cc in omega arith),
-    )
+    let h = c .before in
+    record {
+      window = under-none (demand (start h)) (grows (start h)) (h .loop .t) (h .loop .inv .0) (c .loop-test .left);
+      counted = λ u e. absurd (let z : _≡_ {A = ℕ} 0 1 = cc in omega arith);
+    }
 
 pub climb-spec : {M : Type 1} → statement M
 climb-spec =
@@ -200,7 +202,7 @@ climb-spec =
     past-requires
     mul-more
     add-d
-    held-requires
+    held-sum-requires
     add-d-2
     returns
     loop-less

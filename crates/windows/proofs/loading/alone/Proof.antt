@@ -17,7 +17,7 @@ part-requires c κs = search needs
 returns : tie.Need-returns
 returns c =
     let s = c .before .before .before in
-    (λ rates places r p. rw (c .before .chain-cost .ensures, c .part .ensures) (alone-loads (s .args .s .now) (s .args .at) (s .pre .0) rates places r p), refl)
+    (λ held e. rw (c .before .chain-cost .ensures, c .part .ensures) (alone-loads (s .args .s .now) (s .args .at) (s .pre .0) held e), refl)
 
 pub alone-spec : {M : Type 1} → statement M
 alone-spec = tie.close (tie.spec chain-cost-requires cast-t5 part-requires returns)

@@ -2,11 +2,9 @@
 use mathlib.Core.Path.{ap, sym, _∙_}
 use native.Mathlib.Omega.{arith}
 use borrow.Author.Needs.{needs}
-use Rattle.table.specs.Find.{rowOf}
 use Rattle.table.specs.Read.{tableOf}
 use Rattle.table.proofs.Finds.{find-le}
-use Rattle.windows.specs.Demand.{viewsOf}
-use Rattle.windows.specs.Latency.{boundOf}
+use Rattle.windows.specs.Latency.{boundAt}
 use Rattle.windows.proofs.Answers.{chain-none, chain-found}
 use Rattle.windows.proofs.query.latency_in.Statement.{statement}
 use Rattle.windows.proofs.query.latency_in.Tie as tie
@@ -33,7 +31,7 @@ returns-2 c =
     let t = tableOf (a .s .now) in
     let f = c .before .before .before .find .ensures in
     ap (λ w. w .answer) (c .bound .ensures)
-    ∙ ap (λ k. boundOf (rowOf t k) (viewsOf t k) .answer) f
+    ∙ ap (λ j. boundAt t j .answer) f
     ∙ sym (chain-found t (a .id) (λ e. c .before .if1 .left (f ∙ e ∙ sym (c .before .before .count .ensures))))
 
 pub latency-in-spec : {M : Type 1} → statement M

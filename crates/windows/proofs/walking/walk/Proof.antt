@@ -1,5 +1,5 @@
 -- `walk` meets its contract. The loop's invariant is where the walk stands (`Walk`) and what is counted. The measure is how many activations are left.
-use Prim.Native.Nat.{ℕ, _+_, _-_, _≤_}
+use Prim.Native.Nat.{ℕ, _+_, _-_, _≤_, _<_}
 use mathlib.Core.Path.{_≡_, ap, sym, _∙_}
 use mathlib.Core.List.{List}
 use native.Mathlib.Omega.{arith}
@@ -11,7 +11,8 @@ use Rattle.table.specs.Limits.{horizon, maxActivations, maxDeadline}
 use Rattle.table.specs.Record.{rowAt}
 use Rattle.windows.specs.Window.{windowOf}
 use Rattle.windows.specs.Latency.{marginOf, windowsOf}
-use Rattle.windows.specs.code.Load.{Load, loadOf, ownOf, Counted, demandIn}
+use Rattle.windows.specs.code.Load.{Load, loadOf, ownOf, demandIn}
+use Rattle.windows.specs.code.Climb.{Counted}
 use Rattle.windows.specs.declared.Window.the-variants.{At}
 use Rattle.windows.specs.declared.Answer.the-variants.{Figures}
 use Rattle.windows.proofs.Growth.{Growing, load-growing}
@@ -22,16 +23,16 @@ use Rattle.windows.proofs.walking.walk.Statement.{statement}
 use Rattle.windows.proofs.walking.walk.Tie as tie
 
 abbrev Inv-loop : tie.InvT-loop
-Inv-loop s own rates places at deadline counts₀ done₀ start₀ behind₀ latency₀ late₀ counts done start behind latency late =
-    Walk (demandIn (loadOf s own rates places)) (ownOf (loadOf s own rates places)) deadline done start behind latency late
-    × Counted (loadOf s own rates places) start counts
+Inv-loop s own held at deadline counts₀ done₀ start₀ behind₀ latency₀ late₀ counts done start behind latency late =
+    Walk (demandIn (loadOf s own held)) (ownOf (loadOf s own held)) deadline done start behind latency late
+    × Counted (loadOf s own held) start counts
 
 abbrev μ-loop : tie.MeasureT-loop
-μ-loop s own rates places at deadline counts₀ done₀ start₀ behind₀ latency₀ late₀ counts done start behind latency late = maxActivations - done
+μ-loop s own held at deadline counts₀ done₀ start₀ behind₀ latency₀ late₀ counts done start behind latency late = maxActivations - done
 
 -- the load, its demand and its distances
 abbrev load : tie.Start Inv-loop μ-loop → Load
-load c = loadOf (c .args .s .now) (c .args .own) (c .args .rates .now) (c .args .places .now)
+load c = loadOf (c .args .s .now) (c .args .own) (c .args .held .now)
 
 abbrev demand : tie.Start Inv-loop μ-loop → ℕ → ℕ → ℕ
 demand c = demandIn (load c)
@@ -58,6 +59,10 @@ found c = c .before .before .before
 abbrev size : tie.After-known-told Inv-loop μ-loop → ℕ
 size c = c .before .w .given .0 .0
 
+-- an activation is taken
+turn : (c : tie.After-known-told Inv-loop μ-loop) → head c .loop .done < maxActivations
+turn c = c .before .before .before .before .before .loop-test .taken
+
 -- the deadline is the chain's
 deadline-is : (c : tie.After-deadline-at Inv-loop μ-loop) → c .deadline-at .result ≡ rowAt (c .before .before .args .s .now) (c .before .before .args .own .at) .deadline
 unfolding rowAt
@@ -68,7 +73,7 @@ deadline-le c = omega (arith, deadline-is c, c .before .before .pre .stands .goo
 
 -- the window that was found
 at : (c : tie.After-known-told Inv-loop μ-loop) → windowOf (demand (entry (head c)) (head c .loop .done + 1)) ≡ At (size c)
-at c = sym (c .before .before .before .climb .ensures .0) ∙ c .before .w .given .1
+at c = sym (c .before .before .before .climb .ensures .window) ∙ c .before .w .given .1
 
 deadline-at-requires : tie.Need-deadline-at-requires Inv-loop μ-loop
 deadline-at-requires c κs = omega (arith, c .before .pre .stands .there)
@@ -85,7 +90,7 @@ cast-climb : tie.Need-cast-climb Inv-loop μ-loop
 cast-climb c = search needs
 
 climb-requires : tie.Need-climb-requires Inv-loop μ-loop
-climb-requires c κs = let h = c .before .before in (entry h .pre, omega arith, omega arith, h .loop .inv .0 .under, h .loop .inv .1)
+climb-requires c κs = let h = c .before .before in record { sound = entry h .pre; some = omega arith; few = omega arith; under = h .loop .inv .0 .under; counted = h .loop .inv .1 }
 
 enum-known-w : tie.Need-enum-known-w Inv-loop μ-loop
 enum-known-w c = search needs
@@ -102,14 +107,14 @@ returns c =
     let s = entry h in
     c .refused .ensures
     ∙ walk-none (demand s) (own s) (dated h .deadline-at .result) (growing s) (h .loop .inv .0) (c .before .before .before .before .before .loop-test .taken)
-    (sym (c .before .before .before .climb .ensures .0) ∙ c .before .enum-told .given .1)
+    (sym (c .before .before .before .climb .ensures .window) ∙ c .before .enum-told .given .1)
     ∙ ap (windowsOf (demand s) (own s)) (deadline-is (dated h))
 
 sub-span : tie.Need-sub-span Inv-loop μ-loop
 sub-span c =
     let h = head c in
     let s = entry h in
-    walk-ahead (demand s) (own s) (dated h .deadline-at .result) (growing s) (h .loop .inv .0) (c .before .before .before .before .before .loop-test .taken) (at c)
+    walk-ahead (demand s) (own s) (dated h .deadline-at .result) (growing s) (h .loop .inv .0) (turn c) (at c)
 
 cast-delta : tie.Need-cast-delta Inv-loop μ-loop
 cast-delta c = search needs
@@ -134,7 +139,7 @@ near : (c : tie.After-over Inv-loop μ-loop) → c .before .larger .result ≤ h
 near c =
     let h = head (found c) in
     let s = entry h in
-    walk-near (demand s) (own s) (dated h .deadline-at .result) (growing s) (h .loop .inv .0) (c .before .before .before .before .before .before .before .before .loop-test .taken) (at (found c)) (c .before .larger .ensures) (c .over .ensures)
+    walk-near (demand s) (own s) (dated h .deadline-at .result) (growing s) (h .loop .inv .0) (turn (found c)) (at (found c)) (c .before .larger .ensures) (c .over .ensures)
 
 add-late : tie.Need-add-late Inv-loop μ-loop
 add-late c =
@@ -143,11 +148,11 @@ add-late c =
     omega (
       arith,
       h .loop .inv .0 .some,
-      walk-few (demand s) (own s) (dated h .deadline-at .result) (growing s) (h .loop .inv .0) (c .before .before .before .before .before .before .before .before .loop-test .taken) (at (found c)) (c .before .larger .ensures) (c .over .ensures),
+      walk-few (demand s) (own s) (dated h .deadline-at .result) (growing s) (h .loop .inv .0) (turn (found c)) (at (found c)) (c .before .larger .ensures) (c .over .ensures),
     )
 
-cast-longest : tie.Need-cast-longest Inv-loop μ-loop
-cast-longest c = omega (arith, near (c .before))
+cast-greatest : tie.Need-cast-greatest Inv-loop μ-loop
+cast-greatest c = omega (arith, near (c .before))
 
 margin-requires : tie.Need-margin-requires Inv-loop μ-loop
 margin-requires c κs = (deadline-le (dated (head (found (c .before)))), near (c .before))
@@ -164,7 +169,7 @@ returns-2 c =
     let m : toZ w32 (ofZ w32 (c .margin .result)) ≡ marginOf deadline best =
     ap (λ z. toZ w32 (ofZ w32 z)) (c .margin .ensures) ∙ toZ-ofZ (margin-fits deadline best (deadline-le (dated h)) (near o)) in
     ap (λ z. record { answer = Figures (l .done + 1) best (l .late + o .over .result) z; last = size f }) m
-    ∙ walk-close (demand s) (own s) deadline (growing s) (l .inv .0) (o .before .before .before .before .before .before .before .before .loop-test .taken) (at f) (o .before .larger .ensures) (o .over .ensures)
+    ∙ walk-close (demand s) (own s) deadline (growing s) (l .inv .0) (turn f) (at f) (o .before .larger .ensures) (o .over .ensures)
     (o .before .before .delta .ensures) (c .before .if1 .taken)
     ∙ ap (windowsOf (demand s) (own s)) (deadline-is (dated h))
 
@@ -177,9 +182,9 @@ loop-again c =
     let f = found o in
     let h = head f in
     let s = entry h in (
-      walk-on (demand s) (own s) (dated h .deadline-at .result) (growing s) (h .loop .inv .0) (o .before .before .before .before .before .before .before .before .loop-test .taken) (at f) (o .before .larger .ensures) (o .over .ensures)
+      walk-on (demand s) (own s) (dated h .deadline-at .result) (growing s) (h .loop .inv .0) (turn f) (at f) (o .before .larger .ensures) (o .over .ensures)
           (o .before .before .delta .ensures) (c .if1 .left),
-      f .before .before .before .climb .ensures .1 (size f) (f .before .w .given .1),
+      f .before .before .before .climb .ensures .counted (size f) (f .before .w .given .1),
     )
 
 refused-requires-2 : tie.Need-refused-requires-2 Inv-loop μ-loop
@@ -216,7 +221,7 @@ walk-spec =
     cast-over
     over-requires
     add-late
-    cast-longest
+    cast-greatest
     margin-requires
     returns-2
     loop-less

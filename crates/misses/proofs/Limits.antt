@@ -1,0 +1,40 @@
+-- What nothing refused before the figures says of them: they are within their limits. Assumes nothing.
+use Prim.Native.Nat.{ℕ}
+use mathlib.Core.Path.{_≡_, ap, sym, _∙_}
+use mathlib.Core.List.{List}
+use native.Mathlib.Omega.{arith}
+use borrow.Author.Tests.{eqb-true, not-false, ltb-false}
+use lib.IntN.{ℤ}
+use Rattle.table.specs.Limits.{maxRun}
+use Rattle.table.specs.declared.Row.{Row}
+use Rattle.table.proofs.Firsts.{none-or, when-zero}
+use Rattle.table.specs.Record.{distances}
+use Rattle.segments.specs.View.{View}
+use Rattle.windows.specs.Demand.{demandOf}
+use Rattle.windows.specs.Latency.{boundOf}
+use Rattle.windows.specs.declared.Windows.{Windows}
+use Rattle.windows.specs.declared.Answer.the-variants.{Figures as Given}
+use Rattle.windows.proofs.Least.{window-at}
+use Rattle.windows.proofs.Latencies.{latency-near, late-few}
+use Rattle.windows.proofs.Closing.{answer-closed}
+use Rattle.misses.specs.Misses.{earlyOf}
+use Rattle.misses.specs.code.Held.{Asked}
+
+pub asked : (b : Row) (views : List View) (k : ℕ) (w : Windows) (close latency late : ℕ) (margin : ℤ) → earlyOf b k ≡ 0 → w ≡ boundOf b views
+    → w .answer ≡ Given close latency late margin → Asked b k (record { close = close; latency = latency; late = late; last = w .last })
+unfolding earlyOf boundOf
+asked b views k w close latency late margin early e f =
+    let e1 = when-zero 12 _ _ early in
+    let e2 = when-zero 13 _ _ (e1 .1) in
+    let run = none-or _ _ (e1 .0) in
+    let demand = demandOf b views in
+    let c = answer-closed demand (distances b) (b .deadline) (ap (λ (x : Windows). x .answer) (sym e) ∙ f) in
+    record {
+      typical = eqb-true (b .overload) 0 (not-false _ (e2 .0));
+      low = ltb-false k 1 (run .0);
+      high = ltb-false maxRun k (run .1);
+      few = c .closes .high;
+      near = omega (arith, c .greatest, latency-near demand (distances b) close);
+      count = omega (arith, c .count, c .closes .high, late-few demand (distances b) (b .deadline) close);
+      end = omega (arith, ap (λ (x : Windows). x .last) e, window-at (demand close) _ (c .closes .last) .high);
+    }
