@@ -3,4 +3,3 @@ pub mod Distances
 pub mod Counts
 pub mod Walk
 pub mod Rows
-pub mod Starred

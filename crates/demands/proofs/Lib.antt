@@ -13,6 +13,8 @@ pub mod Regroupings
 pub mod Others
 pub mod Saves
 pub mod Calls
-pub mod Starred
 pub mod Tables
+pub mod StarredWindows
+pub mod StarredMisses
+pub mod Starred
 pub mod Witness

@@ -19,7 +19,7 @@ use Rattle.table.specs.declared.Row.{Row}
 use Rattle.table.specs.declared.Table.{Table}
 use Rattle.table.specs.declared.Reading.{Reading}
 use Rattle.demands.specs.Chains.{IsTable}
-use Rattle.demands.specs.Starred.{sample}
+use Rattle.demands.specs.Starred.{sample, edge, past}
 use Rattle.demands.specs.Witness.{altered}
 
 -- a chain of these distances, and of tasks as priority and cost
@@ -64,7 +64,7 @@ pub record Reads (s : List ℕ) (t : Table) : Type 0 where
 pub read-table : {s : List ℕ} {t : Table} → Reads s t → IsTable s
 read-table {s} a = record { bytes = small-bytes s (a .are); accepted = ap (λ (r : Reading). r .verdict) (a .reads) }
 
--- the sample, and the witness beside it
+-- the sample, 'At the edge' and one tick more, and the witness beside the sample
 unfoldable pub sampled : Table
 sampled = record {
   count = 4;
@@ -76,6 +76,15 @@ sampled = record {
       ∷ chain 4 0 1 300 0 (1000 ∷ []) ((6, 12) ∷ [])
       ∷ replicate 12 blank;
 }
+
+abbrev edgeChain : Row
+edgeChain = chain 1 0 0 10000000 0 (10000000 ∷ []) (replicate 10 (5, 1000000))
+
+unfoldable pub edgeTable : Table
+edgeTable = record { count = 1; tasks = 10; row = edgeChain ∷ replicate 15 blank }
+
+unfoldable pub pastTable : Table
+pastTable = record { count = 2; tasks = 11; row = edgeChain ∷ chain 2 0 0 1 0 (10000000 ∷ []) ((9, 1) ∷ []) ∷ replicate 14 blank }
 
 unfoldable pub alteration : Table
 alteration = record {
@@ -92,6 +101,14 @@ alteration = record {
 pub sample-reads : Reads sample sampled
 unfolding small sample sampled readTable records start unless chainFault headFault identityFault timesFault countsFault listFault distancesFault falls gapFault gapShort tasksFault taskFault taskMarkFault taskRestFault endFault _then_ markOf word spaced rowAt findOf first _when_else_
 sample-reads = record { are = refl; reads = refl }
+
+pub edge-reads : Reads edge edgeTable
+unfolding small edge edgeTable readTable records start unless chainFault headFault identityFault timesFault countsFault listFault distancesFault falls gapFault gapShort tasksFault taskFault taskMarkFault taskRestFault endFault _then_ markOf word spaced rowAt findOf first _when_else_
+edge-reads = record { are = refl; reads = refl }
+
+pub past-reads : Reads past pastTable
+unfolding small past pastTable readTable records start unless chainFault headFault identityFault timesFault countsFault listFault distancesFault falls gapFault gapShort tasksFault taskFault taskMarkFault taskRestFault endFault _then_ markOf word spaced rowAt findOf first _when_else_
+past-reads = record { are = refl; reads = refl }
 
 pub altered-reads : Reads altered alteration
 unfolding small altered alteration readTable records start unless chainFault headFault identityFault timesFault countsFault listFault distancesFault falls gapFault gapShort tasksFault taskFault taskMarkFault taskRestFault endFault _then_ markOf word spaced rowAt findOf first _when_else_

@@ -14,7 +14,6 @@ pub mod Loading
 pub mod Answers
 pub mod Judging
 pub mod Limits
-pub mod Starred
 pub mod Existence
 pub mod Turning
 pub mod Together

@@ -9,4 +9,3 @@ pub mod Loops
 pub mod Kept
 pub mod Cut
 pub mod Tries
-pub mod Sample

@@ -9,6 +9,5 @@ pub mod Views
 pub mod Bounds
 pub mod Order
 pub mod Renaming
-pub mod Samples
 pub mod Asking
 pub mod Answers

@@ -13,4 +13,3 @@ pub mod Closing
 pub mod Margins
 pub mod Signs
 pub mod Answers
-pub mod Starred

@@ -1,8 +1,8 @@
--- The starred cases of 01, 'Misses': the bad sets of the sample, and its answers for k = 10, 11 and 1, over the stored bytes. Assumes nothing.
+-- The starred cases of 01, 'Misses': the bad sets of the sample, and its answers for k = 10, 11 and 1. Assumes nothing.
 use Prim.Native.Nat.{ℕ, zero, suc, _+_, _*_, _-_, _≤_, _<_, max}
 use mathlib.Core.Path.{_≡_, refl, ap, ap₂, sym, _∙_}
 use mathlib.Core.Bool.{Bool, true, false, _&&_, _||_}
-use mathlib.Core.List.{List, [], _∷_, flatten}
+use mathlib.Core.List.{List, [], _∷_}
 use mathlib.Core.Logic.{⊎-elim}
 use native.Mathlib.Omega.{arith}
 use native.Mathlib.Nat.{mul-zero}
@@ -11,15 +11,12 @@ use lib.Dec.{eqb, ltb, leb, lit≤}
 use lib.IntN.{negsuc}
 use lib.ListN.{getD}
 use Rattle.search.specs.Choice.{_when_else_}
-use Rattle.search.specs.Find.{first}
-use Rattle.search.specs.Lists.{sumOf, mostOf, some as someTask, some}
+use Rattle.search.specs.Find.{first, last}
+use Rattle.search.specs.Lists.{sumOf, mostOf, some, every}
 use Rattle.search.proofs.Choice.{lt-or-le}
 use Rattle.table.specs.Limits.{horizon}
-use Rattle.table.specs.Bytes.{word}
-use Rattle.table.specs.Record.{spaced, rowAt, distances}
+use Rattle.table.specs.Record.{distances}
 use Rattle.table.specs.Find.{rowOf, findOf}
-use Rattle.table.specs.Fault.{_then_, markOf, identityFault, timesFault, countsFault, headFault, falls, distancesFault, gapShort, gapFault, listFault, taskMarkFault, taskRestFault, taskFault, tasksFault, chainFault, endFault}
-use Rattle.table.specs.Read.{accepted, unless, start, records, readTable}
 use Rattle.table.specs.declared.Row.{Row}
 use Rattle.table.specs.declared.Reading.{Reading}
 use Rattle.arrivals.specs.Arrivals.{asListed, δ, η, largest}
@@ -37,19 +34,36 @@ use Rattle.windows.specs.declared.Window.the-variants.{At, Nothing}
 use Rattle.windows.specs.declared.Answer.the-variants.{Figures}
 use Rattle.windows.proofs.Least.{window-at, window-none}
 use Rattle.windows.proofs.Walks.{Open, windows-end}
-use Rattle.windows.proofs.Starred.{sample, sampled, recorded, ended, bytes, starred}
+use Rattle.packing.specs.Packing.{sumTo}
 use Rattle.packing.specs.Most.{mostUses}
+use Rattle.packing.specs.code.Plain.{reach}
 use Rattle.packing.proofs.Laws.{most-same}
-use Rattle.packing.proofs.Sample.{bad as anyTwo, each, capacity-2, capacity-3}
-use Rattle.search.specs.Lists.{every as everyOf}
 use Rattle.misses.specs.Overloads.{Overload, overloads, Piece, piecesFrom, piecesOf, capacitiesOf}
 use Rattle.misses.specs.Sets.{members, together, allowed, setCost}
 use Rattle.misses.specs.Bad.{withCost, over, bad}
 use Rattle.misses.specs.Misses.{earlyOf, badOf, roomOf, missesOf, missesAt, missesIn}
 use Rattle.misses.specs.declared.Answer.the-variants.{Misses}
 use Rattle.misses.proofs.Prices.{allowed-past}
 use Rattle.misses.proofs.Starts.{starts}
 use Rattle.misses.proofs.Answers.{misses-accepted, chain-found, at-bound, packs}
+use Rattle.demands.specs.Starred.{sample}
+use Rattle.demands.proofs.Tables.{sampled, sample-reads}
+use Rattle.demands.proofs.StarredWindows.{sample-window}
+
+-- any two of three combinations of bits, and all three, with the same capacity each
+abbrev anyTwo : ℕ → Bool
+anyTwo m = eqb m 3 || eqb m 5 || eqb m 6 || eqb m 7
+
+abbrev each : ℕ → ℕ → ℕ
+each n i = getD (n ∷ n ∷ n ∷ []) i 0
+
+capacity-2 : mostUses anyTwo (each 2) ≡ 3
+unfolding mostUses reach first last sumTo _when_else_
+capacity-2 = refl
+
+capacity-3 : mostUses anyTwo (each 3) ≡ 4
+unfolding mostUses reach first last sumTo _when_else_
+capacity-3 = refl
 
 -- chain 1, its views, and the overload chains beside it
 abbrev b : Row
@@ -60,10 +74,6 @@ views = viewsOf sampled 0
 
 abbrev os : List Overload
 os = overloads b (others sampled 0)
-
-reads : readTable sample ≡ accepted sampled
-unfolding sample sampled recorded ended bytes flatten readTable records start unless chainFault headFault identityFault timesFault countsFault listFault distancesFault falls gapFault gapShort tasksFault taskFault taskMarkFault taskRestFault endFault _then_ markOf word spaced rowAt findOf first _when_else_
-reads = refl
 
 finds : findOf sampled 1 ≡ 0
 unfolding sampled findOf first _when_else_
@@ -106,7 +116,7 @@ abbrev demand : ℕ → ℕ → ℕ
 demand = demandOf b (typical views)
 
 demand-is : (t : ℕ) → demand 1 t ≡ 20 + 5 * η (50 ∷ []) t
-unfolding sampled demandOf viewsOf typical termOf countedPart viewOf tasksFrom lowest someTask before stretches onward around nonempty cuts parts cutSegments sumOf mostOf _when_else_
+unfolding sampled demandOf viewsOf typical termOf countedPart viewOf tasksFrom lowest some before stretches onward around nonempty cuts parts cutSegments sumOf mostOf _when_else_
 demand-is t = omega (arith, mul-zero (η (100 ∷ []) t - 1))
 
 -- a set is bad from a cost of 16 on: with 15 the window is 40, the deadline
@@ -144,7 +154,7 @@ judged m = allowed (piecesOf os) m && leb 16 (setCost (members (piecesOf os) m))
 
 -- any two of them, and all three
 low-sets : (m : ℕ) → m < 8 → judged m ≡ anyTwo m
-unfolding judged allowed together members everyOf sampled overloads piecesFrom actives inOrder numbered startOf parts stretches cuts tasksFrom lowest sumOf _when_else_
+unfolding judged allowed together members every sampled overloads piecesFrom actives inOrder numbered startOf parts stretches cuts tasksFrom lowest sumOf _when_else_
 low-sets zero h = refl
 low-sets (suc zero) h = refl
 low-sets (suc (suc zero)) h = refl
@@ -158,7 +168,7 @@ low-sets (suc (suc (suc (suc (suc (suc (suc (suc m)))))))) h = absurd (omega ari
 no-more : (m : ℕ) → 8 ≤ m → anyTwo m ≡ false
 no-more m h = rw (ne-eqb m 3 (λ e. omega arith), ne-eqb m 5 (λ e. omega arith), ne-eqb m 6 (λ e. omega arith), ne-eqb m 7 (λ e. omega arith))
 
-bad-sets : (m : ℕ) → badOf b views os 1 m ≡ anyTwo m
+pub bad-sets : (m : ℕ) → badOf b views os 1 m ≡ anyTwo m
 unfolding judged
 bad-sets m = bad-is m ∙ ⊎-elim (low-sets m)
     (λ h. ap (λ x. x && leb 16 (setCost (members (piecesOf os) m))) (allowed-past (piecesOf os) m (rw pieces h)) ∙ sym (no-more m h)) (lt-or-le m 8)
@@ -169,7 +179,7 @@ unfolding boundOf Open latencyTo lateTo latencyAt upTo mostOf sumOf sampled δ a
 bounds =
     let d = demandOf b views in
     let ds = distances b in
-    let e = starred .sample-window in
+    let e = sample-window in
     let latency : latencyTo d ds 1 ≡ 64 = ap (λ w. max (long w - δ ds 1) 0) e in
     let late : lateTo d ds 40 1 ≡ 1 = ap (λ w. (1 when ltb 40 (long w - δ ds 1) else 0) + 0) e in
     windows-end d ds 40 1 (lit≤ tt) (lit≤ tt) (ap (λ w. ends w (δ ds 2)) e) (λ q l m. absurd (omega arith))
@@ -201,8 +211,8 @@ answers : (k n uses : ℕ) → earlyOf b k ≡ 0 → η (1000 ∷ []) (largest b
 unfolding sampled
 answers k n uses early e few most =
     let r = rooms k n e in
-    misses-accepted sample 1 k (ap (λ (x : Reading). x .verdict) reads)
-    ∙ ap (λ (x : Reading). missesIn (x .table) 1 k) reads
+    misses-accepted sample 1 k (ap (λ (x : Reading). x .verdict) (sample-reads .reads))
+    ∙ ap (λ (x : Reading). missesIn (x .table) 1 k) (sample-reads .reads)
     ∙ chain-found sampled 1 k (λ x. omega (arith, x, finds))
     ∙ ap (λ j. missesAt sampled j k) finds
     ∙ sym (at-bound sampled 0 k early _ (sym bounds))
@@ -210,26 +220,26 @@ answers k n uses early e few most =
     ∙ ap (λ u. Misses (1 * u)) (most-same (badOf b views os 1) anyTwo (λ i. getD (roomOf b os k 64) i 0) (each n) (λ m l h. bad-sets m) (λ i h. ap (λ l. getD l i 0) r) ∙ most)
     ∙ ap Misses (omega arith)
 
--- what is starred: the bad sets are both of chain 3, which have the bits 0 and 1, either with chain 4, which has the bit 2, and all
--- three; capacities and answers for k = 10, 11 and 1
-pub record Starred : Type 0 where
-  pub sets : (m : ℕ) → badOf b views os 1 m ≡ (eqb m 3 || eqb m 5 || eqb m 6 || eqb m 7)
-  pub room-10 : roomOf b os 10 64 ≡ 2 ∷ 2 ∷ 2 ∷ []
-  pub room-11 : roomOf b os 11 64 ≡ 3 ∷ 3 ∷ 3 ∷ []
-  pub misses-10 : missesOf sample 1 10 ≡ Misses 3
-  pub misses-11 : missesOf sample 1 11 ≡ Misses 4
-  pub misses-1 : missesOf sample 1 1 ≡ Misses 3
-
 room-of : (k n : ℕ) → η (1000 ∷ []) (largest b k + 64) ≡ n → η (1000 ∷ []) (largest b k + 64) + 1 ≡ n + 1
 room-of k n e = ap (λ x. x + 1) e
 
-pub starred-misses : Starred
+-- capacities and answers for k = 10, 11 and 1
+pub room-10 : roomOf b os 10 64 ≡ 2 ∷ 2 ∷ 2 ∷ []
+unfolding sampled largest
+room-10 = rooms 10 2 (room-of 10 1 (once 964 (lit≤ tt) (lit≤ tt)))
+
+pub room-11 : roomOf b os 11 64 ≡ 3 ∷ 3 ∷ 3 ∷ []
+unfolding sampled largest
+room-11 = rooms 11 3 (room-of 11 2 (twice 1064 (lit≤ tt) (lit≤ tt)))
+
+pub misses-10 : missesOf sample 1 10 ≡ Misses 3
 unfolding sampled largest earlyOf _when_else_
-starred-misses = record {
-  sets = bad-sets;
-  room-10 = rooms 10 2 (room-of 10 1 (once 964 (lit≤ tt) (lit≤ tt)));
-  room-11 = rooms 11 3 (room-of 11 2 (twice 1064 (lit≤ tt) (lit≤ tt)));
-  misses-10 = answers 10 2 3 refl (room-of 10 1 (once 964 (lit≤ tt) (lit≤ tt))) (lit≤ tt) capacity-2;
-  misses-11 = answers 11 3 4 refl (room-of 11 2 (twice 1064 (lit≤ tt) (lit≤ tt))) (lit≤ tt) capacity-3;
-  misses-1 = answers 1 2 3 refl (room-of 1 1 (once 64 (lit≤ tt) (lit≤ tt))) (lit≤ tt) capacity-2;
-}
+misses-10 = answers 10 2 3 refl (room-of 10 1 (once 964 (lit≤ tt) (lit≤ tt))) (lit≤ tt) capacity-2
+
+pub misses-11 : missesOf sample 1 11 ≡ Misses 4
+unfolding sampled largest earlyOf _when_else_
+misses-11 = answers 11 3 4 refl (room-of 11 2 (twice 1064 (lit≤ tt) (lit≤ tt))) (lit≤ tt) capacity-3
+
+pub misses-1 : missesOf sample 1 1 ≡ Misses 3
+unfolding sampled largest earlyOf _when_else_
+misses-1 = answers 1 2 3 refl (room-of 1 1 (once 64 (lit≤ tt) (lit≤ tt))) (lit≤ tt) capacity-2
