@@ -9,7 +9,7 @@ use Rattle.search.proofs.Find.{first-same}
 use Rattle.table.specs.Record.{blank}
 use Rattle.table.specs.Find.{rowOf, findOf, used}
 use Rattle.table.specs.Read.{plus}
-use Rattle.table.specs.code.Before.{beforeOf, andOne}
+use Rattle.table.specs.code.Before.{beforeOf}
 use Rattle.table.specs.declared.Row.{Row}
 use Rattle.table.specs.declared.Table.{Table}
 use Rattle.table.specs.declared.before.Before.{Before}
@@ -41,6 +41,9 @@ pub table-before : (b : Before) → b ≡ beforeOf (tableBefore b)
 table-before b = ap (λ (l : List ℕ). record { ids = l; count = b .count; tasks = b .tasks }) (ids-back (b .ids))
 
 -- one row more
+abbrev pub andOne : Before → ℕ → ℕ → Before
+andOne b id tasks = record { ids = set (b .ids) (b .count) id; count = b .count + 1; tasks = b .tasks + tasks }
+
 set-ids : (l : List Row) (n : ℕ) (r : Row) → map idOf (set l n r) ≡ set (map idOf l) n (r .id)
 set-ids [] n r = refl
 set-ids (a ∷ l) zero r = refl

@@ -1,10 +1,8 @@
 // What a record is judged by of the chains before it.
 use crate::Table;
 ghost use mathlib.Core.Path.{_≡_};
-ghost use Prim.Native.Nat.{_≤_, _<_};
-ghost use Rattle.table.specs.Limits.{maxChains, maxAllTasks, maxTasks};
 ghost use Rattle.table.specs.Read.{empty};
-ghost use Rattle.table.specs.code.Before.{beforeOf, andOne};
+ghost use Rattle.table.specs.code.Before.{beforeOf};
 
 // Their ids, how many they are, and their tasks in all; ids past the count are 0.
 pub struct Before {
@@ -23,17 +21,5 @@ impl Before {
             count: 0,
             tasks: 0,
         }
-    }
-
-    // One chain more, with that id and so many tasks.
-    pub fn and_one(mut self, id: u16, tasks: usize) -> Self
-        requires { ⌜ (self .count < maxChains) × (self .tasks ≤ maxAllTasks) × (tasks ≤ maxTasks) ⌝ }
-        ensures { λ r. ⌜ r ≡ andOne self id tasks ⌝ }
-    {
-        let count = self.count;
-        self.ids[count] = id;
-        self.count = count + 1;
-        self.tasks = self.tasks + tasks;
-        self
     }
 }

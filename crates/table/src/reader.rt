@@ -30,7 +30,10 @@ pub fn judge(s: &[u8]) -> Verdict
                 }
                 match chain_fault(s, at, before) {
                     0 => {
-                        before = before.and_one(id_at(s, at), tasks_at(s, at));
+                        let count = before.count;
+                        before.ids[count] = id_at(s, at);
+                        before.count = count + 1;
+                        before.tasks = before.tasks + tasks_at(s, at);
                         at = at + record_length(s, at);
                     }
                     fault => {

@@ -1,7 +1,5 @@
 -- What the code keeps of the chains before a record.
-use Prim.Native.Nat.{ℕ, _+_}
 use mathlib.Core.List.{map}
-use lib.ListN.{set}
 use Rattle.table.specs.declared.Row.{Row}
 use Rattle.table.specs.declared.Table.{Table}
 use Rattle.table.specs.declared.before.Before.{Before}
@@ -9,7 +7,3 @@ use Rattle.table.specs.declared.before.Before.{Before}
 -- of the table so far: the ids that its rows bear, how many there are, and their tasks in all
 abbrev pub beforeOf : Table → Before
 beforeOf t = record { ids = map (λ (r : Row). r .id) (t .row); count = t .count; tasks = t .tasks }
-
--- one chain more
-abbrev pub andOne : Before → ℕ → ℕ → Before
-andOne b id tasks = record { ids = set (b .ids) (b .count) id; count = b .count + 1; tasks = b .tasks + tasks }
