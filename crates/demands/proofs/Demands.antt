@@ -1,5 +1,6 @@
 -- The three demands, each closed by one theorem. Assumes nothing.
 use Rattle.segments.proofs.Answers.{answer-records}
+use Rattle.report_text.proofs.Decimals.{decimal-value, decimal-first}
 use Rattle.demands.specs.Demands.{Demand1, Demand2, Demand3}
 use Rattle.demands.proofs.Entries.{every-entry}
 use Rattle.demands.proofs.Saving.{seen-records}
@@ -19,6 +20,7 @@ demand-2 = record {
   windows = latency-means;
   only = latency-only;
   misses = misses-mean;
+  printed = λ n. (decimal-value n, decimal-first n);
   segment = answer-records;
 }
 

@@ -1,9 +1,9 @@
 -- What the customer demands: each demand is one record, its fields his sentences in his order, over definitions that stand in the files
 -- imported here. proofs/Demands.antt closes each record by one theorem, `demand-1`, `demand-2`, `demand-3`.
-use Prim.Native.Nat.{ℕ}
+use Prim.Native.Nat.{ℕ, _<_}
 use mathlib.Core.Path.{_≡_}
 use mathlib.Core.List.{List}
-use lib.ListN.{length}
+use lib.ListN.{length, getD}
 use Rattle.table.specs.Bytes.{Bytes}
 use Rattle.table.specs.Record.{idAt, distances}
 use Rattle.segments.specs.Query.{segmentOf, partOf, TaskRecords}
@@ -13,6 +13,7 @@ use Rattle.windows.specs.declared.Answer.{Answer as Latency}
 use Rattle.misses.specs.Misses.{missesOf}
 use Rattle.misses.specs.declared.Answer.{Answer as Misses}
 use Rattle.saving.specs.Later.{State, stored, Edit, after}
+use Rattle.report_text.specs.Numbers.{decimal, valueFrom}
 use Rattle.editor.specs.Entry.{LatencyEntry, MissesEntry}
 use Rattle.demands.specs.Chains.{Has, chainOf, othersOf}
 use Rattle.demands.specs.Entries.{EveryEntry}
@@ -42,6 +43,8 @@ pub record Demand2 : Type 0 where
   pub only : {s : List ℕ} {id : ℕ} → Has s id → (a : Latency) → Means (full (chainOf s id) (othersOf s id)) (distances (chainOf s id)) (chainOf s id .deadline) a → a ≡ latencyOf s id
   -- the miss count is the late activations per window times the greatest feasible packing of bad combinations
   pub misses : {s : List ℕ} {id : ℕ} → Has s id → (k : ℕ) (a : Misses) → Exactly (missesOf s id k ≡ a) (Says (chainOf s id) (othersOf s id) k a)
+  -- the report prints a figure in decimal: the digits read back as the figure, and the first is no 0 but in 0 itself
+  pub printed : (n : ℕ) → (valueFrom 0 (decimal n) ≡ n) × (0 < n → 48 < getD (decimal n) 0 0)
   -- an active segment is handed back as the records of its tasks
   pub segment : (s : List ℕ) → Bytes s → (id against number offset len : ℕ) → segmentOf s id against number ≡ Records offset len
       → TaskRecords s id against number (partOf s (Records offset len))

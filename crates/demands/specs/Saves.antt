@@ -5,10 +5,12 @@ use mathlib.Core.Path.{_≡_}
 use mathlib.Core.List.{List}
 use Rattle.search.specs.Lists.{All}
 use Rattle.table.specs.Bytes.{Bytes}
+use Rattle.table.specs.Record.{idAt}
+use Rattle.table.specs.Find.{rowOf}
 use Rattle.table.specs.Read.{tableOf}
 use Rattle.saving.specs.Save.{numberOf, recordOf}
 use Rattle.saving.specs.Later.{State, stored, Holding, Edit, answer, after, afterAll, Never}
-use Rattle.saving.specs.declared.Saved.the-variants.{Refused}
+use Rattle.saving.specs.declared.Saved.the-variants.{Used, Refused}
 
 -- no stored chain record is this one
 abbrev pub Unstored : List ℕ → State → Type 0
@@ -27,9 +29,16 @@ from e new = record { old = e .old; new = new }
 abbrev pub back : Edit → Edit
 back e = record { old = e .new; new = e .old }
 
+-- a stored record saved as it is
+abbrev pub same : State → ℕ → Edit
+same x chain = record { old = recordOf (stored x) chain; new = recordOf (stored x) chain }
+
 pub record SeenRecords : Type 0 where
   -- a save that starts from a record other than the stored ones is refused
   pub other : (x : State) (e : Edit) → Holding x → Unstored (e .old) x → answer x e ≡ Refused 22
+  -- so is one whose old record bears the id of a stored record and differs from it
+  pub changed : (x : State) (e : Edit) → Holding x → (chain : ℕ) → chain < tableOf (stored x) .count → idAt (e .old) 0 ≡ rowOf (tableOf (stored x)) chain .id
+      → (e .old ≡ recordOf (stored x) chain → ⊥) → answer x e ≡ Refused 22
   -- so after an accepted save that changed a record, every save from the record as it was is refused, whatever else is saved, until an
   -- accepted save stores that record again
   pub stale : (x : State) (e : Edit) → Accepted x e → (e .new ≡ e .old → ⊥)
@@ -40,3 +49,5 @@ pub record SeenRecords : Type 0 where
   pub changed-back : (x : State) (e : Edit) → Accepted x e
       → (numberOf (answer (after x e) (back e)) ≡ 0) × (stored (after (after x e) (back e)) ≡ stored x)
       × ((new : List ℕ) → answer (after (after x e) (back e)) (from e new) ≡ answer x (from e new))
+  -- a stored record saved as it is answers the used length, and changes nothing
+  pub idle : (x : State) → Holding x → (chain : ℕ) → chain < tableOf (stored x) .count → (answer x (same x chain) ≡ Used (x .used)) × (after x (same x chain) ≡ x)

@@ -17,6 +17,7 @@ use table::judge;
 use table::overload_at;
 use table::place;
 use table::record_length;
+use table::u64_from_u8;
 use windows::Answer as Bound;
 use windows::Others;
 use windows::Own;
@@ -95,12 +96,6 @@ fn any_again(s: &[u8], t: u64) -> bool
     false
 }
 
-fn wide(x: u8) -> u64
-    ensures { λ r. ⌜ r ≡ x ⌝ }
-{
-    x as u64
-}
-
 // Whether a capacity is above its limit.
 fn above(capacity: &[u8; Table::OVERLOADS]) -> bool
     requires { ⌜ length (now capacity) ≡ maxOverloads ⌝ }
@@ -108,7 +103,7 @@ fn above(capacity: &[u8; Table::OVERLOADS]) -> bool
 {
     let mut i: usize = 0;
     while i < Table::OVERLOADS {
-        if Table::CAPACITY < wide(capacity[i]) {
+        if Table::CAPACITY < u64_from_u8(capacity[i]) {
             return true;
         }
         i += 1;

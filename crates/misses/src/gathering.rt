@@ -8,6 +8,7 @@ use table::Table;
 use table::count;
 use table::overload_at;
 use table::record_length;
+use table::u64_from_u32;
 ghost use mathlib.Core.Path.{_≡_};
 ghost use mathlib.Core.List.{List, [], _∷_, _++_};
 ghost use Prim.Native.Nat.{_+_, _*_, _≤_, _<_, min};
@@ -22,12 +23,6 @@ ghost use Rattle.arrivals.specs.code.Bounds.{longestSpan};
 ghost use Rattle.segments.specs.Tasks.{floorOf, tailOf};
 ghost use Rattle.misses.specs.Overloads.{Overload, overload, overloads};
 ghost use Rattle.misses.specs.code.Held.{heldAs, gathered};
-
-fn wide(x: u32) -> u64
-    ensures { λ r. ⌜ r ≡ x ⌝ }
-{
-    x as u64
-}
 
 // The capacity in t of the active segments of the chain at `a`, counted no further than past its limit.
 fn capacity(s: &[u8], a: usize, t: u64) -> u8
@@ -70,7 +65,7 @@ impl Pieces {
             if to < Table::OVERLOADS {
                 p.chain[to] = p.chains;
                 p.segment[to] = found.segment[from];
-                p.cost[to] = wide(found.cost[from]);
+                p.cost[to] = u64_from_u32(found.cost[from]);
                 p.capacity[to] = most;
             }
         }

@@ -2,6 +2,7 @@
 // that is not bad where prices are made, since 20 has answered before.
 use crate::Pieces;
 use packing::COMBINATIONS;
+use packing::has;
 use table::Table;
 ghost use mathlib.Core.Path.{_≡_};
 ghost use mathlib.Core.List.{List};
@@ -11,14 +12,6 @@ ghost use Rattle.table.specs.Limits.{maxOverloads};
 ghost use Rattle.packing.specs.Packing.{bit, combinations};
 ghost use Rattle.misses.specs.code.Held.{piecesAt, agreesAt, agreesAfter, priceOf, Few, piecesIn};
 ghost use Rattle.segments.specs.code.Held.{dearest};
-
-// 1 if the active segment i is in the set m, else 0.
-fn has(m: usize, i: usize) -> usize
-    requires { ⌜ i < maxOverloads ⌝ }
-    ensures { λ r. ⌜ r ≡ bit i m ⌝ }
-{
-    (m >> i) & 1
-}
 
 // Whether the active segment i may stand with the active segment j, if that is in the set m.
 fn agrees(

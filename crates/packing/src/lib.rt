@@ -21,6 +21,7 @@ ghost use Rattle.packing.specs.Most.{mostUses, flagged, capacity};
 ghost use Rattle.packing.specs.code.Engine.{HasRoom, Tells, Ceiling, Choices, maxRoom, maxChosen, maxWeight};
 ghost use Rattle.table.specs.Limits.{maxOverloads};
 use table::Table;
+use table::u32_from_u8;
 
 // The masks of as many bits as there may be active segments.
 pub const COMBINATIONS: usize = 1 << Table::OVERLOADS;
@@ -38,7 +39,7 @@ fn total(room: &[u8; Table::OVERLOADS]) -> u32
     let mut all: u32 = 0;
     let mut i: usize = 0;
     while i < Table::OVERLOADS {
-        all += weights::u32_from_u8(room[i]);
+        all += u32_from_u8(room[i]);
         i += 1;
     }
     all

@@ -1,7 +1,7 @@
 // A combination is a mask, one bit for each active segment; the kept combinations are a list of masks.
 use crate::COMBINATIONS;
-use crate::weights;
 use table::Table;
+use table::u32_from_u8;
 ghost use mathlib.Core.Path.{_≡_};
 ghost use Prim.Native.Nat.{ℕ, _+_, _*_, _<_, _≤_, _-_};
 ghost use lib.ListN.{length, getD};
@@ -39,7 +39,7 @@ fn lesser(room: &[u8; Table::OVERLOADS], m: usize, i: usize, x: u32) -> u32
     if has(m, i) == 0 {
         return x;
     }
-    let most = weights::u32_from_u8(room[i]);
+    let most = u32_from_u8(room[i]);
     if most < x { most } else { x }
 }
 
@@ -64,7 +64,7 @@ pub(crate) fn spend(room: &[u8; Table::OVERLOADS], m: usize, x: u32) -> [u8; Tab
     let mut out = [0u8; Table::OVERLOADS];
     let mut i: usize = 0;
     while i < Table::OVERLOADS {
-        out[i] = (weights::u32_from_u8(room[i]) - x * weights::u32_from_u8(has(m, i))) as u8;
+        out[i] = (u32_from_u8(room[i]) - x * u32_from_u8(has(m, i))) as u8;
         i += 1;
     }
     out

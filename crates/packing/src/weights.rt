@@ -3,6 +3,7 @@
 use crate::COMBINATIONS;
 use crate::masks;
 use table::Table;
+use table::u32_from_u8;
 ghost use mathlib.Core.Path.{_≡_};
 ghost use Prim.Native.Nat.{ℕ, _<_, _≤_};
 ghost use lib.ListN.{getD};
@@ -91,13 +92,6 @@ const WEIGHTS: [u8; DIGITS] =
     542112542121542211245311254311425311452311523411524311532411534211542311543112543121543211351242351422\
     352142352241352412352421354122354212354221453221531224531242531422532124532142532214532241532412532421\
     534122534212534221543122543212543221";
-
-// A byte as a wider number.
-pub(crate) fn u32_from_u8(x: u8) -> u32
-    ensures { λ r. ⌜ (r ≡ x) × (r < 256) ⌝ }
-{
-    x as u32
-}
 
 // From here to `choose`: which weightings are used. A wrong choice costs time, and nothing else, so no contract says more of these
 // functions than that their numbers are in range.

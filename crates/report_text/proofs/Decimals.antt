@@ -10,7 +10,7 @@ use lib.Dec.{ltb}
 use lib.ListN.{length, getD, length-append, List·getD-append}
 use Rattle.search.specs.Choice.{_when_else_}
 use Rattle.search.proofs.Choice.{when-yes, when-no, when-cases}
-use Rattle.report_text.specs.Numbers.{digits, decimal}
+use Rattle.report_text.specs.Numbers.{digits, decimal, valueFrom}
 
 -- more room for digits than n has gives none
 digits-enough : (f g n : ℕ) → n < f → n < g → digits f n ≡ digits g n
@@ -45,11 +45,6 @@ decimal-short (suc k) n h = elim (decLt 9 n) [
 -- a number of 32 bits has at most 10 digits
 pub decimal-fits : (n : ℕ) → n < 4294967296 → length (decimal n) ≤ 10
 decimal-fits n h = decimal-short 9 n (omega (arith, h))
-
--- the number that digits make, the most significant first, after those that make m
-unfoldable pub valueFrom : ℕ → List ℕ → ℕ
-valueFrom m [] = m
-valueFrom m (d ∷ ds) = valueFrom (10 * m + (d - 48)) ds
 
 value-more : (m : ℕ) (ds : List ℕ) (d : ℕ) → valueFrom m (ds ++ (d ∷ [])) ≡ 10 * valueFrom m ds + (d - 48)
 unfolding valueFrom

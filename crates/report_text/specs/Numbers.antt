@@ -1,5 +1,5 @@
 -- Numbers as text, in ASCII.
-use Prim.Native.Nat.{ℕ, zero, suc, _+_, _/_, _%_}
+use Prim.Native.Nat.{ℕ, zero, suc, _+_, _*_, _-_, _/_, _%_}
 use mathlib.Core.List.{List, [], _∷_, _++_}
 use lib.Dec.{ltb}
 use lib.IntN.{ℤ, pos, negsuc}
@@ -18,3 +18,8 @@ decimal n = digits (n + 1) n
 abbrev pub signed : ℤ → List ℕ
 signed (pos n) = decimal n
 signed (negsuc n) = 45 ∷ decimal (suc n)
+
+-- the number that digits make, the most significant first, after those that make m
+unfoldable pub valueFrom : ℕ → List ℕ → ℕ
+valueFrom m [] = m
+valueFrom m (d ∷ ds) = valueFrom (10 * m + (d - 48)) ds

@@ -9,6 +9,7 @@ use misses::Answer as Missed;
 use misses::misses_with;
 use table::id_at;
 use table::place;
+use table::u32_from_u16;
 use windows::Answer as Latency;
 use windows::bound;
 ghost use mathlib.Core.Path.{_≡_};
@@ -22,13 +23,6 @@ ghost use Rattle.report_text.specs.code.Writing.{Wrote, Bounded, lineIn}
 
 // The run of activations whose misses the report gives.
 const MISS_RUN: u32 = 10;
-
-// An id as a wider number: a cast that asks nothing of its caller.
-fn wide(id: u16) -> u32
-    ensures { λ r. ⌜ (r ≡ id) × (r < 65536) ⌝ }
-{
-    id as u32
-}
 
 // A latency refusal, `r16` or `r17`, which stands alone after the id.
 fn put_alone(out: &mut [u8], at: usize, n: u32) -> usize
@@ -82,7 +76,7 @@ pub fn put_line(out: &mut [u8], at: usize, s: &[u8], i: usize) -> usize
     let w = bound(s, i);
     let missed = misses_with(s, i, MISS_RUN, w);
     let id = id_at(s, place(s, i));
-    let after_id = put_decimal(out, at, wide(id));
+    let after_id = put_decimal(out, at, u32_from_u16(id));
     let answer = w.answer;
     let end = put_answers(out, after_id, answer, missed);
     put_byte(out, end, b'\n')

@@ -88,11 +88,6 @@ module _ (x : State) (h : Holding x) where
       (λ j m z. n (sym z ∙ ap (recordOf s) (record-alone s (tableOf s) read bytes j chain m l
       (ap (λ (q : List ℕ). idAt q 0) z ∙ id ∙ sym (record-id s (tableOf s) read bytes chain l)))))
 
-  -- in any byte
-  pub byte-refused : (e : Edit) (chain : ℕ) → chain < tableOf s .count → idAt (e .old) 0 ≡ rowOf (tableOf s) chain .id
-      → (i : ℕ) → (getD (e .old) i 0 ≡ getD (recordOf s chain) i 0 → ⊥) → answer x e ≡ Refused 22
-  byte-refused e chain l id i n = differing-refused e chain l id (λ z. n (ap (λ (q : List ℕ). getD q i 0) z))
-
 -- none of a state's stored records is r
 Absent : List ℕ → State → Type 0
 Absent r x = (j : ℕ) → j < tableOf (stored x) .count → recordOf (stored x) j ≡ r → ⊥

@@ -63,14 +63,14 @@ mul-p-3 c = omega arith
 element-write-p-2 : tie.Need-element-write-p-2 Inv-loop μ-loop
 element-write-p-2 c = omega arith
 
-mul-wide : tie.Need-mul-wide Inv-loop μ-loop
-mul-wide c = omega (arith, few (c .before .before .before .before))
+mul-u64-from-u32 : tie.Need-mul-u64-from-u32 Inv-loop μ-loop
+mul-u64-from-u32 c = omega (arith, few (c .before .before .before .before))
 
-element-copy-out-wide : tie.Need-element-copy-out-wide Inv-loop μ-loop
-element-copy-out-wide c = omega (arith, few (c .before .before .before .before))
+element-copy-out-u64-from-u32 : tie.Need-element-copy-out-u64-from-u32 Inv-loop μ-loop
+element-copy-out-u64-from-u32 c = omega (arith, few (c .before .before .before .before))
 
-wide-requires : tie.Need-wide-requires Inv-loop μ-loop
-wide-requires c κs = tt
+u64-from-u32-requires : tie.Need-u64-from-u32-requires Inv-loop μ-loop
+u64-from-u32-requires c κs = tt
 
 mul-p-4 : tie.Need-mul-p-4 Inv-loop μ-loop
 mul-p-4 c = omega arith
@@ -87,7 +87,7 @@ loop-less c = omega arith
 loop-again : tie.Need-loop-again Inv-loop μ-loop
 loop-again c =
     let l = c .before .before .before .before .before .loop in
-    (omega arith, l .inv .1, omega arith, rw (c .wide .ensures) (adds-on _ _ _ (l .p) (l .i) (l .inv .3) (c .before .before .before .before .loop-test .taken)))
+    (omega arith, l .inv .1, omega arith, rw (c .u64-from-u32 .ensures .0) (adds-on _ _ _ (l .p) (l .i) (l .inv .3) (c .before .before .before .before .loop-test .taken)))
 
 loop-less-2 : tie.Need-loop-less-2 Inv-loop μ-loop
 loop-less-2 c = omega arith
@@ -124,9 +124,9 @@ beside-spec =
     element-copy-out-p
     mul-p-3
     element-write-p-2
-    mul-wide
-    element-copy-out-wide
-    wide-requires
+    mul-u64-from-u32
+    element-copy-out-u64-from-u32
+    u64-from-u32-requires
     mul-p-4
     element-write-p-3
     element-write-p-4

@@ -20,17 +20,17 @@ abbrev μ-loop : tie.MeasureT-loop
 loop-holds : tie.Need-loop-holds Inv-loop μ-loop
 loop-holds c = (omega arith, refl)
 
-element-copy-out-wide : tie.Need-element-copy-out-wide Inv-loop μ-loop
-element-copy-out-wide c = omega arith
+element-copy-out-u64-from-u8 : tie.Need-element-copy-out-u64-from-u8 Inv-loop μ-loop
+element-copy-out-u64-from-u8 c = omega arith
 
-wide-requires : tie.Need-wide-requires Inv-loop μ-loop
-wide-requires c κs = tt
+u64-from-u8-requires : tie.Need-u64-from-u8-requires Inv-loop μ-loop
+u64-from-u8-requires c κs = tt
 
 returns : tie.Need-returns Inv-loop μ-loop
 returns c =
     let l = c .before .before .before .before in
     let s = l .before in
-    let h : maxCapacity < getD (s .args .capacity .now) (l .loop .i) 0 = omega (arith, c .before .wide .ensures, c .if1 .taken) in
+    let h : maxCapacity < getD (s .args .capacity .now) (l .loop .i) 0 = omega (arith, c .before .u64-from-u8 .ensures .0, c .if1 .taken) in
     sym (some-here (ltb maxCapacity) (s .args .capacity .now) (l .loop .i) 0 (omega (arith, s .pre)) (lt-ltb _ _ h))
     ∙ l .loop .inv .1
 
@@ -44,7 +44,7 @@ loop-again : tie.Need-loop-again Inv-loop μ-loop
 loop-again c =
     let l = c .before .before .before .before in
     let s = l .before in
-    let h : getD (s .args .capacity .now) (l .loop .i) 0 ≤ maxCapacity = omega (arith, c .before .wide .ensures, c .if1 .left) in (
+    let h : getD (s .args .capacity .now) (l .loop .i) 0 ≤ maxCapacity = omega (arith, c .before .u64-from-u8 .ensures .0, c .if1 .left) in (
       omega arith,
       sym (some-later (ltb maxCapacity) (s .args .capacity .now) (l .loop .i) 0 (omega (arith, s .pre)) (le-ltb _ _ h))
           ∙ l .loop .inv .1,
@@ -62,8 +62,8 @@ above-spec =
     Inv-loop
     μ-loop
     loop-holds
-    element-copy-out-wide
-    wide-requires
+    element-copy-out-u64-from-u8
+    u64-from-u8-requires
     returns
     add-i
     loop-less

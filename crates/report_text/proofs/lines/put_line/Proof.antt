@@ -22,10 +22,10 @@ use Rattle.report_text.proofs.lines.put_line.Statement.{statement}
 use Rattle.report_text.proofs.lines.put_line.Tie as tie
 
 -- the id that was read is the chain's
-id-is : (c : tie.After-wide) → c .wide .result ≡ rowOf (tableOf (now (c .before .before .before .before .before .before .before .before .args .s))) (c .before .before .before .before .before .before .before .before .args .i) .id
+id-is : (c : tie.After-u32-from-u16) → c .u32-from-u16 .result ≡ rowOf (tableOf (now (c .before .before .before .before .before .before .before .before .args .s))) (c .before .before .before .before .before .before .before .before .args .i) .id
 unfolding rowAt
 id-is c =
-    c .wide .ensures .0 ∙ c .before .before .id-at .ensures
+    c .u32-from-u16 .ensures .0 ∙ c .before .before .id-at .ensures
     ∙ ap (λ (r : Row). r .id) (row-there (c .before .before .before .before .before .before .before .before .pre .1) (c .before .before .before .place .ensures) (c .before .before .before .before .before .before .before .before .pre .2))
 
 bound-requires : tie.Need-bound-requires
@@ -40,17 +40,17 @@ place-requires c κs = search needs
 id-at-requires : tie.Need-id-at-requires
 id-at-requires c κs = omega (arith, stands (c .before .before .before .before .before .pre .1) (c .place .ensures) (c .before .before .before .before .before .pre .2) .there)
 
-wide-requires : tie.Need-wide-requires
-wide-requires c κs = search needs
+u32-from-u16-requires : tie.Need-u32-from-u16-requires
+u32-from-u16-requires c κs = search needs
 
 put-decimal-requires : tie.Need-put-decimal-requires
-put-decimal-requires c κs = omega (arith, c .before .before .before .before .before .before .before .before .pre .0, decimal-fits (c .wide .result) (omega (arith, c .wide .ensures .1)))
+put-decimal-requires c κs = omega (arith, c .before .before .before .before .before .before .before .before .pre .0, decimal-fits (c .u32-from-u16 .result) (omega (arith, c .u32-from-u16 .ensures .1)))
 
 put-answers-requires : tie.Need-put-answers-requires
 put-answers-requires c κs =
     let s = c .before .before .before .before .before .before .before .before .before .before .before .before in
     let w = c .before .before .before .put-decimal .ensures in
-    let id = c .before .before .before .before .wide in (
+    let id = c .before .before .before .before .u32-from-u16 in (
       omega (arith, s .pre .0, w .ends, w .long, decimal-fits (id .result) (omega (arith, id .ensures .1))),
       subst (λ (a : Windows). Bounded (a .answer)) (sym (c .before .before .before .before .before .before .before .before .before .bound .ensures)) (bounded _ _),
     )
@@ -60,7 +60,7 @@ put-byte-requires c κs =
     let s = c .before .before .before .before .before .before .before .before .before .before .before .before .before .before .before .before in
     let w = c .before .before .before .before .before .before .before .put-decimal .ensures in
     let a = c .before .before .before .put-answers .ensures in
-    let id = c .before .before .before .before .before .before .before .before .wide in
+    let id = c .before .before .before .before .before .before .before .before .u32-from-u16 in
     omega (arith, s .pre .0, w .ends, w .long, a .0 .long, a .1, decimal-fits (id .result) (omega (arith, id .ensures .1)))
 
 same-length : tie.Need-same-length
@@ -71,7 +71,7 @@ returns c =
     let s = c .before .before .before .before .before .before .before .before .before .before .before .before .before .before .before .before .before .before .before in
     let t = tableOf (now (s .args .s)) in
     let i = s .args .i in
-    let id = c .before .before .before .before .before .before .before .before .before .before .before .wide in
+    let id = c .before .before .before .before .before .before .before .before .before .before .before .u32-from-u16 in
     let x = c .before .before .before .before .before .before .before .before .before .before .before .before .before .before .before .before .bound in
     let m = c .before .before .before .before .before .before .before .before .before .before .before .before .before .before .before .misses-with in
     let w = c .before .before .before .before .before .before .before .before .before .before .put-decimal .ensures in
@@ -91,7 +91,7 @@ put-line-spec =
     misses-with-requires
     place-requires
     id-at-requires
-    wide-requires
+    u32-from-u16-requires
     put-decimal-requires
     put-answers-requires
     put-byte-requires
