@@ -38,7 +38,7 @@ use Rattle.windows.proofs.Closing as closing
 use Rattle.table.specs.Read.{tableOf}
 use Rattle.demands.specs.Chains.{Has, chainNumber, chainOf}
 use Rattle.demands.specs.Chains as chains
-use Rattle.demands.specs.Arrivals.{Counted}
+use Rattle.demands.specs.Arrivals.{ArrivalRules}
 use Rattle.demands.specs.Figures.{count, OpenTo, NoWindow, NoClose, Closes, Means}
 use Rattle.demands.specs.Misses.{full}
 use Rattle.demands.proofs.Chains.{table-good, latency-is}
@@ -236,7 +236,7 @@ module _ {s : List ℕ} {id : ℕ} (h : Has s id) where
   good = table-good (h .table) .row (chainNumber s id) (h .there)
 
   -- arrivals are document 01's
-  pub counted : Counted (distances b)
+  pub counted : ArrivalRules (distances b)
   counted =
       let g = good .list in
       record { alone = δ-one g; listed = δ-listed g; turns = δ-rule g; never = η-zero g; greatest = η-greatest g }

@@ -38,7 +38,7 @@ use Rattle.misses.proofs.Answers as answers
 use Rattle.table.specs.Read.{tableOf, unless}
 use Rattle.demands.specs.Chains.{Has, chainNumber, chainOf, othersOf}
 use Rattle.demands.specs.Figures.{Exactly}
-use Rattle.demands.specs.Misses.{marked, pieces, full, capacityOf, IsBad, MayAsk, Figured, lastOf, Few, Once, Fine, Capped, Most, Says, Right}
+use Rattle.demands.specs.Misses.{marked, pieces, full, capacityOf, IsBad, MayAsk, Figured, lastOf, AtMostSix, Once, Fine, Capped, Most, Says, Right}
 use Rattle.demands.proofs.Chains.{table-good, misses-are}
 use Rattle.demands.proofs.Figures.{no-window, no-close, closes-last, three, latency-means}
 use Rattle.demands.proofs.Equation.{viewed, equation-is}
@@ -176,7 +176,7 @@ module _ (b : Row) (l : List Row) (good : GoodRow b) (rows : All GoodRow l) (pac
   is s = subst (Says b l k) (sym (says-answer s)) s
 
   -- no more than 6 active segments, and some activation is late: three tests are left
-  module _ (f : Figured b l k) (h : 1 ≤ f .late) (few : Few b l) where
+  module _ (f : Figured b l k) (h : 1 ≤ f .late) (few : AtMostSix b l) where
     packed-says : Once b l f → Fine b l f → Capped b l f → Says b l k answer
     packed-says once fine room =
         is (Says.packed f (mostUses (badOf b vs os (f .close)) (capacityOf b l k (f .latency))) h few once fine room (record {

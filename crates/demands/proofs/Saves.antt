@@ -25,7 +25,7 @@ use Rattle.saving.proofs.Records.{record-row}
 use Rattle.saving.proofs.After.{bytes-take, all-passed}
 use Rattle.saving.proofs.Promises.{OneReplaced, reads-back}
 use Rattle.demands.specs.Chains.{IsTable}
-use Rattle.demands.specs.Saves.{Accepted}
+use Rattle.demands.specs.Saves.{AcceptedEdit}
 use Rattle.demands.specs.Others.{Unmoved, SameWork, DeadlineOrGap}
 use Rattle.demands.proofs.Chains.{table-read}
 use Rattle.demands.proofs.Others.{Beside, beside-own, work-agrees, paired-unmoved}
@@ -74,7 +74,7 @@ module _ {old new : List ℕ} (h : DeadlineOrGap old new) where
   beside id n = record { bearing = ap (λ x. eqb x id) (sym same-id); own = λ e. absurd (n e); agrees = λ b. work-agrees b same-work }
 
 -- after an accepted save whose new record differs from the old in deadline or gap alone, every other id is answered as before
-pub saved-deadline-or-gap : (x : State) (e : Edit) → Accepted x e → DeadlineOrGap (e .old) (e .new)
+pub saved-deadline-or-gap : (x : State) (e : Edit) → AcceptedEdit x e → DeadlineOrGap (e .old) (e .new)
     → (id : ℕ) → (idAt (e .old) 0 ≡ id → ⊥) → Unmoved (stored x) (stored (after x e)) id
 saved-deadline-or-gap x e took h id n = paired-unmoved id one two pairs
   where

@@ -17,8 +17,8 @@ use Rattle.report_text.specs.Numbers.{decimal, valueFrom}
 use Rattle.editor.specs.Entry.{LatencyEntry, MissesEntry}
 use Rattle.demands.specs.Chains.{Has, chainOf, othersOf}
 use Rattle.demands.specs.Entries.{EveryEntry}
-use Rattle.demands.specs.Saves.{Accepted, SeenRecords}
-use Rattle.demands.specs.Arrivals.{Counted}
+use Rattle.demands.specs.Saves.{AcceptedEdit, SeenRecords}
+use Rattle.demands.specs.Arrivals.{ArrivalRules}
 use Rattle.demands.specs.Figures.{Exactly, Means}
 use Rattle.demands.specs.Misses.{full, Says, Right}
 use Rattle.demands.specs.Others.{Besides, SameBesides, Unmoved, Reordered, SameWork, RegroupedTasks, DeadlineOrGap, SameCall}
@@ -35,7 +35,7 @@ pub record Demand1 : Type 0 where
 -- every figure equals the published chain analysis as document 01 fixes it
 pub record Demand2 : Type 0 where
   -- arrivals are those of its rule for δ, and η(t) is the greatest n with δ(n) < t
-  pub arrivals : {s : List ℕ} {id : ℕ} → Has s id → Counted (distances (chainOf s id))
+  pub arrivals : {s : List ℕ} {id : ℕ} → Has s id → ArrivalRules (distances (chainOf s id))
   -- each window is the least solution of its demand equation up to the horizon, refused exactly when there is none; K, latency, late and
   -- margin are those of these windows
   pub windows : {s : List ℕ} {id : ℕ} → Has s id → Means (full (chainOf s id) (othersOf s id)) (distances (chainOf s id)) (chainOf s id .deadline) (latencyOf s id)
@@ -62,7 +62,7 @@ pub record Demand3 : Type 0 where
   -- nor, where the active-segment costs stay the same, how an active segment is split into tasks
   pub splits : {s r : List ℕ} {id : ℕ} → Besides (RegroupedTasks (chainOf s id)) s r id → Unmoved s r id
   -- so an accepted save that changes a record's deadline or gap alone leaves every other id's answers
-  pub saved : (x : State) (e : Edit) → Accepted x e → DeadlineOrGap (e .old) (e .new) → (id : ℕ) → (idAt (e .old) 0 ≡ id → ⊥) → Unmoved (stored x) (stored (after x e)) id
+  pub saved : (x : State) (e : Edit) → AcceptedEdit x e → DeadlineOrGap (e .old) (e .new) → (id : ℕ) → (idAt (e .old) 0 ≡ id → ⊥) → Unmoved (stored x) (stored (after x e)) id
   -- and two calls of the latency entry, or of the miss entry, with equally long answer buffers, are the same
   pub latency-calls : {s r : List ℕ} {id : ℕ} → Unmoved s r id → {before before′ : List ℕ} → length before ≡ length before′
       → {after after′ : List ℕ} {n m : ℕ} → LatencyEntry s id before after n → LatencyEntry r id before′ after′ m → SameCall 4 before after n before′ after′ m

@@ -86,8 +86,8 @@ module _ (b : Row) (l : List Row) where
   lastOf f = f .figures .B (f .close)
 
   -- no more than 6 active segments
-  abbrev pub Few : Type 0
-  Few = length pieces ≤ maxOverloads
+  abbrev pub AtMostSix : Type 0
+  AtMostSix = length pieces ≤ maxOverloads
 
   -- no overload chain may start more than once in the last window; no miss without any overload; no capacity above 40
   module _ {k : ℕ} (f : Figured k) where
@@ -121,15 +121,15 @@ module _ (b : Row) (l : List Row) where
     -- zero late activations
     none : (f : Figured k) → f .late ≡ 0 → Says k (Misses 0)
     -- over 6 overload active segments
-    many : (f : Figured k) → 1 ≤ f .late → (Few → ⊥) → Says k (Refused 18)
+    many : (f : Figured k) → 1 ≤ f .late → (AtMostSix → ⊥) → Says k (Refused 18)
     -- an overload chain may start more than once in the last window
-    again : (f : Figured k) → 1 ≤ f .late → Few → (Once f → ⊥) → Says k (Refused 19)
+    again : (f : Figured k) → 1 ≤ f .late → AtMostSix → (Once f → ⊥) → Says k (Refused 19)
     -- a miss without any overload
-    always : (f : Figured k) → 1 ≤ f .late → Few → Once f → IsBad (f .close) 0 → Says k (Refused 20)
+    always : (f : Figured k) → 1 ≤ f .late → AtMostSix → Once f → IsBad (f .close) 0 → Says k (Refused 20)
     -- a capacity above 40
-    above : (f : Figured k) → 1 ≤ f .late → Few → Once f → Fine f → (Capped f → ⊥) → Says k (Refused 21)
+    above : (f : Figured k) → 1 ≤ f .late → AtMostSix → Once f → Fine f → (Capped f → ⊥) → Says k (Refused 21)
     -- late times the most uses that any packing has
-    packed : (f : Figured k) (uses : ℕ) → 1 ≤ f .late → Few → Once f → Fine f → Capped f → Most f uses → Says k (Misses (f .late * uses))
+    packed : (f : Figured k) (uses : ℕ) → 1 ≤ f .late → AtMostSix → Once f → Fine f → Capped f → Most f uses → Says k (Misses (f .late * uses))
 
 -- the answers for a chain of an accepted table are those of the words
 pub record Right (s : List ℕ) (id : ℕ) : Type 0 where

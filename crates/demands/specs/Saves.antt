@@ -17,7 +17,7 @@ abbrev pub Unstored : List ℕ → State → Type 0
 Unstored r x = (chain : ℕ) → chain < tableOf (stored x) .count → recordOf (stored x) chain ≡ r → ⊥
 
 -- an accepted edit of bytes, out of a buffer of bytes
-pub record Accepted (x : State) (e : Edit) : Type 0 where
+pub record AcceptedEdit (x : State) (e : Edit) : Type 0 where
   pub buffer : Bytes (x .buffer)
   pub new : Bytes (e .new)
   pub number : numberOf (answer x e) ≡ 0
@@ -30,8 +30,8 @@ abbrev pub back : Edit → Edit
 back e = record { old = e .new; new = e .old }
 
 -- a stored record saved as it is
-abbrev pub same : State → ℕ → Edit
-same x chain = record { old = recordOf (stored x) chain; new = recordOf (stored x) chain }
+abbrev pub asIs : State → ℕ → Edit
+asIs x chain = record { old = recordOf (stored x) chain; new = recordOf (stored x) chain }
 
 pub record SeenRecords : Type 0 where
   -- a save that starts from a record other than the stored ones is refused
@@ -41,13 +41,13 @@ pub record SeenRecords : Type 0 where
       → (e .old ≡ recordOf (stored x) chain → ⊥) → answer x e ≡ Refused 22
   -- so after an accepted save that changed a record, every save from the record as it was is refused, whatever else is saved, until an
   -- accepted save stores that record again
-  pub stale : (x : State) (e : Edit) → Accepted x e → (e .new ≡ e .old → ⊥)
+  pub stale : (x : State) (e : Edit) → AcceptedEdit x e → (e .new ≡ e .old → ⊥)
       → (es : List Edit) → All (λ f. Bytes (f .new)) es → Never (e .old) (after x e) es
       → (new : List ℕ) → answer (afterAll (after x e) es) (from e new) ≡ Refused 22
   -- a record changed away and changed back counts as the one seen: the way back is accepted, the table is as it was, and every save from
   -- that record is answered as before
-  pub changed-back : (x : State) (e : Edit) → Accepted x e
+  pub changed-back : (x : State) (e : Edit) → AcceptedEdit x e
       → (numberOf (answer (after x e) (back e)) ≡ 0) × (stored (after (after x e) (back e)) ≡ stored x)
       × ((new : List ℕ) → answer (after (after x e) (back e)) (from e new) ≡ answer x (from e new))
   -- a stored record saved as it is answers the used length, and changes nothing
-  pub idle : (x : State) → Holding x → (chain : ℕ) → chain < tableOf (stored x) .count → (answer x (same x chain) ≡ Used (x .used)) × (after x (same x chain) ≡ x)
+  pub idle : (x : State) → Holding x → (chain : ℕ) → chain < tableOf (stored x) .count → (answer x (asIs x chain) ≡ Used (x .used)) × (after x (asIs x chain) ≡ x)

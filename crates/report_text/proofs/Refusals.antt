@@ -16,7 +16,7 @@ use Rattle.windows.specs.declared.Windows.{Windows}
 use Rattle.table.specs.declared.Row.{Row}
 use Rattle.segments.specs.View.{View}
 use Rattle.report_text.specs.Numbers.{decimal, digits}
-use Rattle.report_text.specs.Report.{after, refusal}
+use Rattle.report_text.specs.Report.{afterSpace, refusalText}
 use Rattle.report_text.specs.code.Writing.{Bounded}
 
 windows-bounded : (demand : ℕ → ℕ → ℕ) (ds : List ℕ) (deadline : ℕ) → Bounded (windowsOf demand ds deadline .answer)
@@ -35,10 +35,10 @@ unfolding boundOf
 bounded b others = windows-bounded _ _ _
 
 -- ` r16` and ` r17`
-pub text-16 : after (refusal 16) ≡ 32 ∷ 114 ∷ 49 ∷ 54 ∷ []
+pub text-16 : afterSpace (refusalText 16) ≡ 32 ∷ 114 ∷ 49 ∷ 54 ∷ []
 unfolding decimal digits _when_else_
 text-16 = refl
 
-pub text-17 : after (refusal 17) ≡ 32 ∷ 114 ∷ 49 ∷ 55 ∷ []
+pub text-17 : afterSpace (refusalText 17) ≡ 32 ∷ 114 ∷ 49 ∷ 55 ∷ []
 unfolding decimal digits _when_else_
 text-17 = refl

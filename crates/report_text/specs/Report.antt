@@ -27,12 +27,12 @@ refusedWord = 114 ∷ 101 ∷ 102 ∷ 117 ∷ 115 ∷ 101 ∷ 100 ∷ 32 ∷ []
 abbrev pub feed : List ℕ
 feed = 10 ∷ []
 
-abbrev pub after : List ℕ → List ℕ
-after word = 32 ∷ word
+abbrev pub afterSpace : List ℕ → List ℕ
+afterSpace word = 32 ∷ word
 
 -- `r` and a number
-abbrev pub refusal : ℕ → List ℕ
-refusal n = 114 ∷ decimal n
+abbrev pub refusalText : ℕ → List ℕ
+refusalText n = 114 ∷ decimal n
 
 -- the misses are those for k = 10
 abbrev pub missRun : ℕ
@@ -41,13 +41,13 @@ missRun = 10
 -- `r` and a number if refused
 abbrev pub missedText : Missed → List ℕ
 missedText (Misses n) = decimal n
-missedText (Refused n) = refusal n
+missedText (Refused n) = refusalText n
 
 -- K, latency, late, margin, misses; a latency refusal stands alone
 abbrev pub answersText : Latency → Missed → List ℕ
-answersText (Figures k latency late margin) missed =
-    after (decimal k) ++ after (decimal latency) ++ after (decimal late) ++ after (signed margin) ++ after (missedText missed)
-answersText (Unbounded n) missed = after (refusal n)
+answersText (Figures close latency late margin) missed =
+    afterSpace (decimal close) ++ afterSpace (decimal latency) ++ afterSpace (decimal late) ++ afterSpace (signed margin) ++ afterSpace (missedText missed)
+answersText (Unbounded n) missed = afterSpace (refusalText n)
 
 -- a line: the id, and the two answers
 abbrev pub lineText : ℕ → Latency → Missed → List ℕ

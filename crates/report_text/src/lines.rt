@@ -18,7 +18,7 @@ ghost use Prim.Native.Nat.{_+_, _≤_, _<_};
 ghost use lib.ListN.{length};
 ghost use Rattle.table.specs.code.Taken.{Taken};
 ghost use Rattle.table.specs.Read.{tableOf};
-ghost use Rattle.report_text.specs.Report.{after, refusal, missedText, answersText};
+ghost use Rattle.report_text.specs.Report.{afterSpace, refusalText, missedText, answersText};
 ghost use Rattle.report_text.specs.code.Writing.{Wrote, Bounded, lineIn};
 
 // The run of activations whose misses the report gives.
@@ -27,7 +27,7 @@ const MISS_RUN: u32 = 10;
 // A latency refusal, `r16` or `r17`, which stands alone after the id.
 fn put_alone(out: &mut [u8], at: usize, n: u32) -> usize
     requires { ⌜ (at + 12 ≤ length (now out)) × ((n ≡ 16) ⊎ (n ≡ 17)) ⌝ }
-    ensures { λ r. ⌜ Wrote (now (out .entry)) at (after (refusal n)) (now (out .exit)) r × (r ≤ at + 12) ⌝ }
+    ensures { λ r. ⌜ Wrote (now (out .entry)) at (afterSpace (refusalText n)) (now (out .exit)) r × (r ≤ at + 12) ⌝ }
 {
     match n {
         16 => put_text(out, at, b" r16"),
@@ -38,7 +38,7 @@ fn put_alone(out: &mut [u8], at: usize, n: u32) -> usize
 // A space and the misses, or their refusal.
 fn put_missed(out: &mut [u8], at: usize, missed: Missed) -> usize
     requires { ⌜ at + 12 ≤ length (now out) ⌝ }
-    ensures { λ r. ⌜ Wrote (now (out .entry)) at (after (missedText missed)) (now (out .exit)) r × (r ≤ at + 12) ⌝ }
+    ensures { λ r. ⌜ Wrote (now (out .entry)) at (afterSpace (missedText missed)) (now (out .exit)) r × (r ≤ at + 12) ⌝ }
 {
     match missed {
         Missed::Misses(n) => put_number(out, at, n),

@@ -6,7 +6,7 @@ ghost use Prim.Native.Nat.{_+_, _%_, _≤_};
 ghost use lib.IntN.{natAbs};
 ghost use lib.ListN.{length};
 ghost use Rattle.report_text.specs.Numbers.{decimal, signed};
-ghost use Rattle.report_text.specs.Report.{after, refusal};
+ghost use Rattle.report_text.specs.Report.{afterSpace, refusalText};
 ghost use Rattle.report_text.specs.code.Writing.{Wrote};
 
 pub fn put_byte(out: &mut [u8], at: usize, b: u8) -> usize
@@ -57,7 +57,7 @@ pub fn magnitude(x: i32) -> u32
 // A space and a number.
 pub fn put_number(out: &mut [u8], at: usize, n: u32) -> usize
     requires { ⌜ at + 11 ≤ length (now out) ⌝ }
-    ensures { λ r. ⌜ Wrote (now (out .entry)) at (after (decimal n)) (now (out .exit)) r × (r ≤ at + 11) ⌝ }
+    ensures { λ r. ⌜ Wrote (now (out .entry)) at (afterSpace (decimal n)) (now (out .exit)) r × (r ≤ at + 11) ⌝ }
 {
     let next = put_byte(out, at, b' ');
     put_decimal(out, next, n)
@@ -66,7 +66,7 @@ pub fn put_number(out: &mut [u8], at: usize, n: u32) -> usize
 // A space and a signed number.
 pub fn put_signed(out: &mut [u8], at: usize, x: i32) -> usize
     requires { ⌜ at + 12 ≤ length (now out) ⌝ }
-    ensures { λ r. ⌜ Wrote (now (out .entry)) at (after (signed x)) (now (out .exit)) r × (r ≤ at + 12) ⌝ }
+    ensures { λ r. ⌜ Wrote (now (out .entry)) at (afterSpace (signed x)) (now (out .exit)) r × (r ≤ at + 12) ⌝ }
 {
     if x >= 0 {
         return put_number(out, at, magnitude(x));
@@ -78,7 +78,7 @@ pub fn put_signed(out: &mut [u8], at: usize, x: i32) -> usize
 // A space, `r` and a refusal's number.
 pub fn put_refusal(out: &mut [u8], at: usize, n: u32) -> usize
     requires { ⌜ at + 12 ≤ length (now out) ⌝ }
-    ensures { λ r. ⌜ Wrote (now (out .entry)) at (after (refusal n)) (now (out .exit)) r × (r ≤ at + 12) ⌝ }
+    ensures { λ r. ⌜ Wrote (now (out .entry)) at (afterSpace (refusalText n)) (now (out .exit)) r × (r ≤ at + 12) ⌝ }
 {
     let next = put_text(out, at, b" r");
     put_decimal(out, next, n)

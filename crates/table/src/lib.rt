@@ -35,7 +35,6 @@ pub use record::overload_at;
 pub use record::priority_at;
 pub use record::record_length;
 pub use record::tasks_at;
-pub use wide::u16_from_u8;
 pub use wide::u32_from_u8;
 pub use wide::u32_from_u16;
 pub use wide::u64_from_u8;

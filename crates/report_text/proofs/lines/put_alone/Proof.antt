@@ -3,7 +3,7 @@ use native.Mathlib.Omega.{arith}
 use mathlib.Core.Path.{_≡_, ap, sym, subst, _∙_}
 use mathlib.Core.Logic.{⊎-elim}
 use denote.Ref.{now}
-use Rattle.report_text.specs.Report.{after, refusal}
+use Rattle.report_text.specs.Report.{afterSpace, refusalText}
 use Rattle.report_text.specs.code.Writing.{Wrote}
 use Rattle.report_text.proofs.Refusals.{text-16, text-17}
 use borrow.Author.Needs.{needs}
@@ -29,7 +29,7 @@ returns : tie.Need-returns
 returns c =
     let s = c .before .before .before .before .before .before .before in
     let w = c .before .before .put-text in (
-      subst (λ l. Wrote (now (s .args .out)) (s .args .at) l (w .last .0) (w .result)) (sym (ap (λ n. after (refusal n)) (c .before .before .before .before .before .match .keys1) ∙ text-16)) (w .ensures),
+      subst (λ l. Wrote (now (s .args .out)) (s .args .at) l (w .last .0) (w .result)) (sym (ap (λ n. afterSpace (refusalText n)) (c .before .before .before .before .before .match .keys1) ∙ text-16)) (w .ensures),
       omega (arith, w .ensures .ends),
     )
 
@@ -41,7 +41,7 @@ returns-2 c =
     let s = c .before .before .before .before .before .before .before in
     let w = c .before .before .put-text2 in
     let e : s .args .n ≡ 17 = ⊎-elim (λ h. absurd (c .before .before .before .before .before .match .rest .1 h)) (λ h. h) (s .pre .1) in (
-      subst (λ l. Wrote (now (s .args .out)) (s .args .at) l (w .last .0) (w .result)) (sym (ap (λ n. after (refusal n)) e ∙ text-17)) (w .ensures),
+      subst (λ l. Wrote (now (s .args .out)) (s .args .at) l (w .last .0) (w .result)) (sym (ap (λ n. afterSpace (refusalText n)) e ∙ text-17)) (w .ensures),
       omega (arith, w .ensures .ends),
     )
 

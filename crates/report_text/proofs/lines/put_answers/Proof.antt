@@ -5,7 +5,7 @@ use denote.Ref.{now}
 use mir.Syntax.{w32}
 use mir.Facts.{toZ-ofZ}
 use Rattle.report_text.specs.Numbers.{signed}
-use Rattle.report_text.specs.Report.{after, answersText}
+use Rattle.report_text.specs.Report.{afterSpace, answersText}
 use Rattle.report_text.specs.code.Writing.{Wrote}
 use Rattle.report_text.proofs.Writes.{wrote-on}
 use borrow.Author.Needs.{needs}
@@ -54,7 +54,7 @@ returns c =
     let whole = toZ-ofZ {w = w32} {z = margin} (record { sfits = told .1 .1 .1 .0 .1 }) in
     let w5 = c .before .before .put-missed .ensures in
     let end = c .before .before .put-missed in
-    let w4 = subst (λ x. Wrote (third .last .0) (third .result) (after (signed x)) (h4 .last .0) (h4 .result)) whole (h4 .ensures .0) in (
+    let w4 = subst (λ x. Wrote (third .last .0) (third .result) (afterSpace (signed x)) (h4 .last .0) (h4 .result)) whole (h4 .ensures .0) in (
       subst (λ a. Wrote (now (s .args .out)) (s .args .at) (answersText a (s .args .missed)) (end .last .0) (end .result)) (sym (g .1)) (wrote-on (wrote-on (wrote-on (wrote-on (w1 .0) (w2 .0)) (third .ensures .0)) w4) (w5 .0)),
       omega (arith, w1 .1, w2 .1, third .ensures .1, h4 .ensures .1, w5 .1),
     )

@@ -2,7 +2,7 @@
 use native.Mathlib.Omega.{arith}
 use mathlib.Core.Path.{sym, subst}
 use denote.Ref.{now}
-use Rattle.report_text.specs.Report.{after, missedText}
+use Rattle.report_text.specs.Report.{afterSpace, missedText}
 use Rattle.report_text.specs.code.Writing.{Wrote}
 use borrow.Author.Needs.{needs}
 use Rattle.report_text.proofs.lines.put_missed.Statement.{statement}
@@ -27,7 +27,7 @@ returns : tie.Need-returns
 returns c =
     let s = c .before .before .before .before .before .before .before .before in
     let w = c .before .before .put-number in
-    (subst (λ l. Wrote (now (s .args .out)) (s .args .at) (after (missedText l)) (w .last .0) (w .result)) (sym (c .before .before .before .before .before .missed .given .1)) (w .ensures .0), omega (arith, w .ensures .1))
+    (subst (λ l. Wrote (now (s .args .out)) (s .args .at) (afterSpace (missedText l)) (w .last .0) (w .result)) (sym (c .before .before .before .before .before .missed .given .1)) (w .ensures .0), omega (arith, w .ensures .1))
 
 same-length-2 : tie.Need-same-length-2
 same-length-2 c = search needs
@@ -36,7 +36,7 @@ returns-2 : tie.Need-returns-2
 returns-2 c =
     let s = c .before .before .before .before .before .before .before .before in
     let w = c .before .before .put-refusal in
-    (subst (λ l. Wrote (now (s .args .out)) (s .args .at) (after (missedText l)) (w .last .0) (w .result)) (sym (c .before .before .before .before .before .missed2 .given .1)) (w .ensures .0), omega (arith, w .ensures .1))
+    (subst (λ l. Wrote (now (s .args .out)) (s .args .at) (afterSpace (missedText l)) (w .last .0) (w .result)) (sym (c .before .before .before .before .before .missed2 .given .1)) (w .ensures .0), omega (arith, w .ensures .1))
 
 pub put-missed-spec : {M : Type 1} → statement M
 put-missed-spec =

@@ -7,7 +7,7 @@ use mir.Facts.{toZ-ofZ}
 use native.Mathlib.Omega.{arith}
 use Rattle.windows.proofs.Signs.{Upper, upper, Lower, lower}
 use Rattle.report_text.specs.Numbers.{decimal, signed}
-use Rattle.report_text.specs.Report.{after}
+use Rattle.report_text.specs.Report.{afterSpace}
 use Rattle.report_text.specs.code.Writing.{Wrote}
 use Rattle.report_text.proofs.Decimals.{decimal-fits}
 use Rattle.report_text.proofs.Writes.{wrote-on}
@@ -35,7 +35,7 @@ returns c =
     let s = c .before .before .before .before .before .before .before in
     let m = c .before .before .before .magnitude in
     let d = c .before .before .put-number in (
-      subst (λ l. Wrote (now (s .args .out)) (s .args .at) (after l) (d .last .0) (d .result)) (ap decimal (m .ensures ∙ ap natAbs (toZ-ofZ (s .fits .x))) ∙ sym (ap signed (up (c .before .before .before .before .before) .is))) (d .ensures .0),
+      subst (λ l. Wrote (now (s .args .out)) (s .args .at) (afterSpace l) (d .last .0) (d .result)) (ap decimal (m .ensures ∙ ap natAbs (toZ-ofZ (s .fits .x))) ∙ sym (ap signed (up (c .before .before .before .before .before) .is))) (d .ensures .0),
       omega (arith, d .ensures .1),
     )
 
@@ -63,7 +63,7 @@ returns-2 c =
     let w = c .before .before .before .before .before .before .before .put-text .ensures in
     let d = c .before .before .put-decimal in
     let x = down (c .before .before .before .before .before .before .before .before .before .before) .is in (
-      subst (λ l. Wrote (now (s .args .out)) (s .args .at) (after l) (d .last .0) (d .result)) (ap (λ n. 45 ∷ decimal n) (m .ensures ∙ ap natAbs (toZ-ofZ (s .fits .x) ∙ x)) ∙ sym (ap signed x)) (wrote-on w (d .ensures)),
+      subst (λ l. Wrote (now (s .args .out)) (s .args .at) (afterSpace l) (d .last .0) (d .result)) (ap (λ n. 45 ∷ decimal n) (m .ensures ∙ ap natAbs (toZ-ofZ (s .fits .x) ∙ x)) ∙ sym (ap signed x)) (wrote-on w (d .ensures)),
       omega (arith, w .ends, d .ensures .ends, decimal-fits (m .result) (m .ok)),
     )
 
