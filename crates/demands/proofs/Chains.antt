@@ -83,18 +83,18 @@ module _ {s : List ℕ} (h : IsTable s) (id : ℕ) where
 
   pub absent-or-there : (chainNumber s id ≡ t .count) ⊎ (chainNumber s id < t .count)
   unfolding findOf
-  absent-or-there = eq-or-lt-of-le (omega (arith, first-le (λ k. bears id (rowOf t k)) 0 (t .count)))
+  absent-or-there = eq-or-lt-of-le (omega (arith, first-le (λ chain. bears id (rowOf t chain)) 0 (t .count)))
 
   pub none-bears : chainNumber s id ≡ t .count → keep (bears id) (rows t) ≡ []
   unfolding findOf
   none-bears e =
       keep-none blank (bears id) (rows t)
-      (λ j l. ap (bears id) (row-at j l) ∙ first-miss (λ k. bears id (rowOf t k)) 0 (t .count) j (omega arith) (omega (arith, e, count)))
+      (λ j l. ap (bears id) (row-at j l) ∙ first-miss (λ chain. bears id (rowOf t chain)) 0 (t .count) j (omega arith) (omega (arith, e, count)))
 
   module _ (there : chainNumber s id < t .count) where
     pub own-bears : bears id (rowOf t (chainNumber s id)) ≡ true
     unfolding findOf
-    own-bears = first-hit (λ k. bears id (rowOf t k)) 0 (t .count) (omega (arith, there))
+    own-bears = first-hit (λ chain. bears id (rowOf t chain)) 0 (t .count) (omega (arith, there))
 
     other : (j : ℕ) → j < length (rows t) → (j ≡ chainNumber s id → ⊥) → bears id (getD (rows t) j blank) ≡ false
     other j l n =

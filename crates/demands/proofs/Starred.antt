@@ -36,8 +36,8 @@ finds : (findOf sampled 1 ≡ 0) × (findOf sampled 3 ≡ 2)
 unfolding sampled findOf first _when_else_
 finds = (refl, refl)
 
-row-same : (id k : ℕ) → findOf sampled id ≡ k → chainOf sample id ≡ rowOf sampled k
-row-same id k e = ap (λ (t : Table). rowOf t (findOf t id)) table-same ∙ ap (rowOf sampled) e
+row-same : (id chain : ℕ) → findOf sampled id ≡ chain → chainOf sample id ≡ rowOf sampled chain
+row-same id chain e = ap (λ (t : Table). rowOf t (findOf t id)) table-same ∙ ap (rowOf sampled) e
 
 others-same : othersOf sample 1 ≡ demand.others sampled 0
 others-same = ap (λ (t : Table). demand.others t (findOf t 1)) table-same ∙ ap (demand.others sampled) (finds .0)

@@ -35,12 +35,12 @@ altered-table : tableOf altered ≡ alteration
 altered-table = ap (λ (r : Reading). r .table) (altered-reads .reads)
 
 -- a chain of each that an id finds, with the same record, and others that pair off
-module _ (id k j : ℕ) (in-sample : findOf sampled id ≡ k) (in-altered : findOf alteration id ≡ j) where
-  besides : (k < 4) → (j < 4) → recordOf sample k ≡ recordOf altered j → Paired (Agrees (rowOf sampled k)) (others sampled k) (others alteration j) → SameBesides sample altered id
+module _ (id chain other : ℕ) (in-sample : findOf sampled id ≡ chain) (in-altered : findOf alteration id ≡ other) where
+  besides : (chain < 4) → (other < 4) → recordOf sample chain ≡ recordOf altered other → Paired (Agrees (rowOf sampled chain)) (others sampled chain) (others alteration other) → SameBesides sample altered id
   unfolding sampled alteration
   besides l m own pairs =
-      let f : findOf (tableOf sample) id ≡ k = ap (λ t. findOf t id) sample-table ∙ in-sample in
-      let g : findOf (tableOf altered) id ≡ j = ap (λ t. findOf t id) altered-table ∙ in-altered in
+      let f : findOf (tableOf sample) id ≡ chain = ap (λ t. findOf t id) sample-table ∙ in-sample in
+      let g : findOf (tableOf altered) id ≡ other = ap (λ t. findOf t id) altered-table ∙ in-altered in
       record {
         one = record { table = read-table sample-reads; there = rw (f, sample-table) l };
         two = record { table = read-table altered-reads; there = rw (g, altered-table) m };
@@ -50,7 +50,7 @@ module _ (id k j : ℕ) (in-sample : findOf sampled id ≡ k) (in-altered : find
 
 -- chain 3 and its alteration agree against each of the three
 abbrev Altered : ℕ → Type 0
-Altered k = Agrees (rowOf sampled k) (rowOf sampled 2) (rowOf alteration 1)
+Altered chain = Agrees (rowOf sampled chain) (rowOf sampled 2) (rowOf alteration 1)
 
 agrees-1 : Altered 0
 unfolding sampled alteration tasksFrom lowest some before stretches onward around nonempty cuts parts cutSegments sumOf _when_else_
@@ -81,7 +81,7 @@ unfolding recordOf sample altered sampled alteration placeOf sumOf
 same-records = rw (sample-table, altered-table) bytes
   where
     part : List ℕ → Table → ℕ → List ℕ
-    part s t k = take (lengthOf (rowOf t k)) (drop (placeOf t k) s)
+    part s t chain = take (lengthOf (rowOf t chain)) (drop (placeOf t chain) s)
 
     bytes : (part sample sampled 0 ≡ part altered alteration 2) × (part sample sampled 1 ≡ part altered alteration 3) × (part sample sampled 3 ≡ part altered alteration 0)
     bytes = (refl, refl, refl)

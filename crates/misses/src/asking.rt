@@ -207,11 +207,10 @@ pub fn misses_with(s: &[u8], chain: usize, k: u32, w: Windows) -> Answer
     requires { ⌜ Taken (now s) × (chain < tableOf (now s) .count) × (w ≡ boundAt (tableOf (now s)) chain) ⌝ }
     ensures { λ r. ⌜ r ≡ missesAt (tableOf (now (s .entry))) chain k ⌝ }
 {
-    let n = early(s, place(s, chain), k);
-    if n != 0 {
-        return Answer::Refused(n);
+    match early(s, place(s, chain), k) {
+        0 => by_bound(s, chain, k, w),
+        n => Answer::Refused(n),
     }
-    by_bound(s, chain, k, w)
 }
 
 // The misses of the chain with the id, of an accepted table.
@@ -223,11 +222,10 @@ fn misses_in(s: &[u8], id: u32, k: u32) -> Answer
     if chain == count(s) {
         return Answer::Refused(12);
     }
-    let n = early(s, place(s, chain), k);
-    if n != 0 {
-        return Answer::Refused(n);
+    match early(s, place(s, chain), k) {
+        0 => by_bound(s, chain, k, bound(s, chain)),
+        n => Answer::Refused(n),
     }
-    by_bound(s, chain, k, bound(s, chain))
 }
 
 // The misses of the chain with the id in a run of k activations, of a stored table.

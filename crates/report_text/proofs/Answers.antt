@@ -46,22 +46,22 @@ module _ (s : List ℕ) (bytes : Bytes s) (yes : readTable s .verdict ≡ Accept
   good : GoodTable t
   good = taken s bytes yes .good
 
-  module _ (k : ℕ) (h : k < t .count) where
-    found : findOf t (rowOf t k .id) ≡ k
-    found = find-is t good k h
+  module _ (chain : ℕ) (h : chain < t .count) where
+    found : findOf t (rowOf t chain .id) ≡ chain
+    found = find-is t good chain h
 
-    latency-is : latencyOf s (rowOf t k .id) ≡ boundOf (rowOf t k) (viewsOf t k) .answer
+    latency-is : latencyOf s (rowOf t chain .id) ≡ boundOf (rowOf t chain) (viewsOf t chain) .answer
     latency-is =
-        latency-accepted s (rowOf t k .id) yes ∙ latency-found t (rowOf t k .id) (λ e. omega (arith, e, found, h))
+        latency-accepted s (rowOf t chain .id) yes ∙ latency-found t (rowOf t chain .id) (λ e. omega (arith, e, found, h))
         ∙ ap (λ j. boundOf (rowOf t j) (viewsOf t j) .answer) found
 
-    misses-is : missesOf s (rowOf t k .id) missRun ≡ missesAt t k missRun
+    misses-is : missesOf s (rowOf t chain .id) missRun ≡ missesAt t chain missRun
     misses-is =
-        misses-accepted s (rowOf t k .id) missRun yes ∙ misses-found t (rowOf t k .id) missRun (λ e. omega (arith, e, found, h))
+        misses-accepted s (rowOf t chain .id) missRun yes ∙ misses-found t (rowOf t chain .id) missRun (λ e. omega (arith, e, found, h))
         ∙ ap (λ j. missesAt t j missRun) found
 
-    line-is : lineOf s (rowOf t k) ≡ lineIn t k
-    line-is = ap₂ (lineText (rowOf t k .id)) latency-is misses-is
+    line-is : lineOf s (rowOf t chain) ≡ lineIn t chain
+    line-is = ap₂ (lineText (rowOf t chain .id)) latency-is misses-is
 
   lines-are : (n : ℕ) → n ≤ t .count → flatMap (lineOf s) (take n (t .row)) ≡ linesIn t n
   unfolding flatMap linesIn

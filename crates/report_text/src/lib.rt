@@ -41,10 +41,10 @@ fn put_lines(out: &mut [u8], s: &[u8]) -> usize
 {
     let chains = count(s);
     let mut at = put_text(out, 0, b"chain K latency late margin miss10\n");
-    let mut i: usize = 0;
-    while i < chains {
-        at = put_line(out, at, s, i);
-        i += 1;
+    let mut chain: usize = 0;
+    while chain < chains {
+        at = put_line(out, at, s, chain);
+        chain += 1;
     }
     at
 }

@@ -68,14 +68,14 @@ fn put_answers(out: &mut [u8], at: usize, answer: Latency, missed: Missed) -> us
     }
 }
 
-// The line of the chain i. Its windows are worked out once, for both answers.
-pub fn put_line(out: &mut [u8], at: usize, s: &[u8], i: usize) -> usize
-    requires { ⌜ (at + 68 ≤ length (now out)) × Taken (now s) × (i < tableOf (now s) .count) ⌝ }
-    ensures { λ r. ⌜ Wrote (now (out .entry)) at (lineIn (tableOf (now (s .entry))) i) (now (out .exit)) r × (r ≤ at + 68) ⌝ }
+// The line of the chain of that number. Its windows are worked out once, for both answers.
+pub fn put_line(out: &mut [u8], at: usize, s: &[u8], chain: usize) -> usize
+    requires { ⌜ (at + 68 ≤ length (now out)) × Taken (now s) × (chain < tableOf (now s) .count) ⌝ }
+    ensures { λ r. ⌜ Wrote (now (out .entry)) at (lineIn (tableOf (now (s .entry))) chain) (now (out .exit)) r × (r ≤ at + 68) ⌝ }
 {
-    let w = bound(s, i);
-    let missed = misses_with(s, i, MISS_RUN, w);
-    let id = id_at(s, place(s, i));
+    let w = bound(s, chain);
+    let missed = misses_with(s, chain, MISS_RUN, w);
+    let id = id_at(s, place(s, chain));
     let after_id = put_decimal(out, at, u32_from_u16(id));
     let answer = w.answer;
     let end = put_answers(out, after_id, answer, missed);

@@ -1,4 +1,4 @@
--- After the header, the lines of the chains up to i.
+-- After the header, the lines of the chains up to that one.
 use Prim.Native.Nat.{_+_, _*_, _-_, _≤_, _<_}
 use native.Mathlib.Omega.{arith}
 use mathlib.Core.Path.{_≡_, subst, _∙_}
@@ -14,13 +14,13 @@ use Rattle.report_text.proofs.put_lines.Statement.{statement}
 use Rattle.report_text.proofs.put_lines.Tie as tie
 
 abbrev Inv-loop : tie.InvT-loop
-Inv-loop out₀ s chains at₀ i₀ out at i = (i ≤ chains) × (at ≤ at₀ + 68 * i) × Wrote out₀ at₀ (linesIn (tableOf s) i) out at
+Inv-loop out₀ s chains at₀ chain₀ out at chain = (chain ≤ chains) × (at ≤ at₀ + 68 * chain) × Wrote out₀ at₀ (linesIn (tableOf s) chain) out at
 
 abbrev μ-loop : tie.MeasureT-loop
-μ-loop out₀ s chains at₀ i₀ out at i = chains - i
+μ-loop out₀ s chains at₀ chain₀ out at chain = chains - chain
 
--- the chain i is there
-within : (c : tie.In-loop Inv-loop μ-loop) → c .before .loop .i < tableOf (now (c .before .before .before .before .before .before .before .before .before .before .args .s)) .count
+-- that chain is there
+within : (c : tie.In-loop Inv-loop μ-loop) → c .before .loop .chain < tableOf (now (c .before .before .before .before .before .before .before .before .before .before .args .s)) .count
 within c = omega (arith, c .before .before .before .before .before .before .before .count .ensures, c .loop-test .taken)
 
 count-requires : tie.Need-count-requires Inv-loop μ-loop
@@ -46,8 +46,8 @@ put-line-requires c κs =
     let l = c .before .before .loop in
     (omega (arith, l .inv .1, l .inv .2 .long, h .ends, h .long, s .pre .0, s .pre .1 .good .few, within (c .before)), s .pre .1, within (c .before))
 
-add-i : tie.Need-add-i Inv-loop μ-loop
-add-i c = omega (arith, c .before .before .before .before .before .before .before .before .before .before .before .before .before .before .pre .1 .good .few, within (c .before .before .before .before))
+add-chain : tie.Need-add-chain Inv-loop μ-loop
+add-chain c = omega (arith, c .before .before .before .before .before .before .before .before .before .before .before .before .before .before .pre .1 .good .few, within (c .before .before .before .before))
 
 loop-less : tie.Need-loop-less Inv-loop μ-loop
 loop-less c = omega (arith, c .before .before .before .before .loop-test .taken)
@@ -66,7 +66,7 @@ returns c =
     let l = c .before .loop in
     let s = c .before .before .before .before .before .before .before .before .before .before in
     let t = tableOf (now (s .args .s)) in
-    let e : l .i ≡ t .count = omega (arith, c .loop-test .left, l .inv .0, c .before .before .before .before .before .before .before .count .ensures) in
+    let e : l .chain ≡ t .count = omega (arith, c .loop-test .left, l .inv .0, c .before .before .before .before .before .before .before .count .ensures) in
     subst (λ n. Wrote (now (s .args .out)) 0 (header ++ linesIn t n) (l .out) (l .at)) e (wrote-on (c .before .before .before .before .put-text .ensures) (l .inv .2))
 
 pub put-lines-spec : {M : Type 1} → statement M
@@ -80,7 +80,7 @@ put-lines-spec =
     put-text-requires
     loop-holds
     put-line-requires
-    add-i
+    add-chain
     loop-less
     loop-again
     same-length

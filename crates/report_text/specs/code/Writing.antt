@@ -24,9 +24,9 @@ pub record Wrote (before : List ℕ) (at : ℕ) (text after : List ℕ) (next : 
 pub record Bounded (latency : Latency) : Type 0 where
   pub refused : (n : ℕ) → latency ≡ Unbounded n → (n ≡ 16) ⊎ (n ≡ 17)
 
--- the line of the chain k, and the lines of the first n chains
+-- the line of a chain of a table, by its number, and the lines of the first n chains
 abbrev pub lineIn : Table → ℕ → List ℕ
-lineIn t k = lineText (rowOf t k .id) (boundOf (rowOf t k) (viewsOf t k) .answer) (missesAt t k missRun)
+lineIn t chain = lineText (rowOf t chain .id) (boundOf (rowOf t chain) (viewsOf t chain) .answer) (missesAt t chain missRun)
 
 unfoldable pub linesIn : Table → ℕ → List ℕ
 linesIn t zero = []

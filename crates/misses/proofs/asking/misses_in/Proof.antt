@@ -60,22 +60,22 @@ place-requires c κs = (start c .pre, omega (arith, there c))
 early-requires : tie.Need-early-requires
 early-requires c κs = omega (arith, stands (start (c .before) .pre) (c .place .ensures) (there (c .before)) .there)
 
-returns-2 : tie.Need-returns-2
-returns-2 c =
-    let d = known (c .before) in
-    let e = judged (c .before) in
-    ap Refused e ∙ sym (at-early (t (start d)) (chain d) (start d .args .k) (λ z. c .if2 .taken (e ∙ z))) ∙ found d
-
 bound-requires : tie.Need-bound-requires
 bound-requires c κs = let d = known (c .before) in (start d .pre, there d)
 
 by-bound-requires : tie.Need-by-bound-requires
 by-bound-requires c κs =
     let d = known (c .before .before) in
-    (start d .pre, there d, sym (judged (c .before .before)) ∙ c .before .if2 .left, c .bound .ensures)
+    (start d .pre, there d, sym (judged (c .before .before)) ∙ c .before .match .keys1, c .bound .ensures)
+
+returns-2 : tie.Need-returns-2
+returns-2 c = c .by-bound .ensures ∙ found (c .before .before .before .before .before)
 
 returns-3 : tie.Need-returns-3
-returns-3 c = c .by-bound .ensures ∙ found (c .before .before .before .before .before)
+returns-3 c =
+    let d = known (c .before) in
+    let e = judged (c .before) in
+    ap Refused e ∙ sym (at-early (t (start d)) (chain d) (start d .args .k) (λ z. c .match .rest .1 (e ∙ z))) ∙ found d
 
 pub misses-in-spec : {M : Type 1} → statement M
 misses-in-spec =
@@ -86,7 +86,7 @@ misses-in-spec =
     returns
     place-requires
     early-requires
-    returns-2
     bound-requires
     by-bound-requires
+    returns-2
     returns-3)

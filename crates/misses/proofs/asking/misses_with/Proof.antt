@@ -27,18 +27,18 @@ place-requires c κs = let p = c .before .pre in (p .0, omega (arith, p .1))
 early-requires : tie.Need-early-requires
 early-requires c κs = let p = c .before .before .pre in omega (arith, stands (p .0) (c .place .ensures) (p .1) .there)
 
-returns : tie.Need-returns
-returns c =
-    let s = c .before .before .before .before in
-    let e = judged (c .before) in
-    ap Refused e ∙ sym (at-early (t s) (s .args .chain) (s .args .k) (λ z. c .if1 .taken (e ∙ z)))
-
 by-bound-requires : tie.Need-by-bound-requires
-by-bound-requires c κs = let p = c .before .before .before .before .pre in (p .0, p .1, sym (judged (c .before)) ∙ c .if1 .left, p .2)
+by-bound-requires c κs = let p = c .before .before .before .before .pre in (p .0, p .1, sym (judged (c .before)) ∙ c .match .keys1, p .2)
+
+returns : tie.Need-returns
+returns c = c .by-bound .ensures
 
 returns-2 : tie.Need-returns-2
-returns-2 c = c .by-bound .ensures
+returns-2 c =
+    let s = c .before .before .before .before in
+    let e = judged (c .before) in
+    ap Refused e ∙ sym (at-early (t s) (s .args .chain) (s .args .k) (λ z. c .match .rest .1 (e ∙ z)))
 
 pub misses-with-spec : {M : Type 1} → statement M
 misses-with-spec =
-    tie.close (tie.spec place-requires early-requires returns by-bound-requires returns-2)
+    tie.close (tie.spec place-requires early-requires by-bound-requires returns returns-2)

@@ -22,7 +22,7 @@ use Rattle.report_text.proofs.lines.put_line.Statement.{statement}
 use Rattle.report_text.proofs.lines.put_line.Tie as tie
 
 -- the id that was read is the chain's
-id-is : (c : tie.After-u32-from-u16) → c .u32-from-u16 .result ≡ rowOf (tableOf (now (c .before .before .before .before .before .before .before .before .args .s))) (c .before .before .before .before .before .before .before .before .args .i) .id
+id-is : (c : tie.After-u32-from-u16) → c .u32-from-u16 .result ≡ rowOf (tableOf (now (c .before .before .before .before .before .before .before .before .args .s))) (c .before .before .before .before .before .before .before .before .args .chain) .id
 unfolding rowAt
 id-is c =
     c .u32-from-u16 .ensures .0 ∙ c .before .before .id-at .ensures
@@ -70,15 +70,15 @@ returns : tie.Need-returns
 returns c =
     let s = c .before .before .before .before .before .before .before .before .before .before .before .before .before .before .before .before .before .before .before in
     let t = tableOf (now (s .args .s)) in
-    let i = s .args .i in
+    let chain = s .args .chain in
     let id = c .before .before .before .before .before .before .before .before .before .before .before .u32-from-u16 in
     let x = c .before .before .before .before .before .before .before .before .before .before .before .before .before .before .before .before .bound in
     let m = c .before .before .before .before .before .before .before .before .before .before .before .before .before .before .before .misses-with in
     let w = c .before .before .before .before .before .before .before .before .before .before .put-decimal .ensures in
     let a = c .before .before .before .before .before .before .put-answers .ensures in
     let n = c .before .before .put-byte in
-    let e : lineText (id .result) (x .result .answer) (m .result) ≡ lineText (rowOf t i .id) (boundOf (rowOf t i) (viewsOf t i) .answer) (missesAt t i missRun) =
-    ap₂ (λ (k : ℕ) (q : Windows). lineText k (q .answer) (m .result)) (id-is (c .before .before .before .before .before .before .before .before .before .before .before)) (x .ensures) ∙ ap (lineText (rowOf t i .id) (boundOf (rowOf t i) (viewsOf t i) .answer)) (m .ensures) in (
+    let e : lineText (id .result) (x .result .answer) (m .result) ≡ lineText (rowOf t chain .id) (boundOf (rowOf t chain) (viewsOf t chain) .answer) (missesAt t chain missRun) =
+    ap₂ (λ (k : ℕ) (q : Windows). lineText k (q .answer) (m .result)) (id-is (c .before .before .before .before .before .before .before .before .before .before .before)) (x .ensures) ∙ ap (lineText (rowOf t chain .id) (boundOf (rowOf t chain) (viewsOf t chain) .answer)) (m .ensures) in (
       subst (λ l. Wrote (now (s .args .out)) (s .args .at) l (n .last .0) (n .result)) e (wrote-on (wrote-on w (a .0)) (n .ensures)),
       omega (arith, w .ends, a .1, n .ensures .ends, decimal-fits (id .result) (omega (arith, id .ensures .1))),
     )
