@@ -9,7 +9,7 @@ ghost use Rattle.saving.specs.code.Begins.{Begins};
 // How far the two agree for certain, four bytes at a time.
 fn agree(a: &[u8], b: &[u8]) -> usize
     requires { ⌜ length (now a) ≡ length (now b) ⌝ }
-    ensures { λ r. ⌜ (r ≤ length (now (a .entry))) × ((k : ℕ) → k < r → getD (now (a .entry)) k 0 ≡ getD (now (b .entry)) k 0) ⌝ }
+    ensures { λ r. ⌜ (r ≤ length (now (a .entry))) × ((j : ℕ) → j < r → getD (now (a .entry)) j 0 ≡ getD (now (b .entry)) j 0) ⌝ }
 {
     let mut i: usize = 0;
     while 4 <= a.len() - i && u32_at(a, i) == u32_at(b, i) {

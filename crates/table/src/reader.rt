@@ -11,7 +11,22 @@ use crate::record::id_at;
 use crate::record::record_length;
 use crate::record::tasks_at;
 ghost use mathlib.Core.Path.{_≡_};
-ghost use Rattle.table.specs.Read.{readTable};
+ghost use Prim.Native.Nat.{_+_, _≤_};
+ghost use lib.ListN.{length};
+ghost use Rattle.table.specs.Fault.{endFault};
+ghost use Rattle.table.specs.Read.{accepted, refusal, unless, readTable};
+ghost use Rattle.table.specs.declared.Table.{Table};
+
+// The verdict of the end record at `at`, its mark known, after so many chains.
+fn ended(s: &[u8], at: usize, count: usize) -> Verdict
+    requires { ⌜ at + 2 ≤ length (now s) ⌝ }
+    ensures { λ r. ⌜ ((t : Table) → t .count ≡ count → r ≡ unless refusal (endFault (now (s .entry)) at t) (accepted t) .verdict) ⌝ }
+{
+    match end_fault(s, at, count) {
+        0 => Verdict::Accepted,
+        fault => Verdict::Refused(fault),
+    }
+}
 
 // Judges a stored table. No byte past the slice is looked at.
 pub fn judge(s: &[u8]) -> Verdict
@@ -41,14 +56,9 @@ pub fn judge(s: &[u8]) -> Verdict
                     }
                 }
             }
-            Mark::End => match end_fault(s, at, before.count) {
-                0 => {
-                    return Verdict::Accepted;
-                }
-                fault => {
-                    return Verdict::Refused(fault);
-                }
-            },
+            Mark::End => {
+                return ended(s, at, before.count);
+            }
             Mark::Task => {
                 return Verdict::Refused(3);
             }

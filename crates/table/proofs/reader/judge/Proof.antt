@@ -103,14 +103,6 @@ module _ (c : tie.At-match2-keys1 Inv-loop μ-loop) where
   right : ChainRight (bytes before) (before .loop .at) (sofar before)
   right = chain-right _ _ _ (sym (c .before .chain-fault .ensures _ (before .loop .inv .1 .known)) ∙ c .match2 .keys1)
 
--- the end record leads to its fault, or accepts
-module _ (c : tie.After-end-fault Inv-loop μ-loop) where
-  abbrev at-end : tie.At-loop Inv-loop μ-loop
-  at-end = c .before .before .before .before .before .before
-
-  ended : readTable (bytes at-end) ≡ unless refusal (endFault (bytes at-end) (at-end .loop .at) (sofar at-end)) (accepted (sofar at-end))
-  ended = other (c .before .before .before) End (c .before .enum-told2 .given .1) (λ e. let z : _≡_ {A = ℕ} 0 1 = cc in omega arith)
-
 returns : tie.Need-returns Inv-loop μ-loop
 returns c = sym (verdict (read-long (now (c .before .before .args .s)) (long c)))
 
@@ -196,34 +188,28 @@ returns-3 c = let f = c .before .chain-fault in
 enum-told-2 : tie.Need-enum-told-2 Inv-loop μ-loop
 enum-told-2 c = c .match .keys2
 
-end-fault-requires : tie.Need-end-fault-requires Inv-loop μ-loop
-end-fault-requires c κs = search needs
+ended-requires : tie.Need-ended-requires Inv-loop μ-loop
+ended-requires c κs = search needs
 
 returns-4 : tie.Need-returns-4 Inv-loop μ-loop
-returns-4 c = let l = c .before .before .before .before .before .before .before in
-    let e = sym (c .before .end-fault .ensures (sofar l) (counts l)) ∙ c .match3 .keys1 in
-    sym (verdict (ended (c .before) ∙ unless-none refusal (endFault (bytes l) (l .loop .at) (sofar l)) (accepted (sofar l)) e))
-
-returns-5 : tie.Need-returns-5 Inv-loop μ-loop
-returns-5 c = let l = c .before .before .before .before .before .before .before in
-    let f = c .before .end-fault in
-    let e = ap (λ (n : ℕ). unless refusal n (accepted (sofar l))) (sym (f .ensures (sofar l) (counts l))) in
-    sym (verdict (ended (c .before) ∙ e ∙ unless-fault refusal (f .result) (accepted (sofar l)) (c .match3 .rest .1)))
+returns-4 c =
+    c .ended .ensures (sofar (c .before .before .before .before .before .before)) (counts (c .before .before .before .before .before .before))
+    ∙ sym (verdict (other (c .before .before .before) End (c .before .enum-told2 .given .1) (λ e. let z : _≡_ {A = ℕ} 0 1 = cc in omega arith)))
 
 enum-told-3 : tie.Need-enum-told-3 Inv-loop μ-loop
 enum-told-3 c = c .match .keys3
 
-returns-6 : tie.Need-returns-6 Inv-loop μ-loop
-returns-6 c = sym (verdict (other (c .before .before) Task (c .enum-told3 .given .1) (λ e. let z : _≡_ {A = ℕ} 0 1 = cc in omega arith)))
+returns-5 : tie.Need-returns-5 Inv-loop μ-loop
+returns-5 c = sym (verdict (other (c .before .before) Task (c .enum-told3 .given .1) (λ e. let z : _≡_ {A = ℕ} 0 1 = cc in omega arith)))
 
 enum-known-fault : tie.Need-enum-known-fault Inv-loop μ-loop
 enum-known-fault c = search needs
 
-returns-7 : tie.Need-returns-7 Inv-loop μ-loop
-returns-7 c = sym (verdict (other (c .before .before .before) (Unknown _) (c .before .fault .given .1) (λ e. let z : _≡_ {A = ℕ} 0 1 = cc in omega arith)))
+returns-6 : tie.Need-returns-6 Inv-loop μ-loop
+returns-6 c = sym (verdict (other (c .before .before .before) (Unknown _) (c .before .fault .given .1) (λ e. let z : _≡_ {A = ℕ} 0 1 = cc in omega arith)))
 
-returns-8 : tie.Need-returns-8 Inv-loop μ-loop
-returns-8 c = let l = c .before in
+returns-7 : tie.Need-returns-7 Inv-loop μ-loop
+returns-7 c = let l = c .before in
     sym (verdict (whole l ∙ records-short (bytes l) (l .loop .at) (sofar l) (maxChains - sofar l .count) (c .loop-test .left)))
 
 pub judge-spec : {M : Type 1} → statement M
@@ -253,11 +239,10 @@ judge-spec =
     loop-again
     returns-3
     enum-told-2
-    end-fault-requires
+    ended-requires
     returns-4
-    returns-5
     enum-told-3
-    returns-6
+    returns-5
     enum-known-fault
-    returns-7
-    returns-8)
+    returns-6
+    returns-7)
