@@ -23,7 +23,7 @@ ghost use Rattle.table.specs.Bytes.{word};
 ghost use Rattle.table.specs.Record.{listedAt, spaced};
 ghost use Rattle.table.specs.Find.{used};
 ghost use Rattle.table.specs.Fault.{outside as outsideOf, markOf, identityFault, timesFault, countsFault, headFault, falls as fallsOf, distancesFault, gapShort, gapFault, listFault, taskMarkFault, taskRestFault, taskFault, tasksFault, chainFault, endFault};
-ghost use Rattle.table.specs.code.Before.{beforeOf};
+ghost use Rattle.table.specs.code.Before.{Keeps};
 ghost use Rattle.table.specs.declared.Table.{Table};
 
 // The mark as a number: `CH`, `TK`, `EN`, or refusal 3.
@@ -61,11 +61,11 @@ fn same_id(ids: &[u16; Table::CHAINS], count: usize, id: u16) -> usize
 }
 
 // Whether the id is 0 or used earlier.
-fn id_wrong(id: u16, before: Before) -> bool
+fn id_wrong(id: u16, ids: &[u16; Table::CHAINS], before: Before) -> bool
     requires { ⌜ before .count ≤ maxChains ⌝ }
-    ensures { λ r. ⌜ ((t : Table) → before ≡ beforeOf t → r ≡ (eqb id 0 || used t id)) ⌝ }
+    ensures { λ r. ⌜ ((t : Table) → Keeps (now (ids .entry)) before t → r ≡ (eqb id 0 || used t id)) ⌝ }
 {
-    id == 0 || same_id(&before.ids, before.count, id) < before.count
+    id == 0 || same_id(ids, before.count, id) < before.count
 }
 
 // Whether the kind or the overload byte is above 1.
@@ -76,11 +76,11 @@ fn bytes_wrong(kind: u8, overload: u8) -> bool
 }
 
 // 4 or 5: the id, the kind and the overload byte of the chain record at `at`.
-fn identity_fault(s: &[u8], at: usize, before: Before) -> u32
+fn identity_fault(s: &[u8], at: usize, ids: &[u16; Table::CHAINS], before: Before) -> u32
     requires { ⌜ (at + 16 ≤ length (now s)) × (before .count ≤ maxChains) ⌝ }
-    ensures { λ r. ⌜ ((t : Table) → before ≡ beforeOf t → r ≡ identityFault (now (s .entry)) at t) ⌝ }
+    ensures { λ r. ⌜ ((t : Table) → Keeps (now (ids .entry)) before t → r ≡ identityFault (now (s .entry)) at t) ⌝ }
 {
-    if id_wrong(id_at(s, at), before) {
+    if id_wrong(id_at(s, at), ids, before) {
         return 4;
     }
     if bytes_wrong(kind_at(s, at), overload_at(s, at)) {
@@ -126,14 +126,14 @@ fn counts_fault(s: &[u8], at: usize, before: usize) -> u32
 }
 
 // 2, or 4 to 9: the fixed part of the chain record at `at`.
-fn head_fault(s: &[u8], at: usize, before: Before) -> u32
+fn head_fault(s: &[u8], at: usize, ids: &[u16; Table::CHAINS], before: Before) -> u32
     requires { ⌜ (at + 2 ≤ length (now s)) × (before .count ≤ maxChains) × (before .tasks ≤ maxAllTasks) ⌝ }
-    ensures { λ r. ⌜ ((t : Table) → before ≡ beforeOf t → r ≡ headFault (now (s .entry)) at t) ⌝ }
+    ensures { λ r. ⌜ ((t : Table) → Keeps (now (ids .entry)) before t → r ≡ headFault (now (s .entry)) at t) ⌝ }
 {
     if s.len() < at + 16 {
         return 2;
     }
-    match identity_fault(s, at, before) {
+    match identity_fault(s, at, ids, before) {
         0 => match times_fault(s, at) {
             0 => counts_fault(s, at, before.tasks),
             fault => fault,
@@ -288,11 +288,11 @@ fn tasks_fault(s: &[u8], at: usize, n: usize) -> u32
 }
 
 // The first fault of the chain record at `at`, its mark known, after the chains before it.
-pub fn chain_fault(s: &[u8], at: usize, before: Before) -> u32
+pub fn chain_fault(s: &[u8], at: usize, ids: &[u16; Table::CHAINS], before: Before) -> u32
     requires { ⌜ (at + 2 ≤ length (now s)) × (before .count ≤ maxChains) × (before .tasks ≤ maxAllTasks) ⌝ }
-    ensures { λ r. ⌜ ((t : Table) → before ≡ beforeOf t → r ≡ chainFault (now (s .entry)) at t) ⌝ }
+    ensures { λ r. ⌜ ((t : Table) → Keeps (now (ids .entry)) before t → r ≡ chainFault (now (s .entry)) at t) ⌝ }
 {
-    match head_fault(s, at, before) {
+    match head_fault(s, at, ids, before) {
         0 => match list_fault(s, at) {
             0 => tasks_fault(s, at + 16 + 4 * listed_at(s, at), tasks_at(s, at)),
             fault => fault,

@@ -35,7 +35,8 @@ pub fn judge(s: &[u8]) -> Verdict
     if s.len() == 0 || Table::BYTES < s.len() {
         return Verdict::Refused(1);
     }
-    let mut before = Before::none();
+    let mut ids = [0u16; Table::CHAINS];
+    let mut before = Before { count: 0, tasks: 0 };
     let mut at: usize = 0;
     while at + 2 <= s.len() {
         match mark_of(u16_at(s, at)) {
@@ -43,10 +44,10 @@ pub fn judge(s: &[u8]) -> Verdict
                 if before.count == Table::CHAINS {
                     return Verdict::Refused(11);
                 }
-                match chain_fault(s, at, before) {
+                match chain_fault(s, at, &ids, before) {
                     0 => {
                         let count = before.count;
-                        before.ids[count] = id_at(s, at);
+                        ids[count] = id_at(s, at);
                         before.count = count + 1;
                         before.tasks = before.tasks + tasks_at(s, at);
                         at = at + record_length(s, at);

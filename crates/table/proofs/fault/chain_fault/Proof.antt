@@ -11,8 +11,8 @@ use Rattle.table.proofs.fault.chain_fault.Statement.{statement}
 use Rattle.table.proofs.fault.chain_fault.Tie as tie
 
 -- no fault of the fixed part
-head : (c : tie.At-match-keys1) → HeadRight (now (c .before .before .before .args .s)) (c .before .before .before .args .at) (tableBefore (c .before .before .before .args .before))
-head c = head-right _ _ _ (sym (c .before .head-fault .ensures _ (table-before _)) ∙ c .match .keys1)
+head : (c : tie.At-match-keys1) → HeadRight (now (c .before .before .before .args .s)) (c .before .before .before .args .at) (tableBefore (now (c .before .before .before .args .ids)) (c .before .before .before .args .before))
+head c = head-right _ _ _ (sym (c .before .head-fault .ensures _ (table-before _ _)) ∙ c .match .keys1)
 
 head-fault-requires : tie.Need-head-fault-requires
 head-fault-requires c κs = search needs

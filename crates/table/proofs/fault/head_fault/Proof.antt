@@ -28,7 +28,7 @@ returns-2 : tie.Need-returns-2
 unfolding headFault _when_else_ _then_
 returns-2 c t before =
     let i = c .before .before .before .before in
-    rw (c .counts-fault .ensures, before, le-ltb _ _ (i .before .if1 .left), ← i .identity-fault .ensures t before, c .before .before .before .match .keys1, ← c .before .before .times-fault .ensures, c .before .match2 .keys1)
+    rw (c .counts-fault .ensures, before .tasks, le-ltb _ _ (i .before .if1 .left), ← i .identity-fault .ensures t before, c .before .before .before .match .keys1, ← c .before .before .times-fault .ensures, c .before .match2 .keys1)
 
 returns-3 : tie.Need-returns-3
 unfolding headFault _when_else_ _then_

@@ -14,13 +14,13 @@ use Rattle.table.specs.Bytes.{word}
 use Rattle.table.specs.Record.{idAt, lengthAt, rowAt}
 use Rattle.table.specs.Fault.{markOf, chainFault, endFault}
 use Rattle.table.specs.Read.{empty, plus, accepted, refusal, unless, byMark, records, readTable}
-use Rattle.table.specs.code.Before.{beforeOf}
+use Rattle.table.specs.code.Before.{Keeps}
 use Rattle.table.specs.declared.Table.{Table}
 use Rattle.table.specs.declared.Reading.{Reading}
 use Rattle.table.specs.declared.Mark.{Mark}
 use Rattle.table.specs.declared.Mark.the-variants.{Chain, Task, End, Refused as Unknown}
 use Rattle.table.specs.declared.before.Before.{Before}
-use Rattle.table.proofs.Earlier.{andOne, before-more}
+use Rattle.table.proofs.Earlier.{before-more}
 use Rattle.table.proofs.Firsts.{or-left, or-right, or-none, unless-fault, unless-none}
 use Rattle.table.proofs.Faultless.{ChainRight, chain-right}
 use Rattle.table.proofs.Steps.{read-long, read-on, records-short, records-mark, records-full, records-chain}
@@ -29,35 +29,35 @@ use Rattle.table.proofs.reader.judge.Statement.{statement}
 use Rattle.table.proofs.reader.judge.Tie as tie
 
 -- the rows before `at` make the table t
-record SoFar (s : List ℕ) (before : Before) (at : ℕ) (t : Table) : Type 0 where
+record SoFar (s ids : List ℕ) (before : Before) (at : ℕ) (t : Table) : Type 0 where
   few : before .count ≤ maxChains
   all : before .tasks ≤ maxAllTasks
   inside : at ≤ length s
   left : records (maxChains - t .count) s at t ≡ records maxChains s 0 empty
-  size : length (before .ids) ≡ maxChains
-  known : before ≡ beforeOf t
+  size : length ids ≡ maxChains
+  known : Keeps ids before t
 
 abbrev Inv-loop : tie.InvT-loop
-Inv-loop s before₀ at₀ before at = (t : Table) × SoFar s before at t
+Inv-loop s ids₀ before₀ at₀ ids before at = (t : Table) × SoFar s ids before at t
 
 abbrev μ-loop : tie.MeasureT-loop
-μ-loop s before₀ at₀ before at = maxChains - before .count
+μ-loop s ids₀ before₀ at₀ ids before at = maxChains - before .count
 
 abbrev verdict : {r q : Reading} → r ≡ q → r .verdict ≡ q .verdict
 verdict e = ap (λ (x : Reading). x .verdict) e
 
 -- at the loop's head: the bytes, the table so far, and how many rows it has
 abbrev bytes : tie.At-loop Inv-loop μ-loop → List ℕ
-bytes l = now (l .before .before .before .before .before .args .s)
+bytes l = now (l .before .before .before .before .args .s)
 
 abbrev sofar : tie.At-loop Inv-loop μ-loop → Table
 sofar l = l .loop .inv .0
 
 counts : (l : tie.At-loop Inv-loop μ-loop) → sofar l .count ≡ l .loop .before .count
-counts l = ap (λ (x : Before). x .count) (sym (l .loop .inv .1 .known))
+counts l = sym (l .loop .inv .1 .known .count)
 
 totals : (l : tie.At-loop Inv-loop μ-loop) → sofar l .tasks ≡ l .loop .before .tasks
-totals l = ap (λ (x : Before). x .tasks) (sym (l .loop .inv .1 .known))
+totals l = sym (l .loop .inv .1 .known .tasks)
 
 -- the length is wrong
 long : (c : tie.Joined1 Inv-loop μ-loop) → (eqb (length (now (c .before .before .args .s))) 0 || ltb maxBytes (length (now (c .before .before .args .s)))) ≡ true
@@ -65,7 +65,7 @@ long c = ⊎-elim (λ w. or-left _ _ (eq-eqb _ _ (w .taken))) (λ w. or-right (e
 
 -- the length is right, and what is left gives what the whole gives
 whole : (l : tie.At-loop Inv-loop μ-loop) → readTable (bytes l) ≡ records (maxChains - sofar l .count) (bytes l) (l .loop .at) (sofar l)
-whole l = read-on (bytes l) (or-none _ _ (ne-eqb _ _ (l .before .before .before .if1 .left)) (l .before .before .if2 .left)) ∙ sym (l .loop .inv .1 .left)
+whole l = read-on (bytes l) (or-none _ _ (ne-eqb _ _ (l .before .before .if1 .left)) (l .before .if2 .left)) ∙ sym (l .loop .inv .1 .left)
 
 -- the mark at the record's start, and what it leads to
 module _ (c : tie.After-mark-of Inv-loop μ-loop) where
@@ -90,15 +90,15 @@ module _ (c : tie.After-mark-of Inv-loop μ-loop) where
   other m e h = whole l ∙ records-mark (bytes l) (l .loop .at) (sofar l) (c .before .before .loop-test .taken) (maxChains - sofar l .count) m (mark ∙ e) h
 
 -- there is room for a chain more
-room : (c : tie.Else3 Inv-loop μ-loop) → sofar (c .before .before .before .before .before .before) .count < maxChains
+room : (c : tie.Else3 Inv-loop μ-loop) → sofar (c .before .before .before .before .before .before .before) .count < maxChains
 room c =
-    let l = c .before .before .before .before .before .before in
+    let l = c .before .before .before .before .before .before .before in
     omega (arith, counts l, l .loop .inv .1 .few, c .if3 .left)
 
 -- no fault: the record is right
 module _ (c : tie.At-match2-keys1 Inv-loop μ-loop) where
   abbrev before : tie.At-loop Inv-loop μ-loop
-  before = c .before .before .before .before .before .before .before .before
+  before = c .before .before .before .before .before .before .before .before .before .before
 
   right : ChainRight (bytes before) (before .loop .at) (sofar before)
   right = chain-right _ _ _ (sym (c .before .chain-fault .ensures _ (before .loop .inv .1 .known)) ∙ c .match2 .keys1)
@@ -106,14 +106,11 @@ module _ (c : tie.At-match2-keys1 Inv-loop μ-loop) where
 returns : tie.Need-returns Inv-loop μ-loop
 returns c = sym (verdict (read-long (now (c .before .before .args .s)) (long c)))
 
-none-requires : tie.Need-none-requires Inv-loop μ-loop
-none-requires c κs = search needs
-
 loop-holds : tie.Need-loop-holds Inv-loop μ-loop
-loop-holds c = rw (c .none .ensures) (empty, record { few = omega arith; all = omega arith; inside = omega arith; left = refl; size = refl; known = refl })
+loop-holds c = (empty, record { few = omega arith; all = omega arith; inside = omega arith; left = refl; size = refl; known = record { bear = refl; count = refl; tasks = refl } })
 
 add-loop : tie.Need-add-loop Inv-loop μ-loop
-add-loop c = omega (arith, c .loop .inv .1 .inside, ltb-false maxBytes (length (bytes c)) (c .before .before .if2 .left))
+add-loop c = omega (arith, c .loop .inv .1 .inside, ltb-false maxBytes (length (bytes c)) (c .before .if2 .left))
 
 u16-at-requires : tie.Need-u16-at-requires Inv-loop μ-loop
 u16-at-requires c κs = search needs
@@ -125,65 +122,67 @@ enum-told : tie.Need-enum-told Inv-loop μ-loop
 enum-told c = c .match .keys1
 
 returns-2 : tie.Need-returns-2 Inv-loop μ-loop
-returns-2 c = sym (verdict (full (c .before .before .before) (c .before .enum-told .given .1) (counts (c .before .before .before .before .before .before) ∙ c .if3 .taken)))
+returns-2 c = sym (verdict (full (c .before .before .before .before) (c .before .before .enum-told .given .1) (counts (c .before .before .before .before .before .before .before) ∙ c .if3 .taken)))
 
 chain-fault-requires : tie.Need-chain-fault-requires Inv-loop μ-loop
-chain-fault-requires c κs = let i = c .before .before .before .before .before .before .loop .inv .1 in (c .before .before .before .before .before .loop-test .taken, i .few, i .all)
+chain-fault-requires c κs = let i = c .before .before .before .before .before .before .before .before .loop .inv .1 in (c .before .before .before .before .before .before .before .loop-test .taken, i .few, i .all)
 
 id-at-requires : tie.Need-id-at-requires Inv-loop μ-loop
 id-at-requires c κs = right c .head .there
 
-mul-before : tie.Need-mul-before Inv-loop μ-loop
-mul-before c = omega (arith, c .before .before .before .before .before .before .before .before .before .loop .inv .1 .few)
+mul-ids : tie.Need-mul-ids Inv-loop μ-loop
+mul-ids c = omega (arith, c .before .before .before .before .before .before .before .before .before .before .before .loop .inv .1 .few)
 
-element-write-before : tie.Need-element-write-before Inv-loop μ-loop
-element-write-before c = omega (arith, c .before .before .before .before .before .before .before .before .before .loop .inv .1 .few, c .before .before .before .before .before .before .before .before .before .loop .inv .1 .size, c .before .before .before .if3 .left)
+array-write-ids : tie.Need-array-write-ids Inv-loop μ-loop
+array-write-ids c = let i = c .before .before .before .before .before .before .before .before .before .before .before .loop .inv .1 in omega (arith, i .few, i .size, c .before .before .before .before .if3 .left)
 
 add-before : tie.Need-add-before Inv-loop μ-loop
-add-before c = omega (arith, c .before .before .before .before .before .before .before .before .before .loop .inv .1 .few)
+add-before c = omega (arith, c .before .before .before .before .before .before .before .before .before .before .before .loop .inv .1 .few)
 
 tasks-at-requires : tie.Need-tasks-at-requires Inv-loop μ-loop
 tasks-at-requires c κs = right (c .before) .head .there
 
 add-before-2 : tie.Need-add-before-2 Inv-loop μ-loop
-add-before-2 c = omega (arith, c .before .before .before .before .before .before .before .before .before .before .loop .inv .1 .all, c .tasks-at .ensures .1)
+add-before-2 c = omega (arith, c .before .before .before .before .before .before .before .before .before .before .before .before .before .loop .inv .1 .all, c .before .tasks-at .ensures .1)
 
 record-length-requires : tie.Need-record-length-requires Inv-loop μ-loop
-record-length-requires c κs = right (c .before .before) .head .there
+record-length-requires c κs = right (c .before .before .before) .head .there
 
 add-at : tie.Need-add-at Inv-loop μ-loop
-add-at c = omega (arith, right (c .before .before .before) .there, c .record-length .ensures)
+add-at c = omega (arith, right (c .before .before .before .before) .there, c .record-length .ensures)
 
 loop-less : tie.Need-loop-less Inv-loop μ-loop
-loop-less c = omega (arith, c .before .before .before .before .before .before .before .before .before .before .before .loop .inv .1 .few, c .before .before .before .before .before .if3 .left)
+loop-less c = omega (arith, c .before .before .before .before .before .before .before .before .before .before .before .before .before .before .loop .inv .1 .few, c .before .before .before .before .before .before .before .if3 .left)
 
 loop-again : tie.Need-loop-again Inv-loop μ-loop
 unfolding rowAt
-loop-again c = let l = c .before .before .before .before .before .before .before .before .before .before .before in
+loop-again c = let l = c .before .before .before .before .before .before .before .before .before .before .before .before .before .before in
     let t = sofar l in
     let at = l .loop .at in
     let i = l .loop .inv .1 in
-    let r = right (c .before .before .before) in
-    let f = c .before .before .before .before .chain-fault in
+    let r = right (c .before .before .before .before) in
+    let f = c .before .before .before .before .before .chain-fault in
     let n : at + c .record-length .result ≡ at + lengthAt (bytes l) at = ap (λ (m : ℕ). at + m) (c .record-length .ensures) in
-    let none = unless-none refusal (chainFault (bytes l) at t) (rest (c .before .before .before .before .before .before .before .before)) (sym (f .ensures t (i .known)) ∙ c .before .before .before .match2 .keys1) in
-    rw (c .before .before .id-at .ensures, c .before .tasks-at .ensures .0, n) (
+    let none = unless-none refusal (chainFault (bytes l) at t) (rest (c .before .before .before .before .before .before .before .before .before .before .before)) (sym (f .ensures t (i .known)) ∙ c .before .before .before .before .match2 .keys1) in
+    let whole-is = chain (c .before .before .before .before .before .before .before .before .before .before .before) (c .before .before .before .before .before .before .before .before .before .enum-told .given .1) (room (c .before .before .before .before .before .before .before)) in
+    rw (c .before .before .before .id-at .ensures, c .before .before .tasks-at .ensures .0, n) (
       plus t (rowAt (bytes l) at),
       record {
-        few = omega (arith, i .few, c .before .before .before .before .before .if3 .left);
+        few = omega (arith, i .few, c .before .before .before .before .before .before .before .if3 .left);
         all = omega (arith, r .head .all, totals l);
         inside = r .there;
-        left = sym none ∙ sym (chain (c .before .before .before .before .before .before .before .before) (c .before .before .before .before .before .before .enum-told .given .1) (room (c .before .before .before .before .before))) ∙ whole l ∙ i .left;
-        size = length-set (l .loop .before .ids) (l .loop .before .count) (idAt (bytes l) at) ∙ i .size;
-        known = ap (λ (x : Before). andOne x (rowAt (bytes l) at .id) (rowAt (bytes l) at .tasks)) (i .known) ∙ before-more t (rowAt (bytes l) at);
+        left = sym none ∙ sym whole-is ∙ whole l ∙ i .left;
+        size = length-set (l .loop .ids) (l .loop .before .count) (idAt (bytes l) at) ∙ i .size;
+        known = before-more t (rowAt (bytes l) at) (i .known);
       },
     )
 
 returns-3 : tie.Need-returns-3 Inv-loop μ-loop
 returns-3 c = let f = c .before .chain-fault in
-    let l = c .before .before .before .before .before .before .before .before in
-    let e = ap (λ (n : ℕ). unless refusal n (rest (c .before .before .before .before .before))) (sym (f .ensures (sofar l) (l .loop .inv .1 .known))) in
-    sym (verdict (chain (c .before .before .before .before .before) (c .before .before .before .enum-told .given .1) (room (c .before .before)) ∙ e ∙ unless-fault refusal (f .result) (rest (c .before .before .before .before .before)) (c .match2 .rest .1)))
+    let l = c .before .before .before .before .before .before .before .before .before .before in
+    let next = rest (c .before .before .before .before .before .before .before) in
+    let e = ap (λ (n : ℕ). unless refusal n next) (sym (f .ensures (sofar l) (l .loop .inv .1 .known))) in
+    sym (verdict (chain (c .before .before .before .before .before .before .before) (c .before .before .before .before .before .enum-told .given .1) (room (c .before .before .before)) ∙ e ∙ unless-fault refusal (f .result) next (c .match2 .rest .1)))
 
 enum-told-2 : tie.Need-enum-told-2 Inv-loop μ-loop
 enum-told-2 c = c .match .keys2
@@ -219,7 +218,6 @@ judge-spec =
     Inv-loop
     μ-loop
     returns
-    none-requires
     loop-holds
     add-loop
     u16-at-requires
@@ -228,8 +226,8 @@ judge-spec =
     returns-2
     chain-fault-requires
     id-at-requires
-    mul-before
-    element-write-before
+    mul-ids
+    array-write-ids
     add-before
     tasks-at-requires
     add-before-2
