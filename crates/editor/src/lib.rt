@@ -9,6 +9,9 @@ ghost use Prim.Native.Nat.{_*_, _≤_};
 ghost use lib.ListN.{length};
 ghost use Rattle.editor.specs.Entry.{unsigned as unsignedOf, figureBytes, startingWith, LatencyEntry, MissesEntry, SegmentEntry, SaveEntry, ReportEntry};
 
+// What an entry returns where it has answered.
+const ANSWERED: u32 = 0;
+
 // A signed number in two's complement.
 fn unsigned(x: i32) -> u32
     ensures { λ r. ⌜ r ≡ unsignedOf x ⌝ }
@@ -50,7 +53,7 @@ pub extern "C" fn mishtodran_latency(table: &[u8], id: u32, answer: &mut [u8]) -
         } => {
             let figures = [close, latency, late, unsigned(margin)];
             put_figures(answer, &figures);
-            0
+            ANSWERED
         }
         windows::Answer::Refused(n) => n,
     }
@@ -68,7 +71,7 @@ pub extern "C" fn mishtodran_misses(table: &[u8], id: u32, k: u32, answer: &mut 
         misses::Answer::Misses(n) => {
             let figures = [n];
             put_figures(answer, &figures);
-            0
+            ANSWERED
         }
         misses::Answer::Refused(n) => n,
     }
@@ -92,7 +95,7 @@ pub extern "C" fn mishtodran_segment(
         segments::Answer::Records { offset, length } => {
             let figures = [offset, length];
             put_figures(answer, &figures);
-            0
+            ANSWERED
         }
         segments::Answer::Refused(n) => n,
     }
@@ -116,7 +119,7 @@ pub extern "C" fn mishtodran_save(
         Saved::Used(n) => {
             let figures = [n];
             put_figures(answer, &figures);
-            0
+            ANSWERED
         }
         Saved::Refused(n) => n,
     }
@@ -139,5 +142,5 @@ pub extern "C" fn mishtodran_report(table: &[u8], text: &mut [u8], answer: &mut 
     bytes::copy(&made[..n], text);
     let figures = [n as u32];
     put_figures(answer, &figures);
-    0
+    ANSWERED
 }
