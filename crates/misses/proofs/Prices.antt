@@ -1,17 +1,14 @@
 -- What a set costs, one active segment at a time. Assumes nothing.
-use Prim.Native.Nat.{ℕ, _+_, _*_, _/_, _^_, _≤_, _<_}
+use Prim.Native.Nat.{ℕ, _+_, _*_, _^_, _≤_, _<_}
 use mathlib.Core.Path.{_≡_, refl, ap, sym, _∙_}
 use mathlib.Core.Bool.{true, false, and-false}
 use mathlib.Core.List.{List, _∷_}
-use mathlib.Core.Logic.{⊎-elim}
 use native.Mathlib.Omega.{arith}
-use native.Mathlib.Nat.{div-eq-of-lt, div-lt-iff-lt-mul}
 use lib.Dec.{ltb}
 use lib.ListN.{length, getD}
-use lib.Pow.{pow-pos}
 use borrow.Author.Tests.{lt-ltb, le-ltb}
 use Rattle.search.specs.Lists.{sumOf, every}
-use Rattle.search.proofs.Choice.{when-yes, when-no, lt-or-le}
+use Rattle.search.proofs.Choice.{when-yes, when-no}
 use Rattle.packing.specs.Packing.{bit}
 use Rattle.misses.specs.Overloads.{Piece}
 use Rattle.misses.specs.Sets.{members, agree, together, allowed, setCost}
@@ -67,9 +64,8 @@ module _ (chains segments costs : List ℕ) (n m : ℕ) where
   abbrev from : ℕ → List Piece
   from i = membersAt chains segments costs n m i
 
-  pub no-price : (m / 2 ^ n ≡ 0 → ⊥) → priceOf all m ≡ 0
-  no-price h =
-      price-none all m (allowed-past all m (rw (at-length chains segments costs n 0) (⊎-elim (λ l. absurd (h (div-eq-of-lt l))) (λ l. l) (lt-or-le m (2 ^ n)))))
+  pub price-past : 2 ^ n ≤ m → priceOf all m ≡ 0
+  price-past h = price-none all m (allowed-past all m (rw (at-length chains segments costs n 0) h))
 
   -- the active segments up to i are gone through
   pub record Priced (sum i : ℕ) : Type 0 where
@@ -103,11 +99,10 @@ module _ (chains segments costs : List ℕ) (n m : ℕ) where
         price-none all m (allowed-apart all m
         (ap together (sym (at-start chains segments costs n m)) ∙ at .stand ∙ ap together e ∙ together-no _ _ (sym f)))
 
-  pub priced-all : (sum i : ℕ) → Priced sum i → n ≤ i → m / 2 ^ n ≡ 0 → sum ≡ priceOf all m
+  pub priced-all : (sum i : ℕ) → Priced sum i → n ≤ i → m < 2 ^ n → sum ≡ priceOf all m
   unfolding together sumOf
-  priced-all sum i at h z =
+  priced-all sum i at h l =
       let e = at-end chains segments costs n m i h in
       let s = sym (at-start chains segments costs n m) in
-      let l : m < 2 ^ n = omega (arith, div-lt-iff-lt-mul (pow-pos n) .0 (let k : m / 2 ^ n < 1 = omega arith in k)) in
       let a : allowed all m ≡ true = allowed-below all m (rw (at-length chains segments costs n 0) l) ∙ ap together s ∙ at .stand ∙ ap together e in
       omega (arith, price-allowed all m a, ap setCost s, at .cost, ap setCost e)

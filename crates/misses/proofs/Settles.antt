@@ -10,7 +10,7 @@ use borrow.Author.Count.{below-more}
 use lib.ListN.{getD}
 use Rattle.search.proofs.Choice.{true-not-false, lt-or-le}
 use Rattle.packing.specs.Packing.{combinations}
-use Rattle.misses.specs.code.Settling.{beyond, Settles, Open, Inside, Picks, BadFrom}
+use Rattle.misses.specs.code.Settling.{beyond, Costs, Settles, Open, Inside, Picks, BadFrom}
 use Rattle.misses.specs.declared.Settled.{Settled}
 
 -- a test that never turns false again as its number grows
@@ -51,47 +51,50 @@ module _ (over : ℕ → Bool) (worsens : Worsens over) where
     }
 
 -- none is open: each cost is settled one way or the other
-pub settles-tell : (over : ℕ → Bool) (s : Settled) (costs : List ℕ) → Settles over s → Picks s costs 0 → ((m : ℕ) → m < combinations → getD costs m 0 < beyond) → BadFrom over costs (s .bad)
-settles-tell over s costs is p few m h =
+pub settles-tell : (over : ℕ → Bool) (s : Settled) (costs : List ℕ) (sets : ℕ) → Settles over s → Picks s costs 0 → Costs costs sets → BadFrom over costs (s .bad)
+settles-tell over s costs sets is p are m h =
     ⊎-elim
     (λ l. lt-leb (s .bad) (getD costs m 0) l ∙ sym (is .below (getD costs m 0) (low l)))
-    (λ l. le-leb (s .bad) (getD costs m 0) l ∙ sym (is .above (getD costs m 0) l (few m h)))
+    (λ l. le-leb (s .bad) (getD costs m 0) l ∙ sym (is .above (getD costs m 0) l (are .within m h)))
     (lt-or-le (getD costs m 0) (s .bad))
   where
     low : getD costs m 0 < s .bad → getD costs m 0 ≤ s .good
     low l = ⊎-elim (λ g. absurd (p .none refl m h (record { low = g; high = l }))) (λ g. g) (lt-or-le (s .good) (getD costs m 0))
 
 -- the loop of `pick`: the costs before m are gone through, `most` how far the best of them is inside
-pub record Picking (s : Settled) (costs : List ℕ) (best most m : ℕ) : Type 0 where
-  pub inside : m ≤ combinations
+pub record Picking (s : Settled) (costs : List ℕ) (sets best most m : ℕ) : Type 0 where
+  pub inside : m ≤ sets
   pub found : 0 < most → Open s best
   pub lost : most ≡ 0 → (best ≡ 0) × ((j : ℕ) → j < m → Open s (getD costs j 0) → ⊥)
 
-pub picking-none : (s : Settled) (costs : List ℕ) → Picking s costs 0 0 0
-picking-none s costs = record {
+pub picking-none : (s : Settled) (costs : List ℕ) (sets : ℕ) → Picking s costs sets 0 0 0
+picking-none s costs sets = record {
   inside = omega arith;
   found = λ h. absurd (omega (arith, h));
   lost = λ h. (refl, λ j l. absurd (omega (arith, l)));
 }
 
-module _ (s : Settled) (costs : List ℕ) (best most m n : ℕ) (at : Picking s costs best most m) (more : m < combinations) (lies : Inside s (getD costs m 0) n) where
-  pub picking-better : most < n → Picking s costs (getD costs m 0) n (m + 1)
+module _ (s : Settled) (costs : List ℕ) (sets best most m n : ℕ) (at : Picking s costs sets best most m) (more : m < sets) (lies : Inside s (getD costs m 0) n) where
+  pub picking-better : most < n → Picking s costs sets (getD costs m 0) n (m + 1)
   picking-better h = record {
     inside = omega arith;
     found = lies .is;
     lost = λ l. absurd (omega (arith, l));
   }
 
-  pub picking-worse : n ≤ most → Picking s costs best most (m + 1)
+  pub picking-worse : n ≤ most → Picking s costs sets best most (m + 1)
   picking-worse h = record {
     inside = omega arith;
     found = at .found;
     lost = λ l. (at .lost l .0, below-more (λ j. Open s (getD costs j 0) → ⊥) m (at .lost l .1) (λ o. omega (arith, l, lies .some o)));
   }
 
-pub picking-done : (s : Settled) (costs : List ℕ) (best most m : ℕ) → Picking s costs best most m → combinations ≤ m → Picks s costs best
-picking-done s costs best most m at h =
+pub picking-done : (s : Settled) (costs : List ℕ) (sets best most m : ℕ) → Picking s costs sets best most m → Costs costs sets → sets ≤ m → Picks s costs best
+picking-done s costs sets best most m at are h =
     ⊎-elim
     (λ l. record { none = λ e. absurd (omega (arith, at .found l .low)); one = λ b. at .found l })
-    (λ l. let z : most ≡ 0 = omega arith in record { none = λ e j k. at .lost z .1 j (omega arith); one = λ b. absurd (omega (arith, at .lost z .0)) })
+    (λ l. let z : most ≡ 0 = omega arith in record { none = λ e. closed z; one = λ b. absurd (omega (arith, at .lost z .0)) })
     (lt-or-le 0 most)
+  where
+    closed : most ≡ 0 → (j : ℕ) → j < combinations → Open s (getD costs j 0) → ⊥
+    closed z j k o = ⊎-elim (λ l. at .lost z .1 j (omega arith) o) (λ l. omega (arith, o .low, are .past j l k)) (lt-or-le j sets)

@@ -3,6 +3,7 @@ use crate::Answer;
 use crate::Figures;
 use crate::Pieces;
 use crate::pricing::prices;
+use crate::pricing::sets_of;
 use crate::settling::lowest_bad;
 use crate::settling::over;
 use arrivals::eta_up_to;
@@ -138,8 +139,9 @@ fn packed(s: &[u8], own: Own, held: &[u64; Own::HELD], close: u32, p: Pieces) ->
     ensures { λ r. ⌜ r ≡ mostUses (badIn (overWith (loadOf (now (s .entry)) own (now (held .entry))) close) (piecesIn p)) (capacityIn (p .capacity)) ⌝ }
 {
     let capacity = p.capacity;
+    let sets = sets_of(p.count);
     let costs = prices(p);
-    let lowest = lowest_bad(s, own, held, close, &costs);
+    let lowest = lowest_bad(s, own, held, close, &costs, sets);
     let bad = flags(&costs, lowest);
     most_uses(&bad, &capacity)
 }

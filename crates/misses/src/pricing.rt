@@ -6,7 +6,7 @@ use packing::has;
 use table::Table;
 ghost use mathlib.Core.Path.{_≡_};
 ghost use mathlib.Core.List.{List};
-ghost use Prim.Native.Nat.{ℕ, _≤_, _<_};
+ghost use Prim.Native.Nat.{ℕ, _^_, _≤_, _<_};
 ghost use lib.ListN.{getD};
 ghost use Rattle.table.specs.Limits.{maxOverloads};
 ghost use Rattle.packing.specs.Packing.{bit, combinations};
@@ -62,12 +62,9 @@ fn price(
     n: usize,
     m: usize,
 ) -> u64
-    requires { ⌜ (n ≤ maxOverloads) × (m < combinations) × ((i : ℕ) → getD (now cost) i 0 ≤ dearest) ⌝ }
+    requires { ⌜ (n ≤ maxOverloads) × (m < 2 ^ n) × ((i : ℕ) → getD (now cost) i 0 ≤ dearest) ⌝ }
     ensures { λ r. ⌜ r ≡ priceOf (piecesAt (now (chain .entry)) (now (segment .entry)) (now (cost .entry)) n 0) m ⌝ }
 {
-    if m >> n != 0 {
-        return 0;
-    }
     let mut sum: u64 = 0;
     let mut i: usize = 0;
     while i < n {
@@ -83,7 +80,15 @@ fn price(
     sum
 }
 
-// What each set costs, 0 where it is no combination.
+// How many sets there are of n active segments.
+pub fn sets_of(n: usize) -> usize
+    requires { ⌜ n ≤ maxOverloads ⌝ }
+    ensures { λ r. ⌜ (r ≡ 2 ^ n) × (r ≤ combinations) ⌝ }
+{
+    1 << n
+}
+
+// What each set costs, 0 where it is no combination: so it is past the sets of the active segments that there are.
 pub fn prices(p: Pieces) -> [u64; COMBINATIONS]
     requires { ⌜ Few p ⌝ }
     ensures { λ r. ⌜ ((m : ℕ) → m < combinations → getD r m 0 ≡ priceOf (piecesIn p) m) ⌝ }
@@ -92,9 +97,10 @@ pub fn prices(p: Pieces) -> [u64; COMBINATIONS]
     let segment = p.segment;
     let cost = p.cost;
     let n = p.count;
+    let sets = sets_of(n);
     let mut out = [0u64; COMBINATIONS];
     let mut m: usize = 0;
-    while m < COMBINATIONS {
+    while m < sets {
         out[m] = price(&chain, &segment, &cost, n, m);
         m += 1;
     }

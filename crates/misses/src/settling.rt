@@ -8,7 +8,7 @@ ghost use mathlib.Core.Path.{_≡_};
 ghost use mathlib.Core.Bool.{false};
 ghost use Prim.Native.Nat.{_-_, _<_, min};
 ghost use Rattle.windows.specs.code.Load.{loadOf};
-ghost use Rattle.misses.specs.code.Settling.{overWith, beyond, NoneBeyond, Tries, Settles, Open, Inside, Picks, BadFrom};
+ghost use Rattle.misses.specs.code.Settling.{overWith, beyond, Costs, Tries, Settles, Open, Inside, Picks, BadFrom};
 
 // Whether a set that costs so much is bad.
 pub fn over(s: &[u8], own: Own, held: &[u64; Own::HELD], close: u32, cost: u64) -> bool
@@ -57,14 +57,15 @@ fn inside(ends: Settled, c: u64) -> u64
     smaller(c - ends.good, ends.bad - c)
 }
 
-// The open cost that is farthest inside, 0 if none is open.
-fn pick(costs: &[u64; COMBINATIONS], ends: Settled) -> u64
+// The open cost that is farthest inside, 0 if none is open. Past the sets that there are costs are 0, which is never open.
+fn pick(costs: &[u64; COMBINATIONS], sets: usize, ends: Settled) -> u64
+    requires { ⌜ Costs (now costs) sets ⌝ }
     ensures { λ r. ⌜ Picks ends (now (costs .entry)) r ⌝ }
 {
     let mut best: u64 = 0;
     let mut most: u64 = 0;
     let mut m: usize = 0;
-    while m < COMBINATIONS {
+    while m < sets {
         let c = costs[m];
         let n = inside(ends, c);
         m += 1;
@@ -83,18 +84,19 @@ pub fn lowest_bad(
     held: &[u64; Own::HELD],
     close: u32,
     costs: &[u64; COMBINATIONS],
+    sets: usize,
 ) -> u64
-    requires { ⌜ Tries (loadOf (now s) own (now held)) close × (overWith (loadOf (now s) own (now held)) close 0 ≡ false) × NoneBeyond (now costs) ⌝ }
+    requires { ⌜ Tries (loadOf (now s) own (now held)) close × (overWith (loadOf (now s) own (now held)) close 0 ≡ false) × Costs (now costs) sets ⌝ }
     ensures { λ r. ⌜ BadFrom (overWith (loadOf (now (s .entry)) own (now (held .entry))) close) (now (costs .entry)) r ⌝ }
 {
     let mut ends = Settled {
         good: 0,
         bad: Settled::BEYOND,
     };
-    let mut c = pick(costs, ends);
+    let mut c = pick(costs, sets, ends);
     while c != 0 {
         ends = round(s, own, held, close, ends, c);
-        c = pick(costs, ends);
+        c = pick(costs, sets, ends);
     }
     ends.bad
 }

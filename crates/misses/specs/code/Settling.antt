@@ -20,8 +20,11 @@ overWith l close cost = over (demandIn l) (ownOf l) (rowIn l .deadline) close co
 abbrev pub beyond : ℕ
 beyond = maxOverloads * dearest + 1
 
-abbrev pub NoneBeyond : List ℕ → Type 0
-NoneBeyond costs = (m : ℕ) → m < combinations → getD costs m 0 < beyond
+-- costs of sets: none is beyond, and past the first `sets` they are 0
+pub record Costs (costs : List ℕ) (sets : ℕ) : Type 0 where
+  pub few : sets ≤ combinations
+  pub within : (m : ℕ) → m < combinations → getD costs m 0 < beyond
+  pub past : (m : ℕ) → sets ≤ m → m < combinations → getD costs m 0 ≡ 0
 
 -- what a cost may be tried with: a load that has room for any set's
 pub record Tries (l : Load) (close : ℕ) : Type 0 where

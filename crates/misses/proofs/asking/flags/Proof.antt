@@ -1,9 +1,9 @@
 -- The loop's invariant: the sets below m have their flags.
-use Prim.Native.Nat.{ℕ, _-_}
+use Prim.Native.Nat.{_-_}
 use mathlib.Core.Path.{_≡_}
 use native.Mathlib.Omega.{arith}
 use lib.Dec.{leb}
-use lib.ListN.{getD, length-replicate}
+use lib.ListN.{getD}
 use Rattle.search.specs.Choice.{_when_else_}
 use Rattle.misses.proofs.Fills.{Filled, filled-none, filled-on}
 use Rattle.misses.proofs.asking.flags.Statement.{statement}
@@ -16,7 +16,7 @@ abbrev μ-loop : tie.MeasureT-loop
 μ-loop costs lowest out₀ m₀ out m = 64 - m
 
 loop-holds : tie.Need-loop-holds Inv-loop μ-loop
-loop-holds c = filled-none _ _ _ (length-replicate {A = ℕ} 64 0)
+loop-holds c = filled-none _ 64
 
 mul-flag : tie.Need-mul-flag Inv-loop μ-loop
 mul-flag c = omega arith

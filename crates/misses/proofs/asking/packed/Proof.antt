@@ -9,20 +9,29 @@ use Rattle.windows.specs.code.Load.{loadOf}
 use Rattle.misses.specs.Bad.{bad}
 use Rattle.misses.specs.code.Held.{piecesIn}
 use Rattle.misses.specs.code.Settling.{overWith}
+use Rattle.misses.proofs.Prices.{price-past}
 use Rattle.misses.proofs.Packs.{price-within, flags-bad}
 use Rattle.misses.proofs.asking.packed.Statement.{statement}
 use Rattle.misses.proofs.asking.packed.Tie as tie
+
+sets-of-requires : tie.Need-sets-of-requires
+sets-of-requires c κs = search needs
 
 prices-requires : tie.Need-prices-requires
 prices-requires c κs = search needs
 
 lowest-bad-requires : tie.Need-lowest-bad-requires
 lowest-bad-requires c κs =
-    let s = c .before .before .before .before in
-    let p = s .args .p in (
+    let s = c .before .before .before .before .before in
+    let p = s .args .p in
+    let sets = c .before .before .sets-of .ensures in (
       s .pre .0,
       s .pre .1,
-      λ m h. omega (arith, c .before .prices .ensures m h, price-within (p .chain) (p .segment) (p .cost) (p .count) m (s .pre .2 .cheap) (s .pre .2 .few)),
+      record {
+        few = sets .1;
+        within = λ m h. omega (arith, c .before .prices .ensures m h, price-within (p .chain) (p .segment) (p .cost) (p .count) m (s .pre .2 .cheap) (s .pre .2 .few));
+        past = λ m l h. c .before .prices .ensures m h ∙ price-past (p .chain) (p .segment) (p .cost) (p .count) m (omega (arith, sets .0));
+      },
     )
 
 flags-requires : tie.Need-flags-requires
@@ -33,7 +42,7 @@ most-uses-requires c κs = search needs
 
 returns : tie.Need-returns
 returns c =
-    let s = c .before .before .before .before .before .before .before .before .before .before in
+    let s = c .before .before .before .before .before .before .before .before .before .before .before in
     let a = s .args in
     let test = overWith (loadOf (now (a .s)) (a .own) (now (a .held))) (a .close) in
     let flags = c .before .before .before .flags in
@@ -47,4 +56,4 @@ returns c =
 pub packed-spec : {M : Type 1} → statement M
 packed-spec =
     tie.close
-    (tie.spec prices-requires lowest-bad-requires flags-requires most-uses-requires returns)
+    (tie.spec sets-of-requires prices-requires lowest-bad-requires flags-requires most-uses-requires returns)

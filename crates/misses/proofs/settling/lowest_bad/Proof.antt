@@ -11,13 +11,13 @@ use Rattle.misses.proofs.settling.lowest_bad.Statement.{statement}
 use Rattle.misses.proofs.settling.lowest_bad.Tie as tie
 
 abbrev Inv-loop : tie.InvT-loop
-Inv-loop s own held close costs ends₀ c₀ ends c = Settles (overWith (loadOf s own held) close) ends × Picks ends costs c
+Inv-loop s own held close costs sets ends₀ c₀ ends c = Settles (overWith (loadOf s own held) close) ends × Picks ends costs c
 
 abbrev μ-loop : tie.MeasureT-loop
-μ-loop s own held close costs ends₀ c₀ ends c = ends .bad - ends .good
+μ-loop s own held close costs sets ends₀ c₀ ends c = ends .bad - ends .good
 
 pick-requires : tie.Need-pick-requires Inv-loop μ-loop
-pick-requires c κs = tt
+pick-requires c κs = c .before .pre .2
 
 loop-holds : tie.Need-loop-holds Inv-loop μ-loop
 loop-holds c =
@@ -34,7 +34,7 @@ round-requires c κs =
     (p .0, l .inv .0, l .inv .1 .one (omega arith))
 
 pick-requires-2 : tie.Need-pick-requires-2 Inv-loop μ-loop
-pick-requires-2 c κs = tt
+pick-requires-2 c κs = c .before .before .before .before .before .pre .2
 
 loop-less : tie.Need-loop-less Inv-loop μ-loop
 loop-less c = c .before .round .ensures .1
@@ -47,7 +47,7 @@ returns c =
     let l = c .before .loop in
     let s = c .before .before .before .before in
     let costs = now (s .args .costs) in
-    settles-tell _ (l .ends) costs (l .inv .0) (subst (Picks (l .ends) costs) (c .loop-test .left) (l .inv .1)) (s .pre .2)
+    settles-tell _ (l .ends) costs _ (l .inv .0) (subst (Picks (l .ends) costs) (c .loop-test .left) (l .inv .1)) (s .pre .2)
 
 pub lowest-bad-spec : {M : Type 1} → statement M
 lowest-bad-spec =

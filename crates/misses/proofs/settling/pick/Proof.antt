@@ -6,13 +6,13 @@ use Rattle.misses.proofs.settling.pick.Statement.{statement}
 use Rattle.misses.proofs.settling.pick.Tie as tie
 
 abbrev Inv-loop : tie.InvT-loop
-Inv-loop costs ends best₀ most₀ m₀ best most m = Picking ends costs best most m
+Inv-loop costs sets ends best₀ most₀ m₀ best most m = Picking ends costs sets best most m
 
 abbrev μ-loop : tie.MeasureT-loop
-μ-loop costs ends best₀ most₀ m₀ best most m = 64 - m
+μ-loop costs sets ends best₀ most₀ m₀ best most m = sets - m
 
 loop-holds : tie.Need-loop-holds Inv-loop μ-loop
-loop-holds c = picking-none _ _
+loop-holds c = picking-none _ _ _
 
 mul-c : tie.Need-mul-c Inv-loop μ-loop
 mul-c c = omega arith
@@ -33,7 +33,7 @@ loop-again : tie.Need-loop-again Inv-loop μ-loop
 loop-again c =
     let l = c .before .before .before .before in
     let a = l .before .args in
-    picking-better (a .ends) (a .costs .now) (l .loop .best) (l .loop .most) (l .loop .m) (c .before .inside .result) (l .loop .inv) (c .before .before .before .loop-test .taken) (c .before .inside .ensures) (c .if1 .taken)
+    picking-better (a .ends) (a .costs .now) (a .sets) (l .loop .best) (l .loop .most) (l .loop .m) (c .before .inside .result) (l .loop .inv) (c .before .before .before .loop-test .taken) (c .before .inside .ensures) (c .if1 .taken)
 
 loop-less-2 : tie.Need-loop-less-2 Inv-loop μ-loop
 loop-less-2 c = omega arith
@@ -42,13 +42,14 @@ loop-again-2 : tie.Need-loop-again-2 Inv-loop μ-loop
 loop-again-2 c =
     let l = c .before .before .before .before in
     let a = l .before .args in
-    picking-worse (a .ends) (a .costs .now) (l .loop .best) (l .loop .most) (l .loop .m) (c .before .inside .result) (l .loop .inv) (c .before .before .before .loop-test .taken) (c .before .inside .ensures) (c .if1 .left)
+    picking-worse (a .ends) (a .costs .now) (a .sets) (l .loop .best) (l .loop .most) (l .loop .m) (c .before .inside .result) (l .loop .inv) (c .before .before .before .loop-test .taken) (c .before .inside .ensures) (c .if1 .left)
 
 returns : tie.Need-returns Inv-loop μ-loop
 returns c =
     let l = c .before .loop in
-    let a = c .before .before .args in
-    picking-done (a .ends) (a .costs .now) (l .best) (l .most) (l .m) (l .inv) (omega arith)
+    let s = c .before .before in
+    let a = s .args in
+    picking-done (a .ends) (a .costs .now) (a .sets) (l .best) (l .most) (l .m) (l .inv) (s .pre) (omega arith)
 
 pub pick-spec : {M : Type 1} → statement M
 pick-spec =
