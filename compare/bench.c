@@ -15,10 +15,10 @@
 #include <time.h>
 
 enum { LATENCY, MISSES, SEGMENT, SAVE, REPORT };
-enum { MOST_CALLS = 512, MOST_TABLES = 32, ROUNDS = 5 };
+enum { MOST_CALLS = 512, MOST_TABLES = 32, ROUNDS = 25 };
 enum { ROOM = 16 + MISHTODRAN_LONGEST_REPORT }; /* of an answer, and of a report's text after it */
 
-static const double LEAST_SECONDS = 0.05; /* of one run */
+static const double LEAST_SECONDS = 0.02; /* of one run: many short ones find a quiet moment */
 
 struct stored {
     uint8_t bytes[MOST_GENERATED];

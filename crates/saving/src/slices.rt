@@ -1,19 +1,28 @@
 // Byte slices: compared, copied and cleared.
 use table::u32_at;
 ghost use mathlib.Core.Path.{_≡_};
+ghost use mathlib.Core.Bool.{true};
 ghost use Prim.Native.Nat.{ℕ, _+_, _≤_, _<_};
 ghost use lib.ListN.{length, getD, replicate};
 ghost use Rattle.saving.specs.Save.{same as sameOf, splice, written};
 ghost use Rattle.saving.specs.code.Begins.{Begins};
 
-// How far the two agree for certain, four bytes at a time.
+// Whether the two have the same eight bytes from i on.
+fn same_eight(a: &[u8], b: &[u8], i: usize) -> bool
+    requires { ⌜ (i + 8 ≤ length (now a)) × (i + 8 ≤ length (now b)) ⌝ }
+    ensures { λ r. ⌜ (r ≡ true → (j : ℕ) → j < 8 → getD (now (a .entry)) (i + j) 0 ≡ getD (now (b .entry)) (i + j) 0) ⌝ }
+{
+    u32_at(a, i) == u32_at(b, i) && u32_at(a, i + 4) == u32_at(b, i + 4)
+}
+
+// How far the two agree for certain, eight bytes at a time.
 fn agree(a: &[u8], b: &[u8]) -> usize
     requires { ⌜ length (now a) ≡ length (now b) ⌝ }
     ensures { λ r. ⌜ (r ≤ length (now (a .entry))) × ((j : ℕ) → j < r → getD (now (a .entry)) j 0 ≡ getD (now (b .entry)) j 0) ⌝ }
 {
     let mut i: usize = 0;
-    while 4 <= a.len() - i && u32_at(a, i) == u32_at(b, i) {
-        i += 4;
+    while 8 <= a.len() - i && same_eight(a, b, i) {
+        i += 8;
     }
     i
 }

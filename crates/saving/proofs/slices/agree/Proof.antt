@@ -1,13 +1,11 @@
--- The lists agree at each of the first i places, and the same word has the same four bytes.
+-- The lists agree at each of the first i places.
 use Prim.Native.Nat.{ℕ, _+_, _≤_, _<_, _-_}
-use mathlib.Core.Path.{_≡_, subst, sym, _∙_}
+use mathlib.Core.Path.{_≡_, subst}
 use mathlib.Core.Logic.{⊎-elim}
 use denote.Ref.{now}
 use lib.ListN.{length, getD}
 use native.Mathlib.Omega.{arith}
-use borrow.Author.Tests.{eqb-true}
 use Rattle.search.proofs.Choice.{lt-or-le}
-use Rattle.table.proofs.Words.{word-same}
 use Rattle.saving.proofs.slices.agree.Statement.{statement}
 use Rattle.saving.proofs.slices.agree.Tie as tie
 
@@ -23,33 +21,29 @@ loop-holds c = (omega arith, λ j h. absurd (omega (arith, h)))
 sub-loop : tie.Need-sub-loop Inv-loop μ-loop
 sub-loop c = omega (arith, c .loop .inv .0)
 
-u32-at-requires : tie.Need-u32-at-requires Inv-loop μ-loop
-u32-at-requires c κs = omega (arith, c .before .loop .inv .0, c .loop-test .taken)
-
-u32-at-requires-2 : tie.Need-u32-at-requires-2 Inv-loop μ-loop
-u32-at-requires-2 c κs = omega (arith, c .before .before .before .before .before .pre, c .before .before .loop .inv .0, c .before .loop-test .taken)
+same-eight-requires : tie.Need-same-eight-requires Inv-loop μ-loop
+same-eight-requires c κs =
+    (omega (arith, c .before .loop .inv .0, c .loop-test .taken), omega (arith, c .before .before .before .before .pre, c .before .loop .inv .0, c .loop-test .taken))
 
 add-i : tie.Need-add-i Inv-loop μ-loop
-add-i c = omega (arith, c .before .before .before .before .loop .inv .0, c .before .before .before .loop-test .taken)
+add-i c = omega (arith, c .before .before .before .loop .inv .0, c .before .before .loop-test .taken)
 
 loop-less : tie.Need-loop-less Inv-loop μ-loop
-loop-less c = omega (arith, c .before .before .before .before .loop .inv .0, c .before .before .before .loop-test .taken)
+loop-less c = omega (arith, c .before .before .before .loop .inv .0, c .before .before .loop-test .taken)
 
 loop-again : tie.Need-loop-again Inv-loop μ-loop
 loop-again c =
-    let s = c .before .before .before .before .before .before .before in
-    let l = c .before .before .before .before .loop in
-    let e = sym (c .before .before .u32-at .ensures) ∙ eqb-true _ _ (c .if1 .taken) ∙ c .before .u32-at2 .ensures in (
-      omega (arith, l .inv .0, c .before .before .before .loop-test .taken),
+    let s = c .before .before .before .before .before .before in
+    let l = c .before .before .before .loop in (
+      omega (arith, l .inv .0, c .before .before .loop-test .taken),
       λ j h. ⊎-elim (l .inv .1 j)
           (λ g. let n : l .i + (j - l .i) ≡ j = omega arith in
-          subst (λ m. getD (now (s .args .a)) m 0 ≡ getD (now (s .args .b)) m 0) n
-          (word-same 4 (now (s .args .a)) (now (s .args .b)) (l .i) (l .i) (λ j. omega (arith, c .before .before .before .before .before .before .shared-slice-known .given j)) (λ j. omega (arith, c .before .before .before .before .before .shared-slice-known2 .given j)) e (j - l .i) (omega (arith, h, g))))
+          subst (λ m. getD (now (s .args .a)) m 0 ≡ getD (now (s .args .b)) m 0) n (c .before .same-eight .ensures (c .if1 .taken) (j - l .i) (omega (arith, h, g))))
           (lt-or-le j (l .i)),
     )
 
 returns : tie.Need-returns Inv-loop μ-loop
-returns c = c .before .before .before .before .loop .inv
+returns c = c .before .before .before .loop .inv
 
 returns-2 : tie.Need-returns-2 Inv-loop μ-loop
 returns-2 c = c .before .loop .inv
@@ -62,8 +56,7 @@ agree-spec =
     μ-loop
     loop-holds
     sub-loop
-    u32-at-requires
-    u32-at-requires-2
+    same-eight-requires
     add-i
     loop-less
     loop-again
