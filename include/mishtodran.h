@@ -9,15 +9,15 @@
  * - a slice that is written (answer, buffer, text) overlaps no other slice of the call.
  * Nothing else: any bytes may stand in a table or a record, and any number is taken at its full width.
  *
- * Threads: entries keep nothing between calls and have no state, so any number of threads may call them at once. What
- * one call writes, no other call reads or writes meanwhile.
+ * Threads: entries have no state and keep nothing between calls. Any number of threads may call them at once, also on
+ * one table, as long as no call writes what another reads or writes.
  *
  * Stack: a call takes less than MISHTODRAN_STACK_BYTES. This is measured, not proved.
  *
- * Duration: every call ends. As measured on an x86-64 machine, a segment or a save takes a few microseconds, and
- * latency, misses and report take up to some milliseconds on ordinary tables. The slowest tables that we know have
- * lists whose last distance is 1 before a window of almost 10,000,000 ticks: 3 seconds for latency or misses, 48 for a
- * report. An editor that must answer its user meanwhile makes these calls in a thread of their own.
+ * Duration: every call ends; how soon is measured, not proved. On an x86-64 machine of 2 GHz, a segment or a save takes
+ * about a microsecond at most, and any call on an ordinary table less than a millisecond. The slowest tables that we
+ * know have full lists whose last distance is 1, before windows of almost 10,000,000 ticks: there a latency or misses
+ * take 3 seconds, and a report 50. An editor that must not stand still makes these calls in a thread of its own.
  */
 #ifndef MISHTODRAN_H
 #define MISHTODRAN_H
