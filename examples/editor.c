@@ -1,67 +1,104 @@
 /* A small editor of stored tables, to start from.
    Usage: editor TABLE ID
 
-   Shows the figures of chain ID, then gives it the deadline that it can just keep, in memory only, shows them again, and
-   the report of the whole table. Build it with the header's folder and the library: cc -I include editor.c libeditor.a */
+   Shows the figures of chain ID, asks for a new deadline, saves it to the file, and shows the figures again and the
+   report of the whole table. Ends with 0; with 1 where the library refuses; with 2 where it is used wrongly, or
+   something cannot be read or written. After `./mishtodran lib` it is built by
+   cc -I target/mishtodran examples/editor.c target/mishtodran/libmishtodran.a -o editor */
+#define _DEFAULT_SOURCE /* for flock and realpath */
 #include "mishtodran.h"
 
+#include <errno.h>
+#include <fcntl.h>
 #include <stdio.h>
 #include <stdlib.h>
 #include <string.h>
+#include <sys/file.h>
+#include <sys/stat.h>
+#include <unistd.h>
 
-enum { MOST_TABLE_BYTES = 1284, RUN = 10 };
+enum { REFUSED = 1, FAILED = 2, RUN = 10 };
 
-/* A table and its used length. One byte more than the largest table, so that a longer file is refused and not cut. */
+/* A table, its used length, and who may read and write its file. One byte more than the largest table, so that a longer
+   file is refused and not cut. */
 struct document {
-    uint8_t bytes[MOST_TABLE_BYTES + 1];
+    uint8_t bytes[MISHTODRAN_MOST_TABLE_BYTES + 1];
     size_t used;
+    mode_t mode;
 };
 
-/* Answers and tables are little-endian on every machine. */
-static uint32_t get32(const uint8_t *at)
+struct record {
+    uint8_t bytes[MISHTODRAN_MOST_CHAIN_RECORD_BYTES];
+    size_t length;
+};
+
+static void fail(const char *what, const char *why)
 {
-    return at[0] | (uint32_t)at[1] << 8 | (uint32_t)at[2] << 16 | (uint32_t)at[3] << 24;
+    fprintf(stderr, "editor: %s: %s\n", what, why);
+    exit(FAILED);
 }
 
-static void put32(uint8_t *at, uint32_t value)
+static void refuse(const char *what, uint32_t refusal)
 {
-    for (int i = 0; i < 4; i++)
+    fflush(stdout);
+    fprintf(stderr, "editor: %s refused, %lu%s\n", what, (unsigned long)refusal,
+            refusal == MISHTODRAN_STALE_RECORD ? ": someone has changed the record meanwhile" : "");
+    exit(REFUSED);
+}
+
+static void flush_output(void)
+{
+    if (fflush(stdout) != 0 || ferror(stdout))
+        fail("standard output", "it cannot be written");
+}
+
+/* ---- Numbers ---- */
+
+/* Answers and tables are little-endian on every machine. */
+static uint32_t get(const uint8_t *at, unsigned bytes)
+{
+    uint32_t value = 0;
+    for (unsigned i = 0; i < bytes; i++)
+        value |= (uint32_t)at[i] << 8 * i;
+    return value;
+}
+
+static void put(uint8_t *at, unsigned bytes, uint32_t value)
+{
+    for (unsigned i = 0; i < bytes; i++)
         at[i] = (uint8_t)(value >> 8 * i);
 }
 
-static void load(struct document *document, const char *path)
+/* The number that digits alone stand for, from 1 to `most`; 0 for any other text. */
+static uint32_t number_in(const char *text, uint32_t most)
 {
-    FILE *file = fopen(path, "rb");
-    if (!file) {
-        perror(path);
-        exit(1);
-    }
-    document->used = fread(document->bytes, 1, sizeof document->bytes, file);
-    fclose(file);
+    uint32_t number = 0;
+    for (; *text >= '0' && *text <= '9' && number <= most; text++)
+        number = 10 * number + (uint32_t)(*text - '0');
+    return *text == '\0' && number <= most ? number : 0;
 }
 
-/* Prints a chain's figures and gives its latency back; ends the program where they are refused. */
-static uint32_t show_latency(const struct document *document, uint32_t id)
+/* ---- What the user sees ---- */
+
+/* Ends the program where the table is refused or has no such chain. */
+static void show_figures(const struct document *document, uint32_t id)
 {
     uint8_t answer[MISHTODRAN_LATENCY_BYTES];
     uint32_t refusal = mishtodran_latency(document->bytes, document->used, id, answer, sizeof answer);
-    if (refusal) {
-        printf("chain %lu: latency refused, %lu\n", (unsigned long)id, (unsigned long)refusal);
-        exit(1);
-    }
-    printf("chain %lu: K %lu, latency %lu, late %lu, margin %ld\n", (unsigned long)id, (unsigned long)get32(answer),
-           (unsigned long)get32(answer + 4), (unsigned long)get32(answer + 8), (long)(int32_t)get32(answer + 12));
-    return get32(answer + 4);
-}
+    if (refusal == MISHTODRAN_NO_WINDOW || refusal == MISHTODRAN_NO_CLOSE)
+        printf("latency refused, %lu\n", (unsigned long)refusal);
+    else if (refusal)
+        refuse("latency", refusal);
+    else
+        printf("chain %lu: K %lu, latency %lu, late %lu, margin %ld\n", (unsigned long)id,
+               (unsigned long)get(answer, 4), (unsigned long)get(answer + 4, 4), (unsigned long)get(answer + 8, 4),
+               (long)(int32_t)get(answer + 12, 4));
 
-static void show_misses(const struct document *document, uint32_t id)
-{
-    uint8_t answer[MISHTODRAN_MISSES_BYTES];
-    uint32_t refusal = mishtodran_misses(document->bytes, document->used, id, RUN, answer, sizeof answer);
+    refusal = mishtodran_misses(document->bytes, document->used, id, RUN, answer, sizeof answer);
     if (refusal)
         printf("misses refused, %lu\n", (unsigned long)refusal);
     else
-        printf("misses in %d activations: at most %lu\n", RUN, (unsigned long)get32(answer));
+        printf("misses in %d activations: at most %lu\n", RUN, (unsigned long)get(answer, 4));
 }
 
 /* A text buffer that every report fits into, so that none is refused. */
@@ -70,71 +107,172 @@ static void show_report(const struct document *document)
     uint8_t text[MISHTODRAN_LONGEST_REPORT], answer[MISHTODRAN_REPORT_BYTES];
     uint32_t refusal = mishtodran_report(document->bytes, document->used, text, sizeof text, answer, sizeof answer);
     if (refusal)
-        printf("report refused, %lu\n", (unsigned long)refusal);
-    else
-        printf("%.*s", (int)get32(answer), (const char *)text);
+        refuse("report", refusal);
+    printf("%.*s", (int)get(answer, 4), (const char *)text);
 }
 
-/* The chain record of an id in a table that has been accepted: 16 bytes, then 4 for each listed distance and 8 for each
-   task. Gives its length back. */
-static size_t find_record(const struct document *document, uint32_t id, const uint8_t **record)
+/* The deadline that the user types, or 0 for none. */
+static uint32_t ask_deadline(uint32_t deadline)
 {
+    char line[32];
+    printf("deadline %lu; type another, or nothing to leave it\n", (unsigned long)deadline);
+    flush_output();
+    if (!fgets(line, sizeof line, stdin)) {
+        if (ferror(stdin))
+            fail("standard input", strerror(errno));
+        return 0;
+    }
+    size_t end = strcspn(line, "\n");
+    if (end == 0)
+        return 0;
+    uint32_t typed = 0;
+    if (end < sizeof line - 1) { /* else the line goes on */
+        line[end] = '\0';
+        typed = number_in(line, MISHTODRAN_MOST_TIME);
+    }
+    if (typed == 0)
+        fail("deadline", "type 1 to 10000000, in digits");
+    return typed;
+}
+
+/* ---- Records ---- */
+
+/* The record of a chain that is there, in a table that has been accepted. */
+static struct record find_record(const struct document *document, uint32_t id)
+{
+    struct record found;
     const uint8_t *at = document->bytes;
     for (;;) {
-        size_t length = 16 + 4 * (size_t)at[14] + 8 * (size_t)at[15];
-        if ((at[2] | (uint32_t)at[3] << 8) == id) {
-            *record = at;
-            return length;
-        }
-        at += length;
+        size_t listed = at[MISHTODRAN_CHAIN_LISTED_AT], tasks = at[MISHTODRAN_CHAIN_TASKS_AT];
+        found.length = MISHTODRAN_CHAIN_DISTANCES_AT + MISHTODRAN_DISTANCE_BYTES * listed +
+                       MISHTODRAN_TASK_RECORD_BYTES * tasks;
+        if (get(at + MISHTODRAN_CHAIN_ID_AT, MISHTODRAN_CHAIN_ID_BYTES) == id)
+            break;
+        at += found.length;
     }
+    memcpy(found.bytes, at, found.length);
+    return found;
 }
 
-/* Puts `changed` in the place of the record that the editor has seen. */
-static void save(struct document *document, const uint8_t *seen, const uint8_t *changed, size_t length)
+/* Puts `changed` in the place of the record that was seen. */
+static void save_record(struct document *document, const struct record *seen, const struct record *changed)
 {
     uint8_t answer[MISHTODRAN_SAVE_BYTES];
-    uint32_t refusal = mishtodran_save(document->bytes, sizeof document->bytes, document->used, seen, length, changed,
-                                       length, answer, sizeof answer);
-    if (refusal == MISHTODRAN_STALE_RECORD) {
-        printf("save refused, %lu: the record is no longer the one seen\n", (unsigned long)refusal);
-    } else if (refusal) {
-        printf("save refused, %lu\n", (unsigned long)refusal);
-    } else {
-        document->used = get32(answer);
-        printf("saved, the table has %lu bytes\n", (unsigned long)document->used);
+    uint32_t refusal = mishtodran_save(document->bytes, sizeof document->bytes, document->used, seen->bytes,
+                                       seen->length, changed->bytes, changed->length, answer, sizeof answer);
+    if (refusal)
+        refuse("save", refusal);
+    document->used = get(answer, 4);
+}
+
+/* ---- Files ---- */
+
+static char *name_beside(const char *path, const char *ending)
+{
+    char *name = malloc(strlen(path) + strlen(ending) + 1);
+    if (!name)
+        fail(path, strerror(errno));
+    return strcat(strcpy(name, path), ending);
+}
+
+static void read_table(struct document *document, const char *path)
+{
+    struct stat status;
+    FILE *file = fopen(path, "rb");
+    if (!file || fstat(fileno(file), &status) != 0)
+        fail(path, strerror(errno));
+    document->mode = status.st_mode & 0777;
+    document->used = fread(document->bytes, 1, sizeof document->bytes, file);
+    if (ferror(file))
+        fail(path, strerror(errno));
+    fclose(file);
+}
+
+/* Waits until no other editor saves this table, and keeps others from it until the lock is closed. The lock is on a
+   file of its own, which stays: a save replaces the table's file, and a lock on that would go with the old one. It is
+   flock's, which ends with the program, however that ends. */
+static int lock(const char *path)
+{
+    char *name = name_beside(path, ".lock");
+    int held = open(name, O_RDONLY | O_CREAT | O_CLOEXEC, 0666);
+    if (held < 0 || flock(held, LOCK_EX) != 0)
+        fail(name, strerror(errno));
+    free(name);
+    return held;
+}
+
+/* A new name is on the disk only once its folder is. */
+static void sync_folder(const char *path)
+{
+    char *folder = name_beside(path, "");
+    strrchr(folder, '/')[1] = '\0';
+    int open_folder = open(folder, O_RDONLY | O_CLOEXEC);
+    if (open_folder < 0 || fsync(open_folder) != 0)
+        fail(folder, strerror(errno));
+    close(open_folder);
+    free(folder);
+}
+
+/* Writes a file beside the table's, and renames it once it is on the disk: whoever reads finds the old table or the new
+   one, never a part. */
+static void write_table(const struct document *document, const char *path)
+{
+    char *name = name_beside(path, ".new");
+    unlink(name); /* what an editor left that was ended here */
+    FILE *file = fopen(name, "wbx");
+    if (!file)
+        fail(name, strerror(errno));
+    if (fwrite(document->bytes, 1, document->used, file) != document->used || fflush(file) != 0 ||
+        fchmod(fileno(file), document->mode) != 0 || fsync(fileno(file)) != 0 || fclose(file) != 0 ||
+        rename(name, path) != 0) {
+        int why = errno;
+        unlink(name);
+        fail(name, strerror(why));
     }
+    free(name);
+    sync_folder(path);
+}
+
+static void edit(const char *path, uint32_t id)
+{
+    struct document document;
+    read_table(&document, path);
+    show_figures(&document, id);
+    struct record seen = find_record(&document, id), changed = seen;
+    uint8_t *deadline = changed.bytes + MISHTODRAN_CHAIN_DEADLINE_AT;
+    uint32_t typed = ask_deadline(get(deadline, MISHTODRAN_CHAIN_DEADLINE_BYTES));
+    if (typed == 0)
+        return;
+    put(deadline, MISHTODRAN_CHAIN_DEADLINE_BYTES, typed);
+
+    /* Others may have saved while the user looked at the figures. So the file is read again, and others wait meanwhile;
+       where this very record is another now, the save is refused. */
+    int held = lock(path);
+    read_table(&document, path);
+    save_record(&document, &seen, &changed);
+    write_table(&document, path);
+    close(held);
+
+    printf("saved, the table has %lu bytes\n", (unsigned long)document.used);
+    show_figures(&document, id);
+    show_report(&document);
 }
 
 int main(int count, char **words)
 {
-    struct document document;
-    if (count != 3) {
-        fputs("usage: editor TABLE ID\n", stderr);
-        return 2;
-    }
-    load(&document, words[1]);
-    uint32_t id = (uint32_t)strtoul(words[2], NULL, 10);
-
-    uint32_t latency = show_latency(&document, id);
-    show_misses(&document, id);
-
-    /* The record as it is seen now, and the same with another deadline (four bytes from the seventh on). */
-    uint8_t seen[MOST_TABLE_BYTES], changed[MOST_TABLE_BYTES];
-    const uint8_t *record;
-    size_t length = find_record(&document, id, &record);
-    memcpy(seen, record, length);
-    memcpy(changed, record, length);
-    put32(changed + 6, latency);
-
-    printf("deadline becomes %lu\n", (unsigned long)latency);
-    save(&document, seen, changed, length);
-    show_latency(&document, id);
-    show_misses(&document, id);
-
-    /* Someone else who still holds the old record cannot overwrite the change. */
-    puts("the same save once more");
-    save(&document, seen, changed, length);
-    show_report(&document);
+    if (mishtodran_version() != MISHTODRAN_VERSION)
+        fail("library", "it is of another version than the header");
+    if (count != 3)
+        fail("usage", "editor TABLE ID");
+    uint32_t id = number_in(words[2], MISHTODRAN_MOST_ID);
+    if (id == 0)
+        fail("ID", "give 1 to 65535, in digits");
+    /* Where TABLE is a link, the file that it leads to: all editors lock and replace that one. */
+    char *path = realpath(words[1], NULL);
+    if (!path)
+        fail(words[1], strerror(errno));
+    edit(path, id);
+    free(path);
+    flush_output();
     return 0;
 }

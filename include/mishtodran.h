@@ -1,14 +1,23 @@
 /* Mishtodran: latency and deadline misses of task chains, from a stored table.
  *
- * Every entry returns 0 and writes its answer, or returns the number of a refusal (below) and writes nothing.
- * Answers are little-endian. Bytes of an answer buffer past the answer stay as they are, and so do those of a text buffer
- * past the text.
+ * Every entry but the version returns 0 and writes its answer, or returns the number of a refusal (below) and writes
+ * nothing. Answers are little-endian. Bytes of an answer buffer past the answer stay as they are, and so do those of a
+ * text buffer past the text.
  *
  * What the caller keeps:
  * - a pointer is good for the length that stands beside it; a null pointer with length 0 is fine;
  * - a slice that is written (answer, buffer, text) overlaps no other slice of the call.
- * Nothing else: any bytes may stand in a table or a record, and any number is taken at its full width. Entries keep
- * nothing between calls.
+ * Nothing else: any bytes may stand in a table or a record, and any number is taken at its full width.
+ *
+ * Threads: entries have no state and keep nothing between calls. Any number of threads may call them at once, also on
+ * one table, as long as no call writes what another reads or writes.
+ *
+ * Stack: a call takes less than MISHTODRAN_STACK_BYTES. This is measured, not proved.
+ *
+ * Duration: every call ends; how soon is measured, not proved. On an x86-64 machine of 2 GHz, a segment or a save takes
+ * about a microsecond at most, and any call on an ordinary table less than a millisecond. The slowest tables that we
+ * know have full lists whose last distance is 1, before windows of almost 10,000,000 ticks: there a latency or misses
+ * take 3 seconds, and a report 50. An editor that must not stand still makes these calls in a thread of its own.
  */
 #ifndef MISHTODRAN_H
 #define MISHTODRAN_H
@@ -19,6 +28,71 @@
 #ifdef __cplusplus
 extern "C" {
 #endif
+
+/* The version of this header; mishtodran_version gives that of the library. An editor compares them at its start: where
+ * they differ, an answer, a refusal or an entry may. CHANGELOG.md says which. */
+#define MISHTODRAN_VERSION 1
+
+/* The limits. A table beyond one of them is refused, and so is a k. */
+enum {
+    MISHTODRAN_MOST_TABLE_BYTES = 1284,
+    MISHTODRAN_LEAST_CHAIN_RECORD_BYTES = 28, /* one distance and one task */
+    MISHTODRAN_MOST_CHAIN_RECORD_BYTES = 176, /* 8 distances and 16 tasks */
+    MISHTODRAN_MOST_CHAINS = 16,
+    MISHTODRAN_MOST_TASKS = 16,     /* of a chain */
+    MISHTODRAN_MOST_ALL_TASKS = 64, /* of a table */
+    MISHTODRAN_MOST_DISTANCES = 8,
+    MISHTODRAN_MOST_ID = 65535,
+    MISHTODRAN_MOST_PRIORITY = 65535,
+    MISHTODRAN_MOST_COST = 1000000,
+    MISHTODRAN_MOST_TIME = 10000000, /* a deadline, a gap, a distance, a window */
+    MISHTODRAN_MOST_RUN = 1000       /* k */
+};
+
+/* A stored table is its chain records, then an end record. Numbers in them are little-endian. Of each field: the offset
+ * from its record's first byte, and the length. */
+
+/* A chain record; after its fixed part the distances, then the task records. */
+enum {
+    MISHTODRAN_CHAIN_MARK_AT = 0, /* "CH" */
+    MISHTODRAN_CHAIN_MARK_BYTES = 2,
+    MISHTODRAN_CHAIN_ID_AT = 2,
+    MISHTODRAN_CHAIN_ID_BYTES = 2,
+    MISHTODRAN_CHAIN_KIND_AT = 4, /* 0 synchronous, 1 asynchronous */
+    MISHTODRAN_CHAIN_KIND_BYTES = 1,
+    MISHTODRAN_CHAIN_OVERLOAD_AT = 5, /* 0, or 1 for an overload chain */
+    MISHTODRAN_CHAIN_OVERLOAD_BYTES = 1,
+    MISHTODRAN_CHAIN_DEADLINE_AT = 6,
+    MISHTODRAN_CHAIN_DEADLINE_BYTES = 4,
+    MISHTODRAN_CHAIN_GAP_AT = 10, /* the largest gap, or 0 where none is known */
+    MISHTODRAN_CHAIN_GAP_BYTES = 4,
+    MISHTODRAN_CHAIN_LISTED_AT = 14, /* how many distances */
+    MISHTODRAN_CHAIN_LISTED_BYTES = 1,
+    MISHTODRAN_CHAIN_TASKS_AT = 15, /* how many tasks */
+    MISHTODRAN_CHAIN_TASKS_BYTES = 1,
+    MISHTODRAN_CHAIN_DISTANCES_AT = 16,
+    MISHTODRAN_DISTANCE_BYTES = 4 /* of each */
+};
+
+/* A task record. */
+enum {
+    MISHTODRAN_TASK_MARK_AT = 0, /* "TK" */
+    MISHTODRAN_TASK_MARK_BYTES = 2,
+    MISHTODRAN_TASK_PRIORITY_AT = 2,
+    MISHTODRAN_TASK_PRIORITY_BYTES = 2,
+    MISHTODRAN_TASK_COST_AT = 4,
+    MISHTODRAN_TASK_COST_BYTES = 4,
+    MISHTODRAN_TASK_RECORD_BYTES = 8
+};
+
+/* The end record. */
+enum {
+    MISHTODRAN_END_MARK_AT = 0, /* "EN" */
+    MISHTODRAN_END_MARK_BYTES = 2,
+    MISHTODRAN_END_CHAINS_AT = 2, /* how many chains */
+    MISHTODRAN_END_CHAINS_BYTES = 2,
+    MISHTODRAN_END_RECORD_BYTES = 4
+};
 
 /* Why an entry refuses. */
 enum mishtodran_refusal {
@@ -69,6 +143,9 @@ enum {
 /* Bytes of a text buffer that every report fits into. */
 enum { MISHTODRAN_LONGEST_REPORT = 1123 };
 
+/* Bytes of stack that every call fits into. */
+enum { MISHTODRAN_STACK_BYTES = 16384 };
+
 /* The latency of chain `id`: 16 bytes of answer, four for each figure: K (how many activations were looked at), the
  * latency, how many of the K are late, and the margin (deadline minus latency, two's complement).
  * Refuses with 27, then 1 to 11, 12, 16 or 17. */
@@ -103,6 +180,9 @@ uint32_t mishtodran_save(uint8_t *buffer, size_t buffer_len, uint64_t used,
 uint32_t mishtodran_report(const uint8_t *table, size_t table_len,
                            uint8_t *text, size_t text_len,
                            uint8_t *answer, size_t answer_len);
+
+/* The version of the library. Takes nothing and refuses nothing. */
+uint32_t mishtodran_version(void);
 
 #ifdef __cplusplus
 }

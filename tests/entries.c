@@ -3,7 +3,8 @@
 
    Every slice lent to an entry stands against unreadable pages, in a first pass with its end and in a second with its
    start, and slices that are only read are write-protected: a step outside is caught and counts as a failure. Checked
-   are the returned number, every byte of every slice afterwards, and some bytes beside it. */
+   are the returned number, every byte of every slice afterwards, and some bytes beside it; and at the end how much stack
+   the calls took. */
 #define _GNU_SOURCE
 #include "mishtodran.h"
 
@@ -14,6 +15,7 @@
 #include <stdlib.h>
 #include <string.h>
 #include <sys/mman.h>
+#include <ucontext.h>
 
 enum {
     PAGE = 65536, /* at least a page of any machine, also of one that emulates */
@@ -195,8 +197,21 @@ static void catch_faults(void)
     sigaction(SIGBUS, &action, NULL);
 }
 
+/* The stack that the cases run on. Painted before, it shows afterwards how deep below `call` anything was written. */
+static uint8_t stack[1 << 20];
+static const uint8_t *called_from;
+
+static size_t stack_taken(void)
+{
+    const uint8_t *deepest = stack;
+    while (*deepest == FILLER)
+        deepest++;
+    return (size_t)(called_from - deepest);
+}
+
 static uint32_t call(const struct entry_case *given, bool at_end)
 {
+    called_from = __builtin_frame_address(0);
     const struct slice *slice = given->slice;
     uint8_t *table = lent(given, TABLE, at_end);
     uint8_t *answer = lent(given, ANSWER, at_end);
@@ -248,6 +263,33 @@ static bool run(const struct entry_case *given, bool at_end)
     return true;
 }
 
+static unsigned cases, right;
+
+static void run_cases(void)
+{
+    while (packed < packed_end) {
+        struct entry_case given = take_case();
+        cases++;
+        if (run(&given, true) && run(&given, false))
+            right++;
+    }
+}
+
+static void run_on_painted_stack(void)
+{
+    static ucontext_t here, there;
+    memset(stack, FILLER, sizeof stack);
+    if (getcontext(&there) != 0) {
+        puts("no stack of its own can be had");
+        exit(2);
+    }
+    there.uc_stack.ss_sp = stack;
+    there.uc_stack.ss_size = sizeof stack;
+    there.uc_link = &here;
+    makecontext(&there, run_cases, 0);
+    swapcontext(&here, &there);
+}
+
 int main(int count, char **words)
 {
     if (count != 2) {
@@ -257,13 +299,10 @@ int main(int count, char **words)
     load_cases(words[1]);
     make_rooms();
     catch_faults();
-    unsigned cases = 0, right = 0;
-    while (packed < packed_end) {
-        struct entry_case given = take_case();
-        cases++;
-        if (run(&given, true) && run(&given, false))
-            right++;
-    }
+    run_on_painted_stack();
     printf("%u cases, %u as expected\n", cases, right);
-    return right == cases ? 0 : 1;
+    if (right != cases)
+        return 1;
+    printf("%zu of %d bytes of stack taken\n", stack_taken(), MISHTODRAN_STACK_BYTES);
+    return stack_taken() < MISHTODRAN_STACK_BYTES ? 0 : 1;
 }

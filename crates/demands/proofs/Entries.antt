@@ -134,4 +134,5 @@ every-entry = record {
       entry (λ x r a. record { answers = a }) (λ x r e. e .answers) (answered SegmentRefusal 2 _ _ (segment-one s chain against number) before);
   save-entry = save-entry;
   report-entry = report-entry;
+  version-entry = λ e f. e ∙ sym f;
 }

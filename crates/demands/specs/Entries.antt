@@ -14,7 +14,7 @@ use Rattle.windows.specs.Latency.{latencyOf, numberOf as latencyNumber}
 use Rattle.misses.specs.Misses.{missesOf, numberOf as missesNumber, valuesOf as missesFigures}
 use Rattle.saving.specs.Save.{Saves, numberOf as saveNumber}
 use Rattle.report_text.specs.Report.{Reported}
-use Rattle.editor.specs.Entry.{latencyFigures, LatencyEntry, MissesEntry, SegmentEntry, SaveEntry, ReportEntry}
+use Rattle.editor.specs.Entry.{latencyFigures, LatencyEntry, MissesEntry, SegmentEntry, SaveEntry, ReportEntry, version}
 
 -- n lies between low and high, both included
 abbrev pub Between : ℕ → ℕ → ℕ → Type 0
@@ -93,3 +93,5 @@ pub record EveryEntry : Type 0 where
       → Call {A = List ℕ × List ℕ} (λ after r. SaveEntry buffer used old new answer (after .0) (after .1) r) (AtEntry SaveRefusal) (λ r. r) (buffer, answer)
   pub report-entry : (s text answer : List ℕ)
       → Call {A = List ℕ × List ℕ} (λ after r. ReportEntry s text answer (after .0) (after .1) r) (AtEntry ReportRefusal) (λ r. r) (text, answer)
+  -- `mishtodran_version`, which takes nothing
+  pub version-entry : {r q : ℕ} → r ≡ version → q ≡ version → r ≡ q

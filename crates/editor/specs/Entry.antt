@@ -70,3 +70,7 @@ tooLong table text = ltb (length text) (length (reportOf table))
 pub record ReportEntry (table text answer textAfter answerAfter : List ℕ) (r : ℕ) : Type 0 where
   pub answers : Answered 1 (24 when tooLong table text else 0) ([] when tooLong table text else length (reportOf table) ∷ []) answer answerAfter r
   pub leaves : textAfter ≡ leftBy r (reportOf table) text
+
+-- the version of the entries, which a caller holds against its header's; a change of an answer, a refusal or an entry raises it
+abbrev pub version : ℕ
+version = 1

@@ -1,5 +1,5 @@
-// The C editor's entries (document 01, 'The C editor and the report'): numbers and byte slices only. Each returns 0 or the
-// refusal's number; refused, every byte lent stays.
+// The C editor's entries (document 01, 'The C editor and the report'): numbers and byte slices only. Each but the version
+// returns 0 or the refusal's number; refused, every byte lent stays.
 use report_text::LONGEST;
 use report_text::magnitude;
 use saving::Saved;
@@ -7,10 +7,12 @@ use table::put_u32;
 ghost use mathlib.Core.Path.{_≡_};
 ghost use Prim.Native.Nat.{_*_, _≤_};
 ghost use lib.ListN.{length};
-ghost use Rattle.editor.specs.Entry.{unsigned as unsignedOf, figureBytes, startingWith, LatencyEntry, MissesEntry, SegmentEntry, SaveEntry, ReportEntry};
+ghost use Rattle.editor.specs.Entry.{unsigned as unsignedOf, figureBytes, startingWith, LatencyEntry, MissesEntry, SegmentEntry, SaveEntry, ReportEntry, version};
 
 // What an entry returns where it has answered.
 const ANSWERED: u32 = 0;
+
+const VERSION: u32 = 1;
 
 // A signed number in two's complement.
 fn unsigned(x: i32) -> u32
@@ -143,4 +145,12 @@ pub extern "C" fn mishtodran_report(table: &[u8], text: &mut [u8], answer: &mut 
     let figures = [n as u32];
     put_figures(answer, &figures);
     ANSWERED
+}
+
+// The version of the entries, which an editor holds against its header's.
+#[no_mangle]
+pub extern "C" fn mishtodran_version() -> u32
+    ensures { λ r. ⌜ r ≡ version ⌝ }
+{
+    VERSION
 }

@@ -1,0 +1,206 @@
+/* Holds the constants of mishtodran.h against the library: the version, the fields of the records and the limits. Tables
+   are made by the constants alone, and what the library says of each shows whether they are right.
+   Usage: header */
+#include "mishtodran.h"
+
+#include <stdbool.h>
+#include <stdio.h>
+
+/* What the misses of chain 1 are refused with where its table is accepted: it has no gap. */
+enum { ACCEPTED = MISHTODRAN_NO_GAP };
+
+/* ---- Tables ---- */
+
+/* The fields of a record follow one another, up to its end. */
+#define FOLLOWS(field, next) \
+    _Static_assert(MISHTODRAN_##next##_AT == MISHTODRAN_##field##_AT + MISHTODRAN_##field##_BYTES, #next)
+FOLLOWS(CHAIN_MARK, CHAIN_ID);
+FOLLOWS(CHAIN_ID, CHAIN_KIND);
+FOLLOWS(CHAIN_KIND, CHAIN_OVERLOAD);
+FOLLOWS(CHAIN_OVERLOAD, CHAIN_DEADLINE);
+FOLLOWS(CHAIN_DEADLINE, CHAIN_GAP);
+FOLLOWS(CHAIN_GAP, CHAIN_LISTED);
+FOLLOWS(CHAIN_LISTED, CHAIN_TASKS);
+FOLLOWS(CHAIN_TASKS, CHAIN_DISTANCES);
+FOLLOWS(TASK_MARK, TASK_PRIORITY);
+FOLLOWS(TASK_PRIORITY, TASK_COST);
+FOLLOWS(END_MARK, END_CHAINS);
+_Static_assert(MISHTODRAN_TASK_RECORD_BYTES == MISHTODRAN_TASK_COST_AT + MISHTODRAN_TASK_COST_BYTES, "task record");
+_Static_assert(MISHTODRAN_END_RECORD_BYTES == MISHTODRAN_END_CHAINS_AT + MISHTODRAN_END_CHAINS_BYTES, "end record");
+
+/* An id and a priority may be all that their bytes hold. */
+_Static_assert(MISHTODRAN_MOST_ID == (1 << 8 * MISHTODRAN_CHAIN_ID_BYTES) - 1, "id");
+_Static_assert(MISHTODRAN_MOST_PRIORITY == (1 << 8 * MISHTODRAN_TASK_PRIORITY_BYTES) - 1, "priority");
+
+static void put(uint8_t *at, unsigned bytes, uint32_t value)
+{
+    for (unsigned i = 0; i < bytes; i++)
+        at[i] = (uint8_t)(value >> 8 * i);
+}
+
+static void put_mark(uint8_t *at, const char *mark)
+{
+    at[0] = (uint8_t)mark[0];
+    at[1] = (uint8_t)mark[1];
+}
+
+/* A task with each value as large as it may be. */
+static void put_task(uint8_t *at)
+{
+    put_mark(at + MISHTODRAN_TASK_MARK_AT, "TK");
+    put(at + MISHTODRAN_TASK_PRIORITY_AT, MISHTODRAN_TASK_PRIORITY_BYTES, MISHTODRAN_MOST_PRIORITY);
+    put(at + MISHTODRAN_TASK_COST_AT, MISHTODRAN_TASK_COST_BYTES, MISHTODRAN_MOST_COST);
+}
+
+/* A chain with each time as large as it may be, but no gap. Gives its end back. */
+static uint8_t *put_chain(uint8_t *at, uint32_t id, unsigned listed, unsigned tasks)
+{
+    put_mark(at + MISHTODRAN_CHAIN_MARK_AT, "CH");
+    put(at + MISHTODRAN_CHAIN_ID_AT, MISHTODRAN_CHAIN_ID_BYTES, id);
+    put(at + MISHTODRAN_CHAIN_KIND_AT, MISHTODRAN_CHAIN_KIND_BYTES, 0);
+    put(at + MISHTODRAN_CHAIN_OVERLOAD_AT, MISHTODRAN_CHAIN_OVERLOAD_BYTES, 0);
+    put(at + MISHTODRAN_CHAIN_DEADLINE_AT, MISHTODRAN_CHAIN_DEADLINE_BYTES, MISHTODRAN_MOST_TIME);
+    put(at + MISHTODRAN_CHAIN_GAP_AT, MISHTODRAN_CHAIN_GAP_BYTES, 0);
+    put(at + MISHTODRAN_CHAIN_LISTED_AT, MISHTODRAN_CHAIN_LISTED_BYTES, listed);
+    put(at + MISHTODRAN_CHAIN_TASKS_AT, MISHTODRAN_CHAIN_TASKS_BYTES, tasks);
+    at += MISHTODRAN_CHAIN_DISTANCES_AT;
+    for (unsigned i = 0; i < listed; i++, at += MISHTODRAN_DISTANCE_BYTES)
+        put(at, MISHTODRAN_DISTANCE_BYTES, MISHTODRAN_MOST_TIME);
+    for (unsigned i = 0; i < tasks; i++, at += MISHTODRAN_TASK_RECORD_BYTES)
+        put_task(at);
+    return at;
+}
+
+static size_t put_table(uint8_t *table, unsigned chains, unsigned listed, unsigned tasks)
+{
+    uint8_t *at = table;
+    for (unsigned i = 1; i <= chains; i++)
+        at = put_chain(at, i, listed, tasks);
+    put_mark(at + MISHTODRAN_END_MARK_AT, "EN");
+    put(at + MISHTODRAN_END_CHAINS_AT, MISHTODRAN_END_CHAINS_BYTES, chains);
+    return (size_t)(at - table) + MISHTODRAN_END_RECORD_BYTES;
+}
+
+/* ---- Cases ---- */
+
+static bool is_same(const char *what, unsigned long found, unsigned long wanted)
+{
+    if (found != wanted)
+        printf("header: %s: %lu, not %lu\n", what, found, wanted);
+    return found == wanted;
+}
+
+/* Whether the misses of chain 1 are refused with this number. */
+static bool is_refused(const char *what, const uint8_t *table, size_t length, uint32_t k, uint32_t refusal)
+{
+    uint8_t answer[MISHTODRAN_MISSES_BYTES];
+    return is_same(what, mishtodran_misses(table, length, 1, k, answer, sizeof answer), refusal);
+}
+
+/* A value for a field in the shortest table. */
+struct field_case {
+    const char *what;
+    size_t at;
+    unsigned bytes;
+    uint32_t value, refusal;
+};
+
+#define CHAIN(field) "chain " #field, MISHTODRAN_CHAIN_##field##_AT, MISHTODRAN_CHAIN_##field##_BYTES
+#define DISTANCE "distance", MISHTODRAN_CHAIN_DISTANCES_AT, MISHTODRAN_DISTANCE_BYTES
+#define TASK_FROM (MISHTODRAN_CHAIN_DISTANCES_AT + MISHTODRAN_DISTANCE_BYTES)
+#define TASK(field) "task " #field, TASK_FROM + MISHTODRAN_TASK_##field##_AT, MISHTODRAN_TASK_##field##_BYTES
+#define END_FROM (TASK_FROM + MISHTODRAN_TASK_RECORD_BYTES)
+#define END(field) "end " #field, END_FROM + MISHTODRAN_END_##field##_AT, MISHTODRAN_END_##field##_BYTES
+
+static const struct field_case field_cases[] = {
+    {CHAIN(MARK), 0, MISHTODRAN_MARK},
+    {CHAIN(ID), 0, MISHTODRAN_ID},
+    {CHAIN(ID), MISHTODRAN_MOST_ID, MISHTODRAN_UNKNOWN_ID},
+    {CHAIN(KIND), 1, ACCEPTED},
+    {CHAIN(KIND), 2, MISHTODRAN_KIND},
+    {CHAIN(OVERLOAD), 1, MISHTODRAN_OF_OVERLOAD},
+    {CHAIN(OVERLOAD), 2, MISHTODRAN_KIND},
+    {CHAIN(DEADLINE), 0, MISHTODRAN_DEADLINE},
+    {CHAIN(DEADLINE), MISHTODRAN_MOST_TIME + 1, MISHTODRAN_DEADLINE},
+    {CHAIN(GAP), MISHTODRAN_MOST_TIME, 0},
+    {CHAIN(GAP), MISHTODRAN_MOST_TIME + 1, MISHTODRAN_GAP},
+    {CHAIN(LISTED), 0, MISHTODRAN_LIST},
+    {CHAIN(LISTED), MISHTODRAN_MOST_DISTANCES + 1, MISHTODRAN_LIST},
+    {CHAIN(TASKS), 0, MISHTODRAN_TASK_COUNT},
+    {CHAIN(TASKS), MISHTODRAN_MOST_TASKS + 1, MISHTODRAN_TASK_COUNT},
+    {DISTANCE, 0, MISHTODRAN_LIST},
+    {DISTANCE, MISHTODRAN_MOST_TIME + 1, MISHTODRAN_LIST},
+    {TASK(MARK), 0, MISHTODRAN_MARK},
+    {TASK(PRIORITY), 0, MISHTODRAN_TASK},
+    {TASK(COST), 0, MISHTODRAN_TASK},
+    {TASK(COST), MISHTODRAN_MOST_COST + 1, MISHTODRAN_TASK},
+    {END(MARK), 0, MISHTODRAN_MARK},
+    {END(CHAINS), 2, MISHTODRAN_END},
+};
+
+static bool fields_hold(void)
+{
+    bool right = true;
+    for (size_t i = 0; i < sizeof field_cases / sizeof *field_cases; i++) {
+        const struct field_case *field = &field_cases[i];
+        uint8_t table[MISHTODRAN_MOST_TABLE_BYTES];
+        size_t length = put_table(table, 1, 1, 1);
+        put(table + field->at, field->bytes, field->value);
+        right &= is_refused(field->what, table, length, 1, field->refusal);
+    }
+    return right;
+}
+
+/* Chains that have as many distances and tasks each; the table's length, or 0 where the header has none for it. */
+struct count_case {
+    const char *what;
+    unsigned chains, listed, tasks;
+    size_t length;
+    uint32_t refusal;
+};
+
+enum {
+    SHORTEST = MISHTODRAN_LEAST_CHAIN_RECORD_BYTES + MISHTODRAN_END_RECORD_BYTES,
+    LONGEST_OF_ONE = MISHTODRAN_MOST_CHAIN_RECORD_BYTES + MISHTODRAN_END_RECORD_BYTES,
+    LONGEST = MISHTODRAN_MOST_TABLE_BYTES,
+    WIDE = MISHTODRAN_MOST_ALL_TASKS / MISHTODRAN_MOST_TASKS,   /* chains of the most tasks */
+    NARROW = MISHTODRAN_MOST_ALL_TASKS / MISHTODRAN_MOST_CHAINS /* tasks of the most chains */
+};
+
+_Static_assert(MISHTODRAN_MOST_ALL_TASKS == WIDE * MISHTODRAN_MOST_TASKS, "all tasks");
+
+static const struct count_case count_cases[] = {
+    {"the shortest record", 1, 1, 1, SHORTEST, ACCEPTED},
+    {"the longest record", 1, MISHTODRAN_MOST_DISTANCES, MISHTODRAN_MOST_TASKS, LONGEST_OF_ONE, ACCEPTED},
+    {"the longest table", MISHTODRAN_MOST_CHAINS, MISHTODRAN_MOST_DISTANCES, NARROW, LONGEST, ACCEPTED},
+    {"a chain too many", MISHTODRAN_MOST_CHAINS + 1, 1, 1, 0, MISHTODRAN_END},
+    {"all tasks", WIDE, 1, MISHTODRAN_MOST_TASKS, 0, ACCEPTED},
+    {"more tasks", WIDE + 1, 1, MISHTODRAN_MOST_TASKS, 0, MISHTODRAN_TASK_COUNT},
+};
+
+static bool limits_hold(void)
+{
+    bool right = true;
+    static uint8_t table[2 * MISHTODRAN_MOST_TABLE_BYTES];
+    for (size_t i = 0; i < sizeof count_cases / sizeof *count_cases; i++) {
+        const struct count_case *count = &count_cases[i];
+        size_t length = put_table(table, count->chains, count->listed, count->tasks);
+        right &= count->length == 0 || is_same(count->what, length, count->length);
+        right &= is_refused(count->what, table, length, 1, count->refusal);
+    }
+    right &= is_refused("a byte too many", table, MISHTODRAN_MOST_TABLE_BYTES + 1, 1, MISHTODRAN_TABLE_LENGTH);
+    size_t length = put_table(table, 1, 1, 1);
+    right &= is_refused("the longest run", table, length, MISHTODRAN_MOST_RUN, ACCEPTED);
+    right &= is_refused("a longer run", table, length, MISHTODRAN_MOST_RUN + 1, MISHTODRAN_RUN_LENGTH);
+    return right;
+}
+
+int main(void)
+{
+    bool version = is_same("version of the library", mishtodran_version(), MISHTODRAN_VERSION);
+    bool fields = fields_hold(), limits = limits_hold();
+    if (!version || !fields || !limits)
+        return 1;
+    puts("the header's version, fields and limits are the library's");
+    return 0;
+}
