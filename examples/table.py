@@ -171,9 +171,9 @@ def chain_text(s, at):
     fixed = Fixed(*part(FIXED, s, at, "a chain record"))
     name = f"chain {fixed.id}"
     if fixed.kind > 1 or fixed.overload > 1:
-        raise Mistake(f"offset {at}: {name} has kind {fixed.kind} and overload {fixed.overload}: there are words for 0 and 1 only")
+        raise Mistake(f"offset {at}: {name} has kind {fixed.kind} and overload {fixed.overload}: text has words for 0 and 1")
     if fixed.listed == 0 or fixed.tasks == 0:
-        raise Mistake(f"offset {at}: {name} has {fixed.listed} distances and {fixed.tasks} tasks: a text has one of each at least")
+        raise Mistake(f"offset {at}: {name} has {fixed.listed} distances and {fixed.tasks} tasks: text has one of each at least")
     at += FIXED.size
     words = [name, KINDS[fixed.kind], *["overload"] * fixed.overload, f"deadline {fixed.deadline} gap {fixed.gap} list"]
     for _ in range(fixed.listed):

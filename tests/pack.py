@@ -9,10 +9,10 @@ little-endian), the table's length (2 bytes), the table. The kinds and their six
   3 misses    id, k, misses
   4 report    length of the text, which follows the table
 
-Each different table of any file of tests/cases gives a case of kind 0. Its verdict is worked out here, by a reader written from document 01,
-and held against what the case says. Cases of refusal 27 speak of the answer buffer, which these queries do not have. After
-the cases of the files come those that only an order decides (orders.py), those that document 01 and the published case study
-tell, and some at the edges, held here.
+Each different table of any file of tests/cases gives a case of kind 0. Its verdict is worked out by a reader written from
+document 01 (stored.py), and held against what the case says. Cases of refusal 27 speak of the answer buffer, which these
+queries do not have. After the cases of the files come those that only an order decides (orders.py), those that document 01
+and the published case study tell, and some at the edges, held here.
 """
 import json
 import struct
