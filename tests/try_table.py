@@ -36,7 +36,7 @@ def due(holds, what):
 def run(*words, **settings):
     """Status, standard output and standard error of the command."""
     settings = {"stdin": subprocess.DEVNULL, "stdout": subprocess.PIPE, **settings}
-    done = subprocess.run([*PROGRAM, *words], stderr=subprocess.PIPE, **settings)
+    done = subprocess.run([*PROGRAM, *words], stderr=subprocess.PIPE, timeout=60, **settings)
     return done.returncode, done.stdout, done.stderr.decode()
 
 
