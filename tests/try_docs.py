@@ -17,12 +17,14 @@ def refusals():
     header = (TOP / "include" / "mishtodran.h").read_text("utf8")
     listed = re.search(r"enum mishtodran_refusal \{(.*?)\n\};", header, re.S)
     due = re.findall(r"MISHTODRAN_(\w+) = (\d+)", listed.group(1)) if listed else []
-    there = re.findall(r"^\| (\d+) \| `(\w+)` \|", (TOP / "docs" / "REFUSALS.md").read_text("utf8"), re.M)
+    rows = re.findall(r"^\| (\d+) \| `(\w+)` \|", (TOP / "docs" / "REFUSALS.md").read_text("utf8"), re.M)
+    there = [(name, number) for number, name in rows]
     if not due:
         return ["mishtodran.h: no refusals in the form that this program reads"]
-    if [(number, name) for name, number in due] == there:
-        return []
-    return [f"REFUSALS.md has {there}, and the header {due}"]
+    lines = [f"REFUSALS.md has not {number}, {name}" for name, number in due if (name, number) not in there]
+    if not lines and there != due:
+        lines = [f"REFUSALS.md has {len(there)} rows, and not each of the {len(due)} refusals once, in order"]
+    return lines
 
 
 def drawing():
