@@ -14,33 +14,31 @@ Run as a program it lists the pairs.
 """
 from collections import namedtuple
 
-from stored import TIME, chain, end, save_verdict, stored, verdict
+from stored import LONGEST, TIME, save_verdict, verdict
+from table import DISTANCE, FIXED, TASK, chain, end, fixed_part, stored
 
 # Two numbers, what both are about, the case in which both hold, and the one in which only the second does. In a query 0
 # is the answer 0.
 Pair = namedtuple("Pair", "first second what both later")
-
-LONGEST = 1284
 
 
 # ---- Reading a table ----
 
 def record(id=2, kind=0, overload=0, deadline=40, gap=100, distances=(100,), tasks=((5, 10), (3, 10)), listed=None, count=None):
     """A chain record that is good but for what is named; its two counts may say something else than it has."""
-    made = bytearray(chain(id, kind, overload, deadline, gap, distances, tasks))
-    made[14] = len(distances) if listed is None else listed
-    made[15] = len(tasks) if count is None else count
-    return bytes(made)
+    made = chain(id, kind, overload, deadline, gap, distances, tasks)
+    counts = {"listed": len(distances) if listed is None else listed, "tasks": len(tasks) if count is None else count}
+    return FIXED.pack(*fixed_part(made, 0)._replace(**counts)) + made[FIXED.size:]
 
 
 GOOD = record(id=1)
 SIXTEEN = b"".join(record(id=i + 1, tasks=[(5, 10)]) for i in range(16))
 SEVENTEENTH = record(id=17) + end(17)
 FIFTEEN = SIXTEEN[:len(SIXTEEN) // 16 * 15]
-SIXTY_FOUR = b"".join(record(id=i + 11, tasks=[(5, 10)] * 16) for i in range(4))
+SIXTY_FOUR = [record(id=i + 11, tasks=[(5, 10)] * 16) for i in range(4)]
 
-HEAD, TASK = 16, 8
-FIRST_TASK = HEAD + 4  # of a record with one distance
+FIRST_TASK = FIXED.size + DISTANCE.size  # of a record with one distance
+SECOND_TASK = FIRST_TASK + TASK.size
 
 
 def second(**fields):
@@ -56,14 +54,14 @@ def cut(at, **fields):
 def marked(mark, task=0, length=None, **fields):
     """A good record, then one whose task has this mark, cut to a length."""
     made = bytearray(record(**fields))
-    at = FIRST_TASK + TASK * task
+    at = FIRST_TASK + TASK.size * task
     made[at:at + 2] = mark
     return stored(GOOD, bytes(made)) if length is None else GOOD + bytes(made)[:length]
 
 
 def over_64(**fields):
     """65 tasks so far with this record."""
-    return stored(*(SIXTY_FOUR[at:at + 148] for at in range(0, 592, 148)), record(**{"tasks": [(5, 10)], **fields}))
+    return stored(*SIXTY_FOUR, record(**{"tasks": [(5, 10)], **fields}))
 
 
 def padded(made, length):
@@ -71,7 +69,7 @@ def padded(made, length):
 
 
 # Every fault of a chain's fixed part, in the order of its fields.
-FIXED = [
+FIXED_FAULTS = [
     (4, "id 0", {"id": 0}), (4, "id used", {"id": 1}),
     (5, "kind 2", {"kind": 2}), (5, "overload 2", {"overload": 2}),
     (6, "deadline 0", {"deadline": 0}), (6, "deadline too large", {"deadline": TIME + 1}),
@@ -89,21 +87,21 @@ LISTS = [
 LAST_0 = ("the last distance is 0", {"distances": (0, 0)})
 
 
-def fixed_part():
+def fixed_parts():
     """Every two faults of the fixed part, and each with its cut."""
     pairs = [Pair(a, b, f"{one}, {other}", second(**{**first, **later}), second(**later))
-             for i, (a, one, first) in enumerate(FIXED) for b, other, later in FIXED[i + 1:] if a != b]
-    pairs += [Pair(2, a, f"the fixed part is cut, {one}", cut(HEAD - 1, **first), second(**first))
-              for a, one, first in FIXED if "count" not in first]
+             for i, (a, one, first) in enumerate(FIXED_FAULTS) for b, other, later in FIXED_FAULTS[i + 1:] if a != b]
+    pairs += [Pair(2, a, f"the fixed part is cut, {one}", cut(FIXED.size - 1, **first), second(**first))
+              for a, one, first in FIXED_FAULTS if "count" not in first]
     pairs += [Pair(a, 9, f"{one}, 65 tasks so far", over_64(**{**first, "id": 11} if one == "id used" else first), over_64())
-              for a, one, first in FIXED if a != 9]
+              for a, one, first in FIXED_FAULTS if a != 9]
     return pairs
 
 
 def lists():
-    pairs = [Pair(2, 8, f"the list is cut, {what}", cut(HEAD + 7, **fields), second(**fields)) for what, fields in LISTS]
+    whole = FIXED.size + 2 * DISTANCE.size
+    pairs = [Pair(2, 8, f"the list is cut, {what}", cut(whole - 1, **fields), second(**fields)) for what, fields in LISTS]
     for what, fields in LISTS + [LAST_0]:
-        whole = HEAD + 8
         pairs += [
             Pair(8, 2, f"{what}, no byte of a task", cut(whole, **fields), cut(whole, distances=(100, 200))),
             Pair(8, 3, f"{what}, another mark than TK", cut(whole, **fields) + b"CH", cut(whole, distances=(100, 200)) + b"CH"),
@@ -112,11 +110,11 @@ def lists():
             Pair(6, 8, f"deadline 0, {what}", second(**fields, deadline=0), second(**fields)),
         ]
     return pairs + [
-        Pair(8, 2, "list length 9, the list is cut", cut(HEAD + 4, listed=9), cut(HEAD + 4, listed=8)),
-        Pair(8, 2, "list length 0, no byte of a task", cut(HEAD, listed=0), cut(HEAD, listed=1)),
-        Pair(9, 2, "task count 0, the list is cut", cut(HEAD + 3, count=0), cut(HEAD + 3)),
-        Pair(9, 2, "task count 17, the list is cut", cut(HEAD + 3, count=17), cut(HEAD + 3)),
-        Pair(9, 2, "65 tasks so far, the list is cut", SIXTY_FOUR + record()[:HEAD + 3], cut(HEAD + 3)),
+        Pair(8, 2, "list length 9, the list is cut", cut(FIRST_TASK, listed=9), cut(FIRST_TASK, listed=8)),
+        Pair(8, 2, "list length 0, no byte of a task", cut(FIXED.size, listed=0), cut(FIXED.size, listed=1)),
+        Pair(9, 2, "task count 0, the list is cut", cut(FIRST_TASK - 1, count=0), cut(FIRST_TASK - 1)),
+        Pair(9, 2, "task count 17, the list is cut", cut(FIRST_TASK - 1, count=17), cut(FIRST_TASK - 1)),
+        Pair(9, 2, "65 tasks so far, the list is cut", b"".join(SIXTY_FOUR) + record()[:FIRST_TASK - 1], cut(FIRST_TASK - 1)),
         Pair(9, 8, "65 tasks so far, a distance falls", over_64(distances=(100, 50)), second(distances=(100, 50))),
         Pair(9, 10, "65 tasks so far, priority 0", over_64(tasks=[(0, 10)]), second(tasks=[(0, 10)])),
         Pair(7, 8, "gap too large, a distance falls", second(gap=TIME + 1, distances=(100, 50)), second(distances=(100, 50))),
@@ -131,19 +129,19 @@ def tasks():
         Pair(2, 3, "one byte of a task's mark, not T", marked(b"X?", 0, FIRST_TASK + 1), marked(b"X?", 0, FIRST_TASK + 2)),
         Pair(2, 3, "T, and then nothing", marked(b"TX", 0, FIRST_TASK + 1), marked(b"TX", 0, FIRST_TASK + 2)),
         Pair(3, 2, "another mark than TK, and nothing after it", marked(b"EN", 0, FIRST_TASK + 2), cut(FIRST_TASK + 2)),
-        Pair(3, 2, "another mark than TK, and a byte too few", marked(b"CH", 0, FIRST_TASK + 7), cut(FIRST_TASK + 7)),
+        Pair(3, 2, "another mark than TK, and a byte too few", marked(b"CH", 0, SECOND_TASK - 1), cut(SECOND_TASK - 1)),
         Pair(3, 10, "another mark than TK, priority 0", marked(b"XX", tasks=[(0, 10)]), second(tasks=[(0, 10)])),
         Pair(2, 10, "priority 0, no cost", cut(FIRST_TASK + 4, tasks=[(0, 10)]), second(tasks=[(0, 10)])),
-        Pair(2, 10, "cost 0, its last byte missing", cut(FIRST_TASK + 7, tasks=[(5, 0)]), second(tasks=[(5, 0)])),
+        Pair(2, 10, "cost 0, its last byte missing", cut(SECOND_TASK - 1, tasks=[(5, 0)]), second(tasks=[(5, 0)])),
         Pair(3, 10, "task 1 has another mark, task 2 priority 0", marked(b"XX", tasks=[(5, 10), (0, 10)]),
              second(tasks=[(5, 10), (0, 10)])),
     ]
     for what, bad in BAD_TASKS:
-        two, whole = [bad, (3, 10)], FIRST_TASK + TASK
-        last = GOOD[:-TASK] + record(tasks=[bad])[-TASK:]
+        two = [bad, (3, 10)]
+        last = GOOD[:-TASK.size] + record(tasks=[bad])[-TASK.size:]
         pairs += [
-            Pair(10, 2, f"task 1 has {what}, task 2 is missing", cut(whole, tasks=two), cut(whole)),
-            Pair(10, 2, f"task 1 has {what}, task 2 is cut", cut(whole + 4, tasks=two), cut(whole + 4)),
+            Pair(10, 2, f"task 1 has {what}, task 2 is missing", cut(SECOND_TASK, tasks=two), cut(SECOND_TASK)),
+            Pair(10, 2, f"task 1 has {what}, task 2 is cut", cut(SECOND_TASK + 4, tasks=two), cut(SECOND_TASK + 4)),
             Pair(10, 3, f"task 1 has {what}, task 2 another mark", marked(b"XX", 1, tasks=two), marked(b"XX", 1)),
             Pair(10, 2, f"the last task has {what}, nothing follows", last, GOOD),
             Pair(10, 3, f"the last task has {what}, an unknown mark", last + b"XX", GOOD + b"XX"),
@@ -171,7 +169,8 @@ def marks():
         Pair(2, 11, "16 chains, then nothing", SIXTEEN, SIXTEEN + b"CH"),
         Pair(2, 11, "16 chains, then C", SIXTEEN + b"C", SIXTEEN + b"CH"),
         Pair(11, 2, "a 17th chain, its mark alone", SIXTEEN + b"CH", FIFTEEN + b"CH"),
-        Pair(11, 2, "a 17th chain, its fixed part cut", SIXTEEN + record(id=17)[:HEAD - 1], FIFTEEN + record(id=17)[:HEAD - 1]),
+        Pair(11, 2, "a 17th chain, its fixed part cut", SIXTEEN + record(id=17)[:FIXED.size - 1],
+             FIFTEEN + record(id=17)[:FIXED.size - 1]),
         Pair(11, 2, "a 17th chain, cut in its tasks", SIXTEEN + record(id=17)[:-1], FIFTEEN + record(id=17)[:-1]),
         Pair(11, 4, "a 17th chain, id 0", SIXTEEN + record(id=0) + end(17), FIFTEEN + record(id=0) + end(16)),
         Pair(11, 5, "a 17th chain, kind 2", SIXTEEN + record(id=17, kind=2) + end(17), FIFTEEN + record(id=17, kind=2) + end(16)),
@@ -184,8 +183,8 @@ def records():
     """A fault of one chain, and one of the next that is looked at earlier in a chain."""
     return [Pair(a, b, f"{one} in a chain, {other} in the next", stored(GOOD, record(**first), record(**{"id": 3, **later})),
                  stored(GOOD, record(), record(**{"id": 3, **later})))
-            for a, one, first in FIXED[1:] + [(8, what, fields) for what, fields in LISTS]
-            for b, other, later in (FIXED[0], FIXED[2], FIXED[6]) if a > b]
+            for a, one, first in FIXED_FAULTS[1:] + [(8, what, fields) for what, fields in LISTS]
+            for b, other, later in (FIXED_FAULTS[0], FIXED_FAULTS[2], FIXED_FAULTS[6]) if a > b]
 
 
 def ends():
@@ -204,14 +203,14 @@ def ends():
 def lengths():
     """A length of 0 or above 1,284, and what the bytes there have."""
     faults = [(3, "an unknown mark", b"XX"), (11, "bytes after the end", stored(GOOD)), (11, "no chain", b"EN\0\0")]
-    faults += [(a, one, second(**first)) for a, one, first in FIXED]
+    faults += [(a, one, second(**first)) for a, one, first in FIXED_FAULTS]
     faults += [(8, what, second(**fields)) for what, fields in LISTS]
     faults += [(10, what, second(tasks=[bad])) for what, bad in BAD_TASKS]
     return [Pair(1, 2, "no byte", b"", b"C")] + [
         Pair(1, a, f"1,285 bytes, {what}", padded(made, LONGEST + 1), padded(made, LONGEST)) for a, what, made in faults]
 
 
-READING = lengths() + marks() + fixed_part() + lists() + tasks() + records() + ends()
+READING = lengths() + marks() + fixed_parts() + lists() + tasks() + records() + ends()
 
 # A table for each number, with nothing else wrong.
 REFUSED = {
@@ -321,12 +320,13 @@ SEGMENT = [Pair(a, 12, "the table, unknown ids", (made, UNKNOWN, UNKNOWN, 1), (P
 STALE = record(deadline=41)
 TWO = stored(GOOD, record())
 LONGER = ((5, 10), (3, 10), (2, 1))
-FULL = stored(*(chain(i + 1, 0, 0, 40, 0, range(100, 900, 100), [(5, 10)] * 4) for i in range(16)))
+CHAINS = [chain(i + 1, 0, 0, 40, 0, range(100, 900, 100), [(5, 10)] * 4) for i in range(16)]
+FULL = stored(*CHAINS)
 NINE = chain(1, 0, 0, 40, 0, range(100, 1000, 100), [(5, 10)] * 4)  # in FULL it makes 1,288 bytes
 
 # New records that have not the form or the id, as long as a good one and longer.
 FORMLESS = [
-    ("under 16 bytes", record()[:15]), ("another id", record(id=3)), ("another mark", b"XX" + record()[2:]),
+    ("under 16 bytes", record()[:FIXED.size - 1]), ("another id", record(id=3)), ("another mark", b"XX" + record()[2:]),
     ("a byte too many", record() + b"\0"), ("a task too few", record(count=3)),
 ]
 LONGER_FORMLESS = [
@@ -358,7 +358,7 @@ def above(made, old, new):
 
 
 def saves():
-    first, longer = FULL[:80], record(tasks=LONGER)
+    first, longer = CHAINS[0], record(tasks=LONGER)
     pairs = [Pair(a, 22, "the table, no such record", roomy(made, STALE, record()), roomy(TWO, STALE, record()))
              for a, made in REFUSED.items()]
     pairs += [Pair(1, a, "used above the buffer, the table", above(made, STALE, record()), tight(made, STALE, record()))
@@ -368,7 +368,7 @@ def saves():
         Pair(22, 24, "no such record, no room", tight(TWO, STALE, longer), tight(TWO, record(), longer)),
         Pair(24, 1, "no room, 1,288 bytes", tight(FULL, first, NINE), roomy(FULL, first, NINE)),
         Pair(1, 8, "1,288 bytes, list length 9", roomy(FULL, first, NINE), roomy(TWO, GOOD, NINE)),
-        Pair(23, 1, "another id, 1,288 bytes", roomy(FULL, FULL[80:160], NINE), roomy(FULL, first, NINE)),
+        Pair(23, 1, "another id, 1,288 bytes", roomy(FULL, CHAINS[1], NINE), roomy(FULL, first, NINE)),
     ]
     pairs += [Pair(22, 23, f"no such record, {what}", roomy(TWO, STALE, new), roomy(TWO, record(), new))
               for what, new in FORMLESS]

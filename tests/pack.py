@@ -1,10 +1,6 @@
-#!/usr/bin/env python3
-"""Pack cases with known answers for the program vectors.
+"""Cases with known answers, packed for the program vectors.
 
-Usage: pack.py OUT FOLDER
-
-Takes the case files faults.jsonl, latency.jsonl, misses.jsonl, report.jsonl, save.jsonl and segment.jsonl of the folder. A
-packed case is 28 bytes and a table: kind (1 byte), the number to be given back (1 byte), six numbers (4 bytes each,
+A packed case is 28 bytes and a table: kind (1 byte), the number to be given back (1 byte), six numbers (4 bytes each,
 little-endian), the table's length (2 bytes), the table. The kinds and their six numbers, 0 where one is not named:
 
   0 reading   none; the number is 0 for an accepted table, else its refusal
@@ -13,10 +9,10 @@ little-endian), the table's length (2 bytes), the table. The kinds and their six
   3 misses    id, k, misses
   4 report    length of the text, which follows the table
 
-Each different table of any file gives a case of kind 0. Its verdict is worked out here, by a reader written from document 01,
-and held against what the case says. Cases of refusal 27 speak of the answer buffer, which these queries do not have. After
-the cases of the files come those that only an order decides (orders.py), those that document 01 and the published case study
-tell, and some at the edges, held here.
+Each different table of any file of tests/cases gives a case of kind 0. Its verdict is worked out by a reader written from
+document 01 (stored.py), and held against what the case says. Cases of refusal 27 speak of the answer buffer, which these
+queries do not have. After the cases of the files come those that only an order decides (orders.py), those that document 01
+and the published case study tell, and some at the edges, held here.
 """
 import json
 import struct
@@ -24,14 +20,23 @@ import sys
 
 import orders
 from orders import backlog, edge, edge_of_second
-from stored import TIME, chain, number, stored, verdict
+from stored import TIME, TOP, verdict
+from table import chain, stored, table_of
 
-# The sample table of document 01.
-SAMPLE = stored(
-    chain(1, 0, 0, 40, 100, [100], [(5, 10), (3, 10)]),
-    chain(2, 0, 0, 100, 50, [50], [(9, 5)]),
-    chain(3, 1, 1, 500, 0, [1000], [(8, 6), (1, 4), (7, 10)]),
-    chain(4, 0, 1, 300, 0, [1000], [(6, 12)]))
+CASES = TOP / "tests" / "cases"
+QUERY = {"tag", "table", "answer", "rc", "after"}
+KEYS = {  # of the cases of each file; tests/cases/README.md has their meaning
+    "latency": QUERY | {"id"},
+    "misses": QUERY | {"id", "k"},
+    "segment": QUERY | {"a", "b", "n"},
+    "save": {"tag", "buffer", "used", "old", "new", "answer", "rc", "after", "buffer_after"},
+    "report": {"tag", "table", "text"},
+    "faults": {"table", "rc", "detail"},
+}
+
+# The sample table of document 01, and the published case study.
+SAMPLE = table_of((TOP / "examples" / "sample.txt").read_bytes())
+STUDY = table_of((TOP / "examples" / "case_study.txt").read_bytes())
 
 # 'At the edge': ten tasks of 1,000,000; and one tick more from a free interferer.
 LONG = chain(1, 0, 0, 10_000_000, 0, [10_000_000], [(5, 1_000_000)] * 10)
@@ -40,13 +45,6 @@ PAST = stored(LONG, chain(2, 0, 0, 1, 0, [10_000_000], [(9, 1)]))
 # A free interferer whose one tick is still within the horizon.
 WITHIN = stored(chain(1, 0, 0, 10_000_000, 0, [10_000_000], [(5, 1_000_000)] * 9 + [(5, 999_999)]),
                 chain(2, 0, 0, 1, 0, [10_000_000], [(9, 1)]))
-
-# The published case study.
-STUDY = stored(
-    chain(4, 0, 0, 200, 200, [200], [(11, 38), (10, 6), (9, 27), (5, 6), (2, 38)]),
-    chain(3, 0, 0, 200, 200, [200], [(8, 4), (7, 6), (1, 41)]),
-    chain(2, 0, 1, 1000, 0, [600], [(13, 10), (12, 10), (6, 10)]),
-    chain(1, 0, 1, 1000, 0, [700], [(4, 10), (3, 10)]))
 
 # Leading zeros: bursts of three every 100. B(1) = 10, B(2) = 20 and B(3) = 30, where δ(2) = δ(3) = 0 and δ(4) = 100; the
 # chain below it waits for all three.
@@ -98,16 +96,27 @@ def packed(kind, number, values, table):
     return bytes([kind, number]) + struct.pack("<6I", *values) + len(table).to_bytes(2, "little") + table
 
 
-def cases(folder, name):
-    with open(f"{folder}/{name}.jsonl", encoding="utf8") as lines:
-        return [json.loads(line) for line in lines]
+def cases(name):
+    """The cases of a file."""
+    found = []
+    with open(CASES / f"{name}.jsonl", encoding="utf8") as lines:
+        for turn, line in enumerate(lines, 1):
+            try:
+                found.append(json.loads(line))
+            except ValueError as error:
+                raise ValueError(f"{name}.jsonl:{turn}: {error}") from None
+            if set(found[-1]) != KEYS[name]:
+                raise ValueError(f"{name}.jsonl:{turn}: other keys than {', '.join(sorted(KEYS[name]))}")
+    if not found:
+        raise ValueError(f"{name}.jsonl: no case")
+    return found
 
 
-def readings(folder):
-    """Each different table of any file, with its verdict, and then those that only an order decides."""
+def tables():
+    """Each different table of any file, with its verdict."""
     found = {}
-    for name in ("latency", "misses", "report", "save", "segment", "faults"):
-        for case in cases(folder, name):
+    for name in ("latency", "misses", "report", "save", "segment", "faults"):  # the order of the packed cases
+        for line, case in enumerate(cases(name), 1):
             if "buffer" in case:
                 buffer = bytes.fromhex(case["buffer"])
                 if case["used"] > len(buffer):
@@ -117,8 +126,13 @@ def readings(folder):
                 table = bytes.fromhex(case["table"])
             found[table] = verdict(table)
             if told(case) not in (None, found[table]):
-                sys.exit(f"{name}: {table.hex()}: the case says {told(case)}, document 01 {found[table]}")
-    found.update((table, number) for _, table, number in orders.calls(orders.READING))
+                sys.exit(f"{name}.jsonl:{line}: the case says {told(case)} of its table, document 01 {found[table]}")
+    return found
+
+
+def readings():
+    """Those tables, and then those that only an order decides."""
+    found = {**tables(), **{table: number for _, table, number in orders.calls(orders.READING)}}
     return [packed(0, number, [], table) for table, number in found.items()]
 
 
@@ -127,19 +141,19 @@ def after(case):
     if case["rc"] != 0:
         return []
     answer = bytes.fromhex(case["after"])
-    return [number(answer, at, 4) for at in range(0, len(answer) - 3, 4)]
+    return [number for number, in struct.iter_unpack("<I", answer[:len(answer) // 4 * 4])]
 
 
-def segments(folder):
+def segments():
     return [packed(1, case["rc"], [case["a"], case["b"], case["n"]] + after(case)[:2], bytes.fromhex(case["table"]))
-            for case in cases(folder, "segment") if case["rc"] != 27] + [
+            for case in cases("segment") if case["rc"] != 27] + [
         packed(1, number, query, table) for _, (table, *query), number in orders.calls(orders.SEGMENT)]
 
 
-def latencies(folder):
+def latencies():
     figures = [(bytes.fromhex(case["table"]), case["id"], case["rc"], *struct.unpack("<IIIi", bytes.fromhex(case["after"])[:16]))
                if case["rc"] == 0 else (bytes.fromhex(case["table"]), case["id"], case["rc"], 0, 0, 0, 0)
-               for case in cases(folder, "latency") if case["rc"] != 27]
+               for case in cases("latency") if case["rc"] != 27]
     figures += [(table, ident, number, 0, 0, 0, 0) for _, (table, ident), number in orders.calls(orders.LATENCY)]
     return [packed(2, number, [ident, k, latency, late, margin + TIME] if number == 0 else [ident], table)
             for table, ident, number, k, latency, late, margin in figures + LATENCIES]
@@ -149,9 +163,9 @@ def latencies(folder):
 MISSES = [(SAMPLE, 1, 1, 3), (SAMPLE, 1, 10, 3), (SAMPLE, 1, 11, 4), (STUDY, 3, 3, 3)]
 
 
-def misses(folder):
+def misses():
     return ([packed(3, case["rc"], [case["id"], case["k"]] + after(case)[:1], bytes.fromhex(case["table"]))
-             for case in cases(folder, "misses") if case["rc"] != 27]
+             for case in cases("misses") if case["rc"] != 27]
             + [packed(3, number, [ident, k], table) for _, (table, ident, k), number in orders.calls(orders.MISSES)]
             + [packed(3, 0, [ident, k, missed], table) for table, ident, k, missed in MISSES])
 
@@ -177,20 +191,10 @@ REPORTS = [
 ]
 
 
-def reports(folder):
-    known = [(bytes.fromhex(case["table"]), case["text"]) for case in cases(folder, "report")]
+def reports():
+    known = [(bytes.fromhex(case["table"]), case["text"]) for case in cases("report")]
     return [packed(4, 0, [len(text)], table) + text.encode("ascii") for table, text in known + REPORTS]
 
 
-def main():
-    if len(sys.argv) != 3:
-        sys.exit(__doc__)
-    folder = sys.argv[2]
-    everything = readings(folder) + segments(folder) + latencies(folder) + misses(folder) + reports(folder)
-    with open(sys.argv[1], "wb") as out:
-        out.write(b"".join(everything))
-    print(f"{len(everything)} cases")
-
-
-if __name__ == "__main__":
-    main()
+def everything():
+    return readings() + segments() + latencies() + misses() + reports()

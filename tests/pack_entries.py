@@ -1,23 +1,15 @@
-#!/usr/bin/env python3
-"""Pack cases of the C entries for tests/entries.c.
+"""Cases of the C entries, packed for tests/entries.c.
 
-Usage: pack_entries.py OUT FILE.jsonl ..
-
-A case file has one JSON object a line, its bytes in hex, as latency (id), misses (id, k), segment (a, b, n), save
-(used, buffer, old, new) or report (text). `answer` is the answer buffer before the call and `after` after it,
-`buffer_after` the table buffer after a save, `=` for no change, and `rc` what the entry returns. A report of a file has a
-table and its text alone: its buffers are made here, as long as the text, longer, or too short. After the cases of the
-files come those that document 01 tells (pack.py), those that only an order decides (orders.py), and answer buffers too
-short for each of them.
+A report of tests/cases has a table and its text alone: its buffers are made here, as long as the text, longer, or too short.
+After the cases of the files come those that document 01 tells (pack.py), those that only an order decides (orders.py), and
+answer buffers too short for each of them.
 
 Packed, little-endian: for each case the entry (1 byte: 0 latency, 1 misses, 2 segment, 3 save, 4 report); its name (1 byte
 of length, text); three numbers (8 bytes each: id; id, k; a, b, n; used; none); what it returns (4 bytes); then, before the
 call, the table or buffer, the old record, the new record, the text and the answer, and after it the table or buffer, the
 text and the answer: 2 bytes of length, then the bytes, or the length 65,535 alone for no change.
 """
-import json
 import struct
-import sys
 
 import orders
 import pack
@@ -148,20 +140,11 @@ def short_answers():
         yield packed("report", f"27 before 24, a table refused {number}", (), 27, table, lent(3), text=lent(9))
 
 
-def main():
-    if len(sys.argv) < 3:
-        sys.exit(__doc__)
-    found = []
-    for path in sys.argv[2:]:
-        name = path.rsplit("/", 1)[-1].removesuffix(".jsonl")
-        with open(path, encoding="utf8") as lines:
-            for turn, line in enumerate(lines, 1):
-                found += of_file(name, turn, json.loads(line))
-    found += [*documented(), *two_refusals(), *short_answers()]
-    with open(sys.argv[1], "wb") as out:
-        out.write(b"".join(found))
-    print(f"{len(found)} cases")
+def of_files():
+    for name in ENTRIES:
+        for turn, case in enumerate(pack.cases(name), 1):
+            yield from of_file(name, turn, case)
 
 
-if __name__ == "__main__":
-    main()
+def everything():
+    return [*of_files(), *documented(), *two_refusals(), *short_answers()]

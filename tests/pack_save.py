@@ -1,15 +1,10 @@
-#!/usr/bin/env python3
-"""Packs cases of a save with known answers for the program crates/save_vectors.
+"""Cases of a save with known answers, packed for the program save_vectors.
 
-Usage: tests/pack_save.py VECTORS OUT
+Cases of refusal 27 are left out: it belongs to the C entry, and a save knows no answer buffer. After those of
+tests/cases/save.jsonl come the shapes made here: a record that stays as long, grows or shrinks, as the only, first, middle or
+last one, with and without room; then the cases that only an order decides (orders.py).
 
-VECTORS is a file of one JSON object a line, with the keys buffer, used, old, new, rc, after and buffer_after: bytes in
-hex, `=` for 'no byte changed'. rc is 0 or the refusal number, and the first four bytes of after are the new used length.
-Cases of refusal 27 are left out: it belongs to the C entry, and a save knows no answer buffer. After them come the shapes
-made here: a record that stays as long, grows or shrinks, as the only, first, middle or last one, with and without room;
-then the cases that only an order decides (orders.py).
-
-A case in OUT, every number little-endian:
+A packed case, every number little-endian:
 
     u32  bytes of the buffer, B
     u64  used length
@@ -22,12 +17,11 @@ A case in OUT, every number little-endian:
     N bytes   the new record
     B bytes   the whole buffer afterwards
 """
-import json
 import struct
-import sys
 
 import orders
-from stored import chain, stored
+import pack
+from table import chain, stored
 
 
 def packed(buffer, used, old, new, number, length, after):
@@ -35,9 +29,8 @@ def packed(buffer, used, old, new, number, length, after):
     return struct.pack("<IQIIII", len(buffer), used, len(old), len(new), number, length) + buffer + old + new + after
 
 
-def from_vectors(path):
-    for line in open(path, encoding="utf8"):
-        case = json.loads(line)
+def of_file():
+    for case in pack.cases("save"):
         if case["rc"] == 27:
             continue
         buffer = bytes.fromhex(case["buffer"])
@@ -80,13 +73,5 @@ def two_refusals():
         yield packed(buffer, used, old, new, number, 0, buffer)
 
 
-def main():
-    if len(sys.argv) != 3:
-        sys.exit(__doc__)
-    cases = [*from_vectors(sys.argv[1]), *shapes(), *two_refusals()]
-    with open(sys.argv[2], "wb") as out:
-        out.write(b"".join(cases))
-    print(f"{len(cases)} cases")
-
-
-main()
+def everything():
+    return [*of_file(), *shapes(), *two_refusals()]
