@@ -100,7 +100,7 @@ first_command() {
 # Sets c_compiler.
 find_compiler() {
     c_compiler=$(first_command "${c_compilers[@]}") ||
-        fail "there is no compiler ${c_compilers[*]} here: install Debian's package $c_package"
+        fail "there is no C compiler (${c_compilers[*]}) here: install Debian's package $c_package"
 }
 
 # Sets c_runner, what stands before a program to run it. An emulator goes through `rep movsb` byte by byte, which no
@@ -110,7 +110,7 @@ find_runner() {
     c_runner=()
     [ ${#c_emulators[@]} -gt 0 ] || return 0
     emulator=$(first_command "${c_emulators[@]}") ||
-        fail "there is no emulator ${c_emulators[*]##*/} here: install Debian's package qemu-user"
+        fail "there is no emulator of x86-64 here: install Debian's package qemu-user"
     c_runner=(env "GLIBC_TUNABLES=glibc.cpu.x86_rep_movsb_threshold=1000000:glibc.cpu.x86_rep_stosb_threshold=1000000"
         "$emulator")
 }

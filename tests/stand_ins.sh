@@ -5,11 +5,11 @@
 #   room      a temporary folder, with the stand-ins' own files: `called` has each call of rt, a compiler and the emulator
 #   copy      the copy in it; its path has a blank
 #   machine WORD    sets what `uname -m` says
-#   try WORDS..     runs a command in the copy with the stand-ins alone: leaves its exit status in `status`, what it wrote
-#                   in out and err
+#   in_copy WORDS..   runs a command in the copy, with the stand-ins alone
+#   try WORDS..       the same: leaves its exit status in `status`, what it wrote in $room/out and $room/err
 #
-# The stand-in rt runs $room/during, where there is one, in the middle of a build. What it links as the report is
-# $room/program.
+# The stand-in rt runs $room/during, where there is one, in the middle of a build, and makes no library where there is
+# $room/makes_nothing. What it links as the report runs $room/says.
 
 room=$(mktemp -d) || fail "no temporary folder can be made"
 trap 'rm -rf "$room"' EXIT
@@ -25,8 +25,8 @@ compilers() {
     local compiler
     for compiler in "$@"; do
         stand_in "$tools/$compiler" <<'EOT'
-[ "$1" != --version ] || { echo "stand-in 1" && exit; }
-echo "${0##*/} $*" >>"$ROOM/called"
+case $1 in --version | -print*) cat "$ROOM/compiler" && exit ;; esac
+{ printf '%s' "${0##*/}" && printf ' <%s>' "$@" && echo; } >>"$ROOM/called"
 while [ $# -gt 0 ]; do
     [ "$1" != -o ] || out=$2
     shift
@@ -61,11 +61,12 @@ echo "rt $*" >>"$ROOM/called"
 mkdir -p target/bin target/staticlib
 [ ! -x "$ROOM/during" ] || "$ROOM/during" || exit
 case $1 in
-    staticlib) cat crates/*/src/*.rt >"target/staticlib/lib$2.a" ;;
+    staticlib) [ -e "$ROOM/makes_nothing" ] || cat crates/*/src/*.rt >"target/staticlib/lib$2.a" ;;
+    ci) echo "rt: ok" && echo "2 passed, 0 failed" ;;
     check)
         shift
         for crate in "$@"; do
-            [ "$crate" != report ] || cp "$ROOM/program" target/bin/report
+            [ "$crate" != report ] || { printf '#!/bin/sh\n. "$ROOM/says"\n' >target/bin/report && chmod +x target/bin/report; }
             echo "rt: $crate proved (1 s)"
         done
         ;;
@@ -98,13 +99,17 @@ machine() {
     echo "$1" >"$room/machine"
 }
 
+in_copy() {
+    (cd "$copy" && exec env -i PATH="$tools" HOME="$room" ROOM="$room" RATTLE_HOME="$room/kit" "$@" </dev/null)
+}
+
 try() {
-    (cd "$copy" && exec env -i PATH="$tools" HOME="$room" ROOM="$room" RATTLE_HOME="$room/kit" "$@") \
-        >"$room/out" 2>"$room/err" </dev/null
+    in_copy "$@" >"$room/out" 2>"$room/err"
     status=$?
 }
 
 { make_tools && make_kit && make_copy; } || fail "$room cannot be written"
 machine x86_64
+echo "stand-in 1" >"$room/compiler"
+echo "echo a report" >"$room/says"
 : >"$room/called"
-stand_in "$room/program" <<<'cat'

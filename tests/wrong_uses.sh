@@ -88,7 +88,7 @@ wrong 2 "report_command: usage: tests/report_command.sh" tests/report_command.sh
 wrong 2 "gate: usage: .ci/run" .ci/run all
 
 # The C programs by themselves, built for this machine.
-compiler=$(first_command gcc cc) || fail "there is no compiler gcc cc here: install Debian's package gcc"
+compiler=$(first_command gcc cc) || fail "there is no C compiler (gcc cc) here: install Debian's package gcc"
 mkdir "$copy/built" || fail "$room cannot be written"
 for program in compare bench reports; do
     "$compiler" -std=c11 -o "$copy/built/$program" "$top/compare"/{"$program",generate,analyzer,words,shim}.c || fail "$program was not built"
