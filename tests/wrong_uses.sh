@@ -93,6 +93,7 @@ mkdir "$copy/built" || fail "$room cannot be written"
 for program in compare bench reports; do
     "$compiler" -std=c11 -o "$copy/built/$program" "$top/compare"/{"$program",generate,analyzer,words,shim}.c || fail "$program was not built"
 done
+"$compiler" -std=c11 -o "$copy/built/worst" "$top/packing/worst.c" "$top/compare/words.c" || fail "worst was not built"
 n='N is a whole number from 1 to'
 seed='SEED is a whole number from 0 to 4294967295, not'
 wrong 2 "compare: usage: compare SEED N [walked]" built/compare 1
@@ -109,4 +110,6 @@ wrong 2 "reports: usage: reports SEED N FOLDER" built/reports 1 1
 wrong 2 "reports: $seed ' 1'" built/reports " 1" 1 examples
 wrong 2 "reports: $n 10000, not '-3'" built/reports 1 -3 examples
 wrong 2 "reports: none/1.table cannot be written" built/reports 1 1 none
+wrong 2 "worst: $seed 'x'" built/worst none table x 1
+wrong 2 "worst: RUNS is a whole number from 1 to 1000000000, not '-3'" built/worst none table 1 -3
 echo "wrong_uses: $tried wrong uses are refused as they should be"
