@@ -223,6 +223,20 @@ packages() {
     expect 2 "" "gate: installing the packages that are missing: python3 shellcheck*" "apt-get update"$'\n'"apt-get install -y python3 shellcheck" .ci/run
 }
 
+# GLPK is fetched whole or not at all, and what the package manager says is shown.
+glpk() {
+    rm -rf "$copy/target" "$tools/apt-get"
+    expect 2 "" "glpk: there is no apt-get here" "" compare/glpk.sh
+    stand_in "$tools/apt-get" <<<'echo "no network" >&2 && exit 100'
+    stand_in "$tools/dpkg-deb" <<<'mkdir -p "$3/usr"'
+    expect 2 "" "glpk: fetching Debian's packages"$'\n'"glpk: GLPK cannot be fetched: no network" "" compare/glpk.sh
+    is "what is left of GLPK" "$(ls "$copy/target")" ""
+    stand_in "$tools/apt-get" <<<':'
+    expect 0 "" "*glpk: it is in target/glpk" "" compare/glpk.sh
+    is "what is left of GLPK" "$(ls "$copy/target")" glpk
+    expect 0 "" "glpk: it has been fetched" "" compare/glpk.sh
+}
+
 # The gate over checks that are stood in for: it locks while it proves, ends with a check's status, and its last line is rt's.
 gate() {
     local checks=("$copy"/{tests/{wrong_uses,commands,report_command,run_c}.sh,compare/{sanitized,run,run_report}.sh}) one
@@ -256,5 +270,6 @@ compiled_programs
 machine_x86_64
 machine_aarch64
 packages
+glpk
 gate
 echo "commands: as they should be"

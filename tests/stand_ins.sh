@@ -16,8 +16,9 @@ trap 'rm -rf "$room"' EXIT
 copy="$room/a copy"
 tools=$room/tools
 
+# stand_in FILE: makes it a script, of standard input; a link goes, and not what it leads to.
 stand_in() {
-    { { echo '#!/bin/sh' && cat; } >"$1" && chmod +x "$1"; } || fail "$room cannot be written"
+    { rm -f "$1" && { echo '#!/bin/sh' && cat; } >"$1" && chmod +x "$1"; } || fail "$room cannot be written"
 }
 
 # compilers NAME..: each makes a program that says how it is run.
