@@ -16,4 +16,4 @@ c_flags=(-std=c11 -O2 -g -Wall -Wextra "-fsanitize=address,undefined" -fno-sanit
 find_compiler
 c_program sanitized "$top/compare"/{compare,generate,analyzer,words,shim}.c
 # Nothing is allocated, so there are no leaks to look for, which some machines do not allow.
-ASAN_OPTIONS=detect_leaks=0 "$c_program" "$1" "$2" || found "the plain side is not as it should be"
+check "the plain side is not as it should be" env ASAN_OPTIONS=detect_leaks=0 "$c_program" "$1" "$2"

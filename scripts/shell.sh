@@ -23,6 +23,18 @@ found() {
     exit 1
 }
 
+# check WHAT COMMAND..: runs a command that should end well. Where it does not, says what is wrong, and ends with 1 where it
+# ended with 1, else with 2.
+check() {
+    local what=$1 status
+    shift
+    "$@"
+    status=$?
+    [ "$status" != 0 ] || return 0
+    [ "$status" != 1 ] || found "$what"
+    fail "$what"
+}
+
 # ---- Numbers ----
 
 # whole_number WORD LOW HIGH: whether the word is digits alone, at most 18, and says a number from LOW to HIGH.

@@ -119,9 +119,15 @@ at_once() {
     local one other first
     read -ra one <<<"$1"
     read -ra other <<<"$2"
-    rm -rf "$copy/target" "$room/started"
+    rm -rf "$copy/target" "$room/started" "$room/err"
     : >"$room/called"
-    during <<<'echo >"$ROOM/started" && sleep 1'
+    during <<'EOT'
+echo >"$ROOM/started"
+for second in 1 2 3 4 5 6 7 8 9; do
+    ! grep -q waiting "$ROOM/err" || exit 0
+    sleep 1
+done
+EOT
     in_copy "${one[@]}" >"$room/one" 2>&1 &
     first=$!
     until [ -e "$room/started" ]; do sleep 0.05; done

@@ -18,10 +18,10 @@ room=$(mktemp -d) || fail "no temporary folder can be made"
 trap 'rm -rf "$room"' EXIT
 
 c_build "$room/entries" -I "$include" "$top/tests/entries.c" "$library" || fail "tests/entries.c was not built"
-c_run "$room/entries" "$top/tests/entries.bin" || found "some cases are not as expected"
+check "some cases are not as expected" c_run "$room/entries" "$top/tests/entries.bin"
 
 c_build "$room/editor" -I "$include" "$top/examples/editor.c" "$library" || fail "examples/editor.c was not built"
-cp "$top/examples/sample.table" "$room" || fail "$room cannot be written"
-(cd "$room" && c_run ./editor sample.table 1 >said) || found "the example editor ended with a failure"
-diff "$room/said" "$top/examples/editor.expected" || found "the example editor wrote something else than editor.expected"
+{ cp "$top/examples/sample.table" "$room" && cd "$room"; } || fail "$room cannot be written"
+check "the example editor ended with a failure" c_run ./editor sample.table 1 >said
+check "the example editor wrote something else than editor.expected" diff said "$top/examples/editor.expected"
 echo "the example editor wrote what is expected"
