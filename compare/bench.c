@@ -8,6 +8,7 @@
 #include "analyzer.h"
 #include "generate.h"
 #include "packing.h"
+#include "words.h"
 
 #include <stdio.h>
 #include <stdlib.h>
@@ -377,7 +378,11 @@ static void growth_cases(void)
 
 int main(int count, char **words)
 {
-    struct source source = {count > 1 ? strtoull(words[1], NULL, 10) : 1};
+    if (count > 2) {
+        fputs("bench: usage: bench [SEED]\n", stderr);
+        return 2;
+    }
+    struct source source = {count == 2 ? number_given("bench", "SEED", words[1], 0, MOST_SEED) : 1};
     printf("%-44s %14s %14s %10s\n", "microseconds a call", "mishtodran", "plain", "ratio");
     usual_cases(&source);
     slow_cases();

@@ -6,6 +6,7 @@
 #include "../include/mishtodran.h"
 #include "analyzer.h"
 #include "generate.h"
+#include "words.h"
 
 #include <inttypes.h>
 #include <signal.h>
@@ -553,14 +554,14 @@ int main(int count, char **words)
 {
     bool walked = count == 4 && strcmp(words[3], "walked") == 0;
     if (count != 3 && !walked) {
-        puts("usage: compare SEED N [walked]");
+        fputs("compare: usage: compare SEED N [walked]\n", stderr);
         return 2;
     }
-    struct source source = {strtoull(words[1], NULL, 10)};
-    unsigned long tables = strtoul(words[2], NULL, 10);
+    struct source source = {number_given("compare", "SEED", words[1], 0, MOST_SEED)};
+    uint64_t tables = number_given("compare", "N", words[2], 1, 1000000000);
     signal(SIGSEGV, on_crash);
     signal(SIGBUS, on_crash);
-    for (unsigned long i = 0; i < tables; i++) {
+    for (uint64_t i = 0; i < tables; i++) {
         under_way = walked ? generate_walked(&source) : generate(&source);
         if (walked)
             compare_walked(&under_way);
@@ -568,6 +569,10 @@ int main(int count, char **words)
             compare_table(&source, &under_way);
     }
     print_met();
-    printf("%lu tables, no difference\n", tables);
+    printf("%" PRIu64 " tables, no difference\n", tables);
+    if (fflush(stdout) != 0 || ferror(stdout)) {
+        fputs("compare: standard output cannot be written\n", stderr);
+        return 2;
+    }
     return 0;
 }

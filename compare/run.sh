@@ -2,37 +2,40 @@
 # Holds a library with the entries of mishtodran.h against the plain analyzer, or measures both.
 # Usage: compare/run.sh LIBRARY compare SEED N [walked]
 #        compare/run.sh LIBRARY bench [SEED]
-# LIBRARY is an x86-64 archive (target/staticlib/libeditor.a).
+# LIBRARY is an x86-64 archive (target/staticlib/libeditor.a). bench measures GLPK too where compare/glpk.sh has fetched it.
 set -u
-top=$(cd "$(dirname "${BASH_SOURCE[0]}")/.." && pwd) || exit 1
+name=compare
+# shellcheck source=scripts/shell.sh
+. "$(dirname "$(readlink -f "${BASH_SOURCE[0]}")")/../scripts/shell.sh" || exit 2
 
-fail() {
-    echo "compare: $1"
-    exit 1
-}
-
-[ $# -ge 2 ] || fail "usage: compare/run.sh LIBRARY compare SEED N [walked], or compare/run.sh LIBRARY bench [SEED]"
-library=$1
+case $#:${2-}:${5-walked} in
+    [45]:compare:walked)
+        check_seed "$3"
+        check_tables "$4"
+        ;;
+    [23]:bench:*) check_seed "${3-1}" ;;
+    *) fail "usage: compare/run.sh LIBRARY compare SEED N [walked], or compare/run.sh LIBRARY bench [SEED]" ;;
+esac
+[ -f "$1" ] || fail "there is no library $1"
+library=$(readlink -f "$1")
 program=$2
 shift 2
-[ -f "$library" ] || fail "there is no library $library"
-case $program in
-    compare | bench) ;;
-    *) fail "there is no program $program; there are compare and bench" ;;
-esac
+find_compiler
+find_runner
 
-# shellcheck source=tests/c_tools.sh
-. "$top/tests/c_tools.sh"
-c_tools || exit 1
-room=$(mktemp -d) || fail "no temporary folder can be made"
-trap 'rm -rf "$room"' EXIT
+# Sets glpk to the compiler's words for it. A cross compiler's libm.a names its parts by paths of the other machine, so
+# they are named here.
+find_glpk() {
+    local folder=$top/target/glpk/usr lib libc
+    glpk=()
+    lib=$folder/lib/x86_64-linux-gnu
+    [ -f "$lib/libglpk.a" ] || { say "GLPK is not measured: bash compare/glpk.sh fetches it" && return; }
+    libc=$(dirname "$("$c_compiler" -print-file-name=libc.a)")
+    glpk=(-DWITH_GLPK "$top/compare/packing_glpk.c" -I "$folder/include"
+        "$lib"/lib{glpk,amd,colamd,suitesparseconfig,ltdl,z,gmp}.a "$libc"/libm-*.a "$libc/libmvec.a" -ldl)
+}
 
-here=$top/compare
-with=()
-if [ "$program" = bench ]; then
-    # shellcheck source=compare/glpk.sh
-    . "$here/glpk.sh"
-    glpk_get "$top/target/glpk" && with=(-DWITH_GLPK "$here/packing_glpk.c" "${glpk_arguments[@]}")
-fi
-c_build "$room/$program" "$here/$program.c" "$here/generate.c" "$here/analyzer.c" "$library" "${with[@]}" || fail "$program was not built"
-c_run "$room/$program" "$@"
+glpk=()
+[ "$program" = compare ] || find_glpk
+c_program "$program" "$top/compare"/{"$program",generate,analyzer,words}.c "$library" "${glpk[@]}"
+c_run "$c_program" "$@"

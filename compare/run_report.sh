@@ -3,35 +3,29 @@
 # Usage: compare/run_report.sh PROGRAM SEED N
 # PROGRAM is the report as rt links it (target/bin/report).
 set -u
-top=$(cd "$(dirname "${BASH_SOURCE[0]}")/.." && pwd) || exit 1
-
-fail() {
-    echo "run_report: $1"
-    exit 1
-}
+name=run_report
+# shellcheck source=scripts/shell.sh
+. "$(dirname "$(readlink -f "${BASH_SOURCE[0]}")")/../scripts/shell.sh" || exit 2
 
 in_hex() {
     od -An -v -tx1 "$1" | tr -d ' \n'
 }
 
-[ $# -eq 3 ] || fail "usage: compare/run_report.sh PROGRAM SEED N"
-program=$1
-seed=$2
-count=$3
-[ -f "$program" ] || fail "there is no program $program"
-
-# shellcheck source=tests/c_tools.sh
-. "$top/tests/c_tools.sh"
-c_tools || exit 1
+[ $# = 3 ] || fail "usage: compare/run_report.sh PROGRAM SEED N"
+check_seed "$2"
+check_reports "$3"
+[ -f "$1" ] || fail "there is no program $1"
+find_rt
+find_compiler
+find_runner
 room=$(mktemp -d) || fail "no temporary folder can be made"
 trap 'rm -rf "$room"' EXIT
 
-here=$top/compare
-c_build "$room/reports" "$here/reports.c" "$here/generate.c" "$here/analyzer.c" || fail "compare/reports.c was not built"
-c_run "$room/reports" "$seed" "$count" "$room" || fail "no tables were made"
-for number in $(seq "$count"); do
+c_program reports "$top/compare"/{reports,generate,analyzer,words}.c
+c_run "$c_program" "$2" "$3" "$room" || fail "no tables were made"
+for ((number = 1; number <= 10#$3; number++)); do
     table=$room/$number.table
-    c_run_proved "$program" <"$table" >"$room/said" || fail "the report ended with a failure; table $(in_hex "$table")"
-    diff "$room/said" "$room/$number.txt" || fail "difference; table $(in_hex "$table")"
+    run_proved "$1" <"$table" >"$room/said" || found "the report ended with a failure; table $(in_hex "$table")"
+    diff "$room/said" "$room/$number.txt" || found "difference; table $(in_hex "$table")"
 done
-echo "$count reports, no difference"
+echo "$((10#$3)) reports, no difference"

@@ -1,6 +1,6 @@
 /* Looks for the worst case of the packing engine: crates/packing/src/ written down once more, with counters.
  *
- *   cc -std=c11 -O2 -Wall -Wextra -o worst packing/worst.c
+ *   cc -std=c11 -O2 -Wall -Wextra -o worst packing/worst.c compare/words.c
  *   ./worst crates/packing/src/weights.rt MODE SEED RUNS
  *
  * Run r of a seed is the same whatever RUNS is. MODE says what is drawn at random:
@@ -9,10 +9,12 @@
  *   wide   the same, and each active segment has a capacity of its own
  *   any    any flags, and capacities 1 to 255: no table can give these
  *   all    nothing: every family of combinations once, for the choice of weightings alone, as many as are worth it (SEED and RUNS
- *          are not looked at; it takes a quarter of an hour)
+ *          are not used; it takes a quarter of an hour)
  *
  * The greatest of each count is printed, with the smallest bad combinations (in octal) and the capacities where it was found first.
  * Where a packing is small its most uses are found by a plain search too: exit status 1 where the engine's differ. 2: it can't start. */
+#include "../compare/words.h"
+
 #include <stdint.h>
 #include <stdio.h>
 #include <stdlib.h>
@@ -422,6 +424,8 @@ int main(int arguments, char **argument)
         fprintf(stderr, "worst: no mode %s\n", mode);
         return 2;
     }
+    uint64_t seed = number_given("worst", "SEED", argument[3], 0, MOST_SEED);
+    uint64_t many = number_given("worst", "RUNS", argument[4], 1, 1000000000);
     if (!read_table(argument[1])) {
         fprintf(stderr, "worst: %s: no table of %d weightings\n", argument[1], WEIGHTINGS);
         return 2;
@@ -434,7 +438,7 @@ int main(int arguments, char **argument)
         families(1, bad, &seen);
         printf("%lu families\n", seen);
     } else {
-        failed = runs(mode, strtoull(argument[3], NULL, 10), strtoul(argument[4], NULL, 10));
+        failed = runs(mode, seed, many);
     }
     report();
     return failed;

@@ -2,27 +2,35 @@
 # Tries the command `./mishtodran report`: what it prints, and what it does where reading or writing fails.
 # Usage: tests/report_command.sh
 set -u
-cd "$(dirname "${BASH_SOURCE[0]}")/.." || exit 1
-room=$(mktemp -d) || exit 1
+name=report_command
+# shellcheck source=scripts/shell.sh
+. "$(dirname "$(readlink -f "${BASH_SOURCE[0]}")")/../scripts/shell.sh" || exit 2
+[ $# = 0 ] || fail "usage: tests/report_command.sh"
+cd "$top" || fail "$top cannot be entered"
+room=$(mktemp -d) || fail "no temporary folder can be made"
 trap 'rm -rf "$room"' EXIT
 
-fail() {
-    echo "report_command: $1"
-    exit 1
-}
-
-# prints WHAT TEXT: the command on standard input prints the text, ends well, and says nothing else.
+# prints WHAT TEXT: the command on standard input prints the text, ends with 1 where a table is refused and else with 0, and
+# says nothing else.
 prints() {
-    ./mishtodran report >"$room/out" 2>"$room/err" || fail "$1: it failed"
-    printf '%s\n' "$2" | cmp -s - "$room/out" || fail "$1: another text"
-    [ ! -s "$room/err" ] || fail "$1: it says something on standard error"
+    local expected=0 status
+    [[ $2 != refused* ]] || expected=1
+    ./mishtodran report >"$room/out" 2>"$room/err"
+    status=$?
+    [ "$status" = "$expected" ] || found "$1: exit status $status, not $expected"
+    printf '%s\n' "$2" | cmp -s - "$room/out" || found "$1: another text"
+    [ ! -s "$room/err" ] || found "$1: it says something on standard error"
 }
 
-# fails WHAT: the last command failed, printed nothing, and said why.
+# fails WHAT SAID WORDS..: the command cannot read or write: it prints nothing, says why, and ends with 2.
 fails() {
-    [ "$status" -ne 0 ] || fail "$1: it ended well"
-    [ ! -s "$room/out" ] || fail "$1: it printed something"
-    [ -s "$room/err" ] || fail "$1: it says nothing on standard error"
+    local what=$1 said=$2 status
+    shift 2
+    "$@" >"$room/out" 2>"$room/err"
+    status=$?
+    [ "$status" = 2 ] || found "$what: exit status $status, not 2"
+    [ ! -s "$room/out" ] || found "$what: it printed something"
+    [ "$(cat "$room/err")" = "$said" ] || found "$what: it says '$(cat "$room/err")'"
 }
 
 # bytes NUMBER..: a byte for each number.
@@ -66,8 +74,8 @@ study="$header
 2 1 111 0 889 r14
 1 1 137 0 863 r14"
 
-./mishtodran report examples/sample.table >"$room/out" || fail "the sample: it failed"
-printf '%s\n' "$sample" | cmp -s - "$room/out" || fail "the sample: another text"
+./mishtodran report examples/sample.table >"$room/out" || found "the sample: it failed"
+printf '%s\n' "$sample" | cmp -s - "$room/out" || found "the sample: another text"
 prints "the sample on standard input" "$sample" <examples/sample.table
 prints "the case study" "$study" <examples/case_study.table
 prints "no bytes" "refused 1" </dev/null
@@ -80,7 +88,7 @@ prints "far too many bytes" "refused 1" < <(head -c 100000 /dev/zero)
 full=$header$(for i in {1..16}; do printf '\n%d 1 %d 0 %d 0' "$i" $((4 * i)) $((1000 - 4 * i)); done)
 full_table >"$room/full"
 { full_table && printf E; } >"$room/longer"
-[ "$(wc -c <"$room/full")" -eq 1284 ] || fail "the full table has not 1,284 bytes"
+[ "$(wc -c <"$room/full")" -eq 1284 ] || found "the full table has not 1,284 bytes"
 prints "a full table" "$full" <"$room/full"
 prints "a byte more" "refused 1" <"$room/longer"
 for pieces in "1283" "1284" "1 1282" "7 7 1269" "1 1 1 1 1 7 1271"; do
@@ -92,17 +100,23 @@ for pieces in "1283" "1284" "1283 1" "1 1283" "7 1277" "1 7 1275 1"; do
     prints "a byte more in pieces of $pieces and the rest" "refused 1" < <(in_pieces "$room/longer" $pieces)
 done
 
-./mishtodran report "$room" >"$room/out" 2>"$room/err"
-status=$?
-fails "a folder"
-./mishtodran report "$room/none" >"$room/out" 2>"$room/err"
-status=$?
-fails "no such file"
-./mishtodran report <&- >"$room/out" 2>"$room/err"
-status=$?
-fails "no standard input"
-: >"$room/out"
-./mishtodran report examples/sample.table >/dev/full 2>"$room/err"
-status=$?
-fails "a full disk"
+closed_input() {
+    ./mishtodran report <&-
+}
+
+# An input that can only be written to: what the program itself says is passed on.
+failing_input() {
+    ./mishtodran report 0>"$room/written"
+}
+
+full_disk() {
+    ./mishtodran report examples/sample.table >/dev/full
+}
+
+fails "a folder" "mishtodran: $room is a folder" ./mishtodran report "$room"
+fails "no such file" "mishtodran: there is no file $room/none" ./mishtodran report "$room/none"
+fails "no standard input" "mishtodran: standard input is closed" closed_input
+fails "a failing read" "report: standard input could not be read
+mishtodran: there is no report" failing_input
+fails "a full disk" "mishtodran: standard output cannot be written" full_disk
 echo "report_command: as it should be"

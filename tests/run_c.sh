@@ -4,29 +4,24 @@
 # Usage: tests/run_c.sh LIBRARY [INCLUDE]
 # LIBRARY is an x86-64 archive with the entries of mishtodran.h (target/staticlib/libeditor.a), INCLUDE the header's folder.
 set -u
-top=$(cd "$(dirname "${BASH_SOURCE[0]}")/.." && pwd) || exit 1
-
-fail() {
-    echo "run_c: $1"
-    exit 1
-}
+name=run_c
+# shellcheck source=scripts/shell.sh
+. "$(dirname "$(readlink -f "${BASH_SOURCE[0]}")")/../scripts/shell.sh" || exit 2
 
 if [ $# -lt 1 ] || [ $# -gt 2 ]; then fail "usage: tests/run_c.sh LIBRARY [INCLUDE]"; fi
 library=$1
 include=${2-$top/include}
 [ -f "$library" ] || fail "there is no library $library"
 [ -f "$include/mishtodran.h" ] || fail "there is no mishtodran.h in $include"
-
-# shellcheck source=tests/c_tools.sh
-. "$top/tests/c_tools.sh"
-c_tools || exit 1
+find_compiler
+find_runner
 room=$(mktemp -d) || fail "no temporary folder can be made"
 trap 'rm -rf "$room"' EXIT
 
 c_build "$room/header" -I "$include" "$top/tests/header.c" "$library" || fail "tests/header.c was not built"
-c_run "$room/header" || fail "the header is not the library's"
+check "the header is not the library's" c_run "$room/header"
 c_build "$room/entries" -I "$include" "$top/tests/entries.c" "$library" || fail "tests/entries.c was not built"
-c_run "$room/entries" "$top/tests/entries.bin" || fail "some cases are not as expected"
+check "some cases are not as expected" c_run "$room/entries" "$top/tests/entries.bin"
 
 # ---- The example editor ----
 
@@ -48,8 +43,8 @@ holds() {
     cp "$sample" "$room/wanted"
     printf '%b' "\\x$2" | dd of="$room/wanted" bs=1 seek=6 conv=notrunc status=none
     printf '%b' "\\x$3" | dd of="$room/wanted" bs=1 seek=42 conv=notrunc status=none
-    cmp -s "$room/wanted" "$table" || fail "the example editor: $1: another table"
-    [ ! -f "$table.new" ] || fail "the example editor: $1: a part is left beside the table"
+    cmp -s "$room/wanted" "$table" || found "the example editor: $1: another table"
+    [ ! -f "$table.new" ] || found "the example editor: $1: a part is left beside the table"
 }
 
 # ends STATUS SAID TYPED WORDS..: it ends with this status, says this on standard error, and leaves the table.
@@ -58,8 +53,8 @@ ends() {
     shift 3
     fresh
     printf '%s' "$typed" | editor "$@" >"$room/out" 2>"$room/err"
-    [ "${PIPESTATUS[1]}" = "$status" ] || fail "the example editor, '$*', typed '$typed': the status is not $status"
-    [ "$(cat "$room/err")" = "$said" ] || fail "the example editor, '$*', typed '$typed': it says '$(cat "$room/err")'"
+    [ "${PIPESTATUS[1]}" = "$status" ] || found "the example editor, '$*', typed '$typed': the status is not $status"
+    [ "$(cat "$room/err")" = "$said" ] || found "the example editor, '$*', typed '$typed': it says '$(cat "$room/err")'"
     holds "'$*', typed '$typed'" 28 64
 }
 
@@ -70,15 +65,15 @@ shown() {
         if grep -qs '^deadline' "$room/$1"; then return; fi
         sleep 0.1
     done
-    fail "the example editor asks for nothing, $try times looked at"
+    found "the example editor asks for nothing, $try times looked at"
 }
 
 fresh
 ln -s sample.table "$room/link"
-echo 64 | editor "$room/link" 1 >"$room/out" || fail "the example editor ended with a failure"
-diff "$room/out" "$top/examples/editor.expected" || fail "the example editor wrote something else than editor.expected"
+echo 64 | editor "$room/link" 1 >"$room/out" || found "the example editor ended with a failure"
+diff "$room/out" "$top/examples/editor.expected" || found "the example editor wrote something else than editor.expected"
 holds "a save" 40 64
-[ -L "$room/link" ] || fail "the example editor replaced a link"
+[ -L "$room/link" ] || found "the example editor replaced a link"
 
 ends 0 "" "" "$table" 1
 ends 0 "" $'\n' "$table" 1
@@ -106,12 +101,12 @@ editor "$table" 1 <"$room/late" >"$room/late.out" 2>"$room/late.err" &
 late=$!
 exec 5>"$room/late"
 shown late.out
-echo 70 | editor "$table" 1 >"$room/out" || fail "the example editor ended with a failure"
+echo 70 | editor "$table" 1 >"$room/out" || found "the example editor ended with a failure"
 echo 64 >&5
 wait "$late"
-[ $? = 1 ] || fail "the example editor: a record that has changed: the status is not 1"
+[ $? = 1 ] || found "the example editor: a record that has changed: the status is not 1"
 [ "$(cat "$room/late.err")" = "editor: save refused, 22: someone has changed the record meanwhile" ] ||
-    fail "the example editor: a record that has changed: it says '$(cat "$room/late.err")'"
+    found "the example editor: a record that has changed: it says '$(cat "$room/late.err")'"
 holds "a record that has changed" 46 64
 
 # Two editors that have both read the table wait for a third, which has the lock; then both edits stand.
@@ -131,8 +126,8 @@ echo 90 >&6
 sleep 0.5
 holds "an editor under another's lock" 28 64
 exec 7>&-
-wait "$one" || fail "the example editor ended with a failure"
-wait "$two" || fail "the example editor ended with a failure"
+wait "$one" || found "the example editor ended with a failure"
+wait "$two" || found "the example editor ended with a failure"
 holds "two editors at once" 40 5a
 
 # A header of another version than the library.

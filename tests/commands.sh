@@ -1,0 +1,281 @@
+#!/usr/bin/env bash
+# The commands with stand-ins for their tools: what they build and when, and what they call on which machine.
+# Usage: tests/commands.sh
+# shellcheck disable=SC2016 # the stand-ins' own texts
+set -u
+name=commands
+# shellcheck source=scripts/shell.sh
+. "$(dirname "$(readlink -f "${BASH_SOURCE[0]}")")/../scripts/shell.sh" || exit 2
+[ $# = 0 ] || fail "usage: tests/commands.sh"
+# shellcheck source=tests/stand_ins.sh
+. "$top/tests/stand_ins.sh" || exit 2
+
+# is WHAT TEXT PATTERN
+is() {
+    # shellcheck disable=SC2053
+    [[ $2 == $3 ]] || found "$1: '$2' is not '$3'"
+}
+
+# expect STATUS OUT ERR CALLED WORDS..: a command ends so; patterns of what it writes and which tools it calls.
+expect() {
+    local expected=$1 out=$2 err=$3 called=$4
+    shift 4
+    : >"$room/called"
+    try "$@"
+    is "$*: standard error" "$(cat "$room/err")" "$err"
+    is "$*: exit status" "$status" "$expected"
+    is "$*: standard output" "$(cat "$room/out")" "$out"
+    is "$*: calls" "$(cat "$room/called")" "$called"
+}
+
+# during: a script that the stand-in rt runs once, in the middle of a build.
+during() {
+    { echo 'rm "$ROOM/during"' && cat; } | stand_in "$room/during"
+}
+
+help_and_links() {
+    local word
+    for word in help -h --help; do
+        expect 0 "usage: ./mishtodran COMMAND*" "" "" ./mishtodran "$word"
+    done
+    expect 0 "usage: ./mishtodran COMMAND*" "" "" ./mishtodran
+    mkdir "$room/links"
+    ln -s "$copy/mishtodran" "$room/links/one"
+    ln -s one "$room/links/two"
+    expect 0 "usage: ./mishtodran COMMAND*" "" "" "$room/links/two" help
+    expect 0 "a report" "*built the report program in*" "*rt check report" "$room/links/two" report examples/sample.table
+}
+
+# says SCRIPT: what the report program does.
+says() {
+    echo "$1" >"$room/says"
+}
+
+reports() {
+    expect 0 "a report" "" "" ./mishtodran report examples/sample.table
+    says 'wc -c && echo a note >&2'
+    expect 0 "140" "a note" "" ./mishtodran report examples/sample.table
+    says 'echo refused 2'
+    expect 1 "refused 2" "" "" ./mishtodran report
+    says 'echo refused 2 && echo a note >&2'
+    expect 1 "refused 2" "a note" "" ./mishtodran report
+    says 'echo it cannot read >&2'
+    expect 2 "" $'it cannot read\nmishtodran: there is no report' "" ./mishtodran report
+    says 'echo half && exit 3'
+    expect 2 "" "mishtodran: there is no report" "" ./mishtodran report
+    says 'echo half && kill -9 $$'
+    expect 2 "" "*mishtodran: there is no report" "" ./mishtodran report
+    says 'echo a report'
+    expect 2 "" "mishtodran: standard output cannot be written" "" sh -c './mishtodran report >/dev/full'
+}
+
+# What the library is built from, and when it is built again.
+builds() {
+    local built="rt check *saving*"$'\n'"rt staticlib editor"
+    expect 0 "library: *" "mishtodran: building the library: 10 crates*crate 9 of 10 is proved: *built the library in*" "$built" ./mishtodran lib
+    expect 0 "library: *" "" "" ./mishtodran lib
+    echo "/* more */" >>"$copy/include/mishtodran.h"
+    expect 0 "library: *" "" "" ./mishtodran lib
+    cmp "$copy/include/mishtodran.h" "$copy/target/mishtodran/mishtodran.h" || found "the header is not the changed one"
+    echo more >"$copy/target/mishtodran/libmishtodran.a"
+    expect 0 "library: *" "" "" ./mishtodran lib
+    cmp "$copy/target/staticlib/libeditor.a" "$copy/target/mishtodran/libmishtodran.a" || found "the library is not what was built"
+    echo more >"$copy/crates/vectors/src/lib.rt"
+    expect 0 "library: *" "" "" ./mishtodran lib
+    echo more >"$copy/crates/search/src/lib.rt"
+    expect 0 "library: *" "*" "$built" ./mishtodran lib
+    rm "$copy/crates/search/src/lib.rt"
+    expect 0 "library: *" "*" "$built" ./mishtodran lib
+    touch -d '10 years ago' "$room/older" && mv "$room/older" "$copy/crates/search/src/lib.rt"
+    expect 0 "library: *" "*" "$built" ./mishtodran lib
+    echo more >>"$copy/target/staticlib/libeditor.a"
+    expect 0 "library: *" "*" "$built" ./mishtodran lib
+    expect 0 "library: *" "" "" ./mishtodran lib
+}
+
+# A source that changes while it is built, a build that fails, and no rt.
+builds_that_go_wrong() {
+    local built="rt check *saving*"$'\n'"rt staticlib editor"
+    echo again >"$copy/crates/search/src/lib.rt"
+    during <<<'echo meanwhile >crates/search/src/lib.rt'
+    expect 0 "library: *" "*" "$built"$'\n'"$built" ./mishtodran lib
+    expect 0 "library: *" "" "" ./mishtodran lib
+    echo wrong >"$copy/crates/search/src/lib.rt"
+    during <<<'echo "rt: search NOT PROVED (exit 1, 1 s)" && exit 1'
+    expect 2 "" "*search NOT PROVED*mishtodran: the library was not built; *editor.log has what rt said" "rt check*" ./mishtodran lib
+    expect 0 "library: *" "*" "$built" ./mishtodran lib
+    rm "$copy/target/staticlib/libeditor.a"
+    touch "$room/makes_nothing"
+    expect 2 "" "*rt has not made *libeditor.a" "$built" ./mishtodran lib
+    rm "$room/makes_nothing"
+    mv "$tools/rt" "$room/rt"
+    expect 2 "" "mishtodran: the Rattle toolchain's rt is not on the PATH" "" ./mishtodran lib
+    expect 2 "" "mishtodran: the Rattle toolchain's rt is not on the PATH" "" ./mishtodran report
+    mv "$room/rt" "$tools/rt"
+}
+
+# at_once ONE OTHER: two commands, the other while the one builds; both end well, and the other has waited.
+at_once() {
+    local one other first
+    read -ra one <<<"$1"
+    read -ra other <<<"$2"
+    rm -rf "$copy/target" "$room/started" "$room/err"
+    : >"$room/called"
+    during <<'EOT'
+echo >"$ROOM/started"
+for second in 1 2 3 4 5 6 7 8 9; do
+    ! grep -q waiting "$ROOM/err" || exit 0
+    sleep 1
+done
+EOT
+    in_copy "${one[@]}" >"$room/one" 2>&1 &
+    first=$!
+    until [ -e "$room/started" ]; do sleep 0.05; done
+    try "${other[@]}"
+    wait "$first" || found "$1 beside $2: $(cat "$room/one")"
+    is "$2 beside $1: standard error" "$(cat "$room/err")" "mishtodran: waiting for another build*"
+    is "$2 beside $1: exit status" "$status" 0
+}
+
+two_at_once() {
+    at_once "./mishtodran lib" "./mishtodran lib"
+    is "two builds of the library: calls" "$(grep -c staticlib "$room/called")" 1
+    at_once "./mishtodran report examples/sample.table" "./mishtodran lib"
+    is "the report program and the library: calls" "$(grep -c 'staticlib\|check report' "$room/called")" 2
+}
+
+# The programs of compare/ are compiled where something of theirs has changed.
+compiled_programs() {
+    local compiled="gcc *compare.c>*libmishtodran.a>"
+    expect 0 "ran compare 7 5" "compare: compiling compare" "$compiled" ./mishtodran compare 5 7
+    expect 0 "ran compare 1 5" "" "" ./mishtodran compare 5
+    echo >>"$copy/compare/analyzer.c"
+    expect 0 "ran compare 1 5" "compare: compiling compare" "$compiled" ./mishtodran compare 5
+    echo "stand-in 2" >"$room/compiler"
+    expect 0 "ran compare 1 5" "compare: compiling compare" "$compiled" ./mishtodran compare 5
+    cp "$copy/target/staticlib/libeditor.a" "$copy/other.a"
+    expect 0 "ran compare 1 5" "compare: compiling compare" "gcc *other.a>" compare/run.sh other.a compare 1 5
+    expect 0 "ran bench 1" "compare: GLPK is not measured: bash compare/glpk.sh fetches it*" "gcc *bench.c>*" ./mishtodran bench
+    mkdir -p "$copy/target/glpk/usr/lib/x86_64-linux-gnu" && touch "$copy/target/glpk/usr/lib/x86_64-linux-gnu/libglpk.a"
+    expect 0 "ran bench 1" "compare: compiling bench" "gcc *<-DWITH_GLPK>*" ./mishtodran bench
+}
+
+# linked COMPILER: the words after `link:` are a command that works in a shell, blanks or not.
+linked() {
+    local line
+    try ./mishtodran lib
+    line=$(sed -n 's/^link: *//p' "$room/out")
+    : >"$room/called"
+    try bash -c "$line"
+    is "link: exit status" "$status" 0
+    is "link: calls" "$(cat "$room/called")" "$1 <-I> <$copy/target/mishtodran> <program.c> <$copy/target/mishtodran/libmishtodran.a>"
+}
+
+machine_x86_64() {
+    local missing="there is no C compiler (gcc cc) here: install Debian's package gcc"
+    machine x86_64
+    linked gcc
+    rm -rf "$copy/target/compare" "$tools/gcc"
+    expect 0 "ran compare 1 5" "*" "cc *" ./mishtodran compare 5
+    linked cc
+    rm -rf "$copy/target" "$tools/cc"
+    expect 2 "" "mishtodran: $missing" "" ./mishtodran compare 5
+    expect 2 "" "mishtodran: $missing" "" ./mishtodran bench
+    expect 2 "" "compare: $missing" "" compare/run.sh other.a compare 1 5
+    expect 2 "" "run_c: $missing" "" tests/run_c.sh other.a
+    expect 2 "" "sanitized: $missing" "" compare/sanitized.sh 1 1
+    stand_in "$tools/own" <"$tools/x86_64-linux-gnu-gcc"
+    expect 0 "ran compare 1 5" "*" "*own *" env CC_X86_64=own ./mishtodran compare 5
+    compilers gcc cc
+}
+
+machine_aarch64() {
+    local missing="there is no emulator of x86-64 here: install Debian's package qemu-user"
+    local kit=$room/kit/on/aarch64/toolchain/bin
+    machine aarch64
+    linked "x86_64-linux-gnu-gcc <-static>"
+    rm -rf "$copy/target"
+    expect 0 "ran compare 1 5" "*" "*x86_64-linux-gnu-gcc *kit/on/aarch64/toolchain/bin/qemu-x86_64 compare" ./mishtodran compare 5
+    expect 0 "a report" "*" "*kit/on/aarch64/toolchain/bin/qemu-x86_64 ld-linux-x86-64.so.2" ./mishtodran report
+    rm -rf "$copy/target" "$kit/qemu-x86_64"
+    expect 2 "" "mishtodran: $missing" "" ./mishtodran report
+    expect 2 "" "mishtodran: $missing" "" ./mishtodran compare 5
+    expect 2 "" "compare: $missing" "" compare/run.sh other.a compare 1 5
+    emulator "$tools/qemu-x86_64-static"
+    expect 0 "a report" "*" "*tools/qemu-x86_64-static ld-linux-x86-64.so.2" ./mishtodran report
+    rm "$tools/x86_64-linux-gnu-gcc"
+    expect 2 "" "mishtodran: there is no C compiler (x86_64-linux-gnu-gcc) here: install Debian's package gcc-x86-64-linux-gnu" "" ./mishtodran compare 5
+    expect 0 "library: *link:    x86_64-linux-gnu-gcc -static *" "*" "*" ./mishtodran lib
+    compilers x86_64-linux-gnu-gcc
+}
+
+# The gate's packages: named, installed before anything is proved, and what the package manager says where it fails.
+packages() {
+    local missing="gcc-x86-64-linux-gnu python3 shellcheck"
+    rm "$tools/x86_64-linux-gnu-gcc" "$tools/id"
+    stand_in "$tools/id" <<<'echo 1000'
+    expect 2 "" "gate: these packages are missing, and only root can install them, with apt-get: $missing" "" .ci/run
+    stand_in "$tools/id" <<<'echo 0'
+    expect 2 "" "gate: these packages are missing, and only root*" "" .ci/run
+    stand_in "$tools/apt-get" <<<'echo "$1: no network" >&2 && exit 100'
+    expect 2 "" "gate: installing the packages that are missing: $missing"$'\n'"gate: they could not be installed; the package manager said:"$'\n'"update: no network" "" .ci/run
+    rm "$tools/gcc" "$tools/cc" "$tools/qemu-x86_64-static"
+    expect 2 "" "gate: installing the packages that are missing: gcc-x86-64-linux-gnu qemu-user gcc python3 shellcheck*" "" .ci/run
+    machine x86_64
+    expect 2 "" "gate: installing the packages that are missing: gcc python3 shellcheck*" "" .ci/run
+    compilers gcc cc
+    expect 2 "" "gate: installing the packages that are missing: python3 shellcheck*" "" .ci/run
+    stand_in "$tools/apt-get" <<<'echo "apt-get $*" >>"$ROOM/called"'
+    expect 2 "" "gate: installing the packages that are missing: python3 shellcheck*" "apt-get update"$'\n'"apt-get install -y python3 shellcheck" .ci/run
+}
+
+# GLPK is fetched whole or not at all, and what the package manager says is shown.
+glpk() {
+    rm -rf "$copy/target" "$tools/apt-get"
+    expect 2 "" "glpk: there is no apt-get here" "" compare/glpk.sh
+    stand_in "$tools/apt-get" <<<'echo "no network" >&2 && exit 100'
+    stand_in "$tools/dpkg-deb" <<<'mkdir -p "$3/usr"'
+    expect 2 "" "glpk: fetching Debian's packages"$'\n'"glpk: GLPK cannot be fetched: no network" "" compare/glpk.sh
+    is "what is left of GLPK" "$(ls "$copy/target")" ""
+    stand_in "$tools/apt-get" <<<':'
+    expect 0 "" "*glpk: it is in target/glpk" "" compare/glpk.sh
+    is "what is left of GLPK" "$(ls "$copy/target")" glpk
+    expect 0 "" "glpk: it has been fetched" "" compare/glpk.sh
+}
+
+# The gate over checks that are stood in for: it locks while it proves, ends with a check's status, and its last line is rt's.
+gate() {
+    local checks=("$copy"/{tests/{wrong_uses,commands,report_command,run_c}.sh,compare/{sanitized,run,run_report}.sh}) one
+    mkdir -p "$copy/crates/sample" "$copy/crates/report"
+    cp "$copy/examples/sample.table" "$copy/crates/sample/stdin"
+    cp "$copy/examples/sample.table" "$copy/crates/report/stdin"
+    for one in "$tools"/{shellcheck,python3} "${checks[@]}"; do
+        stand_in "$one" <<<':'
+    done
+    at_once .ci/run "./mishtodran lib"
+    is "the gate: its last line" "$(tail -n 1 "$room/one")" "2 passed, 0 failed"
+    for one in "$tools"/{shellcheck,python3} "${checks[@]}"; do
+        stand_in "$one" <<<'exit 1'
+        expect 1 "*" "*gate: *" "*" .ci/run
+        [[ $(cat "$room/out") != *passed* ]] || found "the gate passes though ${one##*/} does not"
+        stand_in "$one" <<<'exit 2'
+        expect 2 "*" "*gate: *" "*" .ci/run
+        stand_in "$one" <<<':'
+    done
+    expect 0 "*"$'\n'"2 passed, 0 failed" "*" "*rt ci*" .ci/run
+    during <<<'echo "1 passed, 1 failed" && exit 1'
+    expect 1 "*1 passed, 1 failed" "*gate: rt ci did not pass (exit status 1)*" "*rt ci" .ci/run
+}
+
+help_and_links
+reports
+builds
+builds_that_go_wrong
+two_at_once
+compiled_programs
+machine_x86_64
+machine_aarch64
+packages
+glpk
+gate
+echo "commands: as they should be"

@@ -1,0 +1,115 @@
+#!/usr/bin/env bash
+# Wrong uses of the commands: the exit status and the message of each. Nothing is written to standard output, and nothing is
+# built or run first.
+# Usage: tests/wrong_uses.sh
+set -u
+name=wrong_uses
+# shellcheck source=scripts/shell.sh
+. "$(dirname "$(readlink -f "${BASH_SOURCE[0]}")")/../scripts/shell.sh" || exit 2
+[ $# = 0 ] || fail "usage: tests/wrong_uses.sh"
+# shellcheck source=tests/stand_ins.sh
+. "$top/tests/stand_ins.sh" || exit 2
+
+tried=0
+
+# wrong STATUS MESSAGE WORDS..
+wrong() {
+    local expected=$1 message=$2
+    shift 2
+    try "$@"
+    [ "$status" = "$expected" ] || found "$*: exit status $status, not $expected: $(cat "$room/err")"
+    [ "$(cat "$room/err")" = "$message" ] || found "$*: it says '$(cat "$room/err")', not '$message'"
+    [ ! -s "$room/out" ] || found "$*: it writes to standard output"
+    [ ! -s "$room/called" ] || found "$*: something was built or run: $(cat "$room/called")"
+    tried=$((tried + 1))
+}
+
+n='mishtodran: N is a whole number from 1 to 1000000000, not'
+seed='mishtodran: SEED is a whole number from 0 to 4294967295, not'
+wrong 2 "mishtodran: there is no command 'reprot'; ./mishtodran help lists them" ./mishtodran reprot
+wrong 2 "mishtodran: there is no command ''; ./mishtodran help lists them" ./mishtodran ""
+wrong 2 "mishtodran: there is no command '-x'; ./mishtodran help lists them" ./mishtodran -x
+wrong 2 "mishtodran: usage: ./mishtodran help" ./mishtodran help report
+wrong 2 "mishtodran: usage: ./mishtodran help" ./mishtodran --help report
+wrong 2 "mishtodran: usage: ./mishtodran report [FILE]" ./mishtodran report examples/sample.table examples/sample.table
+wrong 2 "mishtodran: there is no file none" ./mishtodran report none
+wrong 2 "mishtodran: there is no file " ./mishtodran report ""
+wrong 2 "mishtodran: examples is a folder" ./mishtodran report examples
+wrong 2 "mishtodran: standard input is a folder" bash -c './mishtodran report <examples'
+wrong 2 "mishtodran: standard input is closed" bash -c './mishtodran report <&-'
+wrong 2 "mishtodran: standard output is closed" bash -c './mishtodran report examples/sample.table >&-'
+wrong 2 "mishtodran: usage: ./mishtodran lib" ./mishtodran lib target
+wrong 2 "mishtodran: usage: ./mishtodran test" ./mishtodran test all
+wrong 2 "mishtodran: usage: ./mishtodran compare N [SEED]" ./mishtodran compare
+wrong 2 "mishtodran: usage: ./mishtodran compare N [SEED]" ./mishtodran compare 1 2 3
+wrong 2 "$n 'abc'" ./mishtodran compare abc
+wrong 2 "$n '0'" ./mishtodran compare 0
+wrong 2 "$n '-1'" ./mishtodran compare -1
+wrong 2 "$n '+1'" ./mishtodran compare +1
+wrong 2 "$n '1e3'" ./mishtodran compare 1e3
+wrong 2 "$n '0x10'" ./mishtodran compare 0x10
+wrong 2 "$n ' 1'" ./mishtodran compare " 1"
+wrong 2 "$n '1 '" ./mishtodran compare "1 "
+wrong 2 "$n ''" ./mishtodran compare ""
+wrong 2 "$n '1000000001'" ./mishtodran compare 1000000001
+wrong 2 "$n '18446744073709551617'" ./mishtodran compare 18446744073709551617
+wrong 2 "$n 'a[\$(touch x)]'" ./mishtodran compare "a[\$(touch x)]"
+wrong 2 "$seed 'abc'" ./mishtodran compare 10 abc
+wrong 2 "$seed '-1'" ./mishtodran compare 10 -1
+wrong 2 "$seed '4294967296'" ./mishtodran compare 10 4294967296
+wrong 2 "$seed 'one'" ./mishtodran bench one
+wrong 2 "mishtodran: usage: ./mishtodran bench [SEED]" ./mishtodran bench 1 2
+
+usage="compare: usage: compare/run.sh LIBRARY compare SEED N [walked], or compare/run.sh LIBRARY bench [SEED]"
+touch "$copy/lib.a"
+wrong 2 "$usage" compare/run.sh
+wrong 2 "$usage" compare/run.sh lib.a
+wrong 2 "$usage" compare/run.sh lib.a reports 1 2
+wrong 2 "$usage" compare/run.sh lib.a compare 1
+wrong 2 "$usage" compare/run.sh lib.a compare 1 2 walks
+wrong 2 "$usage" compare/run.sh lib.a compare 1 2 walked 3
+wrong 2 "$usage" compare/run.sh lib.a bench 1 2
+wrong 2 "compare: SEED is a whole number from 0 to 4294967295, not 'x'" compare/run.sh lib.a compare x 1
+wrong 2 "compare: N is a whole number from 1 to 1000000000, not '-3'" compare/run.sh lib.a compare 1 -3
+wrong 2 "compare: SEED is a whole number from 0 to 4294967295, not '1.5'" compare/run.sh lib.a bench 1.5
+wrong 2 "compare: there is no library none.a" compare/run.sh none.a compare 1 1
+wrong 2 "run_report: usage: compare/run_report.sh PROGRAM SEED N" compare/run_report.sh lib.a 1
+wrong 2 "run_report: N is a whole number from 1 to 10000, not '-3'" compare/run_report.sh lib.a 1 -3
+wrong 2 "run_report: N is a whole number from 1 to 10000, not '0'" compare/run_report.sh lib.a 1 0
+wrong 2 "run_report: SEED is a whole number from 0 to 4294967295, not 'x'" compare/run_report.sh lib.a x 1
+wrong 2 "run_report: there is no program none" compare/run_report.sh none 1 1
+wrong 2 "sanitized: usage: compare/sanitized.sh SEED N" compare/sanitized.sh 1
+wrong 2 "sanitized: N is a whole number from 1 to 1000000000, not '0'" compare/sanitized.sh 1 0
+wrong 2 "glpk: usage: compare/glpk.sh" compare/glpk.sh target
+wrong 2 "run_c: usage: tests/run_c.sh LIBRARY [INCLUDE]" tests/run_c.sh
+wrong 2 "run_c: there is no library none.a" tests/run_c.sh none.a
+wrong 2 "run_c: there is no mishtodran.h in examples" tests/run_c.sh lib.a examples
+wrong 2 "report_command: usage: tests/report_command.sh" tests/report_command.sh all
+wrong 2 "gate: usage: .ci/run" .ci/run all
+
+# The C programs by themselves, built for this machine.
+compiler=$(first_command gcc cc) || fail "there is no C compiler (gcc cc) here: install Debian's package gcc"
+mkdir "$copy/built" || fail "$room cannot be written"
+for program in compare bench reports; do
+    "$compiler" -std=c11 -o "$copy/built/$program" "$top/compare"/{"$program",generate,analyzer,words,shim}.c || fail "$program was not built"
+done
+"$compiler" -std=c11 -o "$copy/built/worst" "$top/packing/worst.c" "$top/compare/words.c" || fail "worst was not built"
+n='N is a whole number from 1 to'
+seed='SEED is a whole number from 0 to 4294967295, not'
+wrong 2 "compare: usage: compare SEED N [walked]" built/compare 1
+wrong 2 "compare: usage: compare SEED N [walked]" built/compare 1 1 walks
+wrong 2 "compare: $seed '-1'" built/compare -1 1
+wrong 2 "compare: $seed ''" built/compare "" 1
+wrong 2 "compare: $n 1000000000, not '1e3'" built/compare 1 1e3
+wrong 2 "compare: $n 1000000000, not '0'" built/compare 1 0
+wrong 2 "compare: $n 1000000000, not '99999999999999999999999'" built/compare 1 99999999999999999999999
+wrong 2 "compare: standard output cannot be written" sh -c 'built/compare 1 1 >/dev/full'
+wrong 2 "bench: usage: bench [SEED]" built/bench 1 2
+wrong 2 "bench: $seed 'x'" built/bench x
+wrong 2 "reports: usage: reports SEED N FOLDER" built/reports 1 1
+wrong 2 "reports: $seed ' 1'" built/reports " 1" 1 examples
+wrong 2 "reports: $n 10000, not '-3'" built/reports 1 -3 examples
+wrong 2 "reports: none/1.table cannot be written" built/reports 1 1 none
+wrong 2 "worst: $seed 'x'" built/worst none table x 1
+wrong 2 "worst: RUNS is a whole number from 1 to 1000000000, not '-3'" built/worst none table 1 -3
+echo "wrong_uses: $tried wrong uses are refused as they should be"
