@@ -30,3 +30,8 @@ uint32_t mishtodran_report(const uint8_t *table, size_t table_len, uint8_t *text
 {
     return plain_report(table, table_len, text, text_len, answer, answer_len);
 }
+
+uint32_t mishtodran_version(void)
+{
+    return MISHTODRAN_VERSION;
+}

@@ -57,7 +57,10 @@ make_tools() {
 cat "$ROOM/machine"
 EOT
     stand_in "$tools/rt" <<'EOT'
-[ "$1" != version ] || { echo stand-in && exit; }
+case $1 in
+    version) echo stand-in && exit ;;
+    fmt) exit ;;
+esac
 echo "rt $*" >>"$ROOM/called"
 mkdir -p target/bin target/staticlib
 [ ! -x "$ROOM/during" ] || "$ROOM/during" || exit
