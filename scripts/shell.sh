@@ -66,6 +66,10 @@ check_reports() {
 
 # ---- The Rattle toolchain ----
 
+# rt starts so many proofs at once, and the next ones when all of these have ended: more than there are processors keep
+# the processors busy. Each takes up to 1 GB.
+export RT_JOBS=${RT_JOBS-6}
+
 find_rt() {
     command -v rt >/dev/null || fail "the Rattle toolchain's rt is not on the PATH"
 }
