@@ -13,10 +13,10 @@ uint32_t mishtodran_misses(const uint8_t *table, size_t table_len, uint32_t id, 
     return plain_misses(table, table_len, id, k, answer, answer_len);
 }
 
-uint32_t mishtodran_segment(const uint8_t *table, size_t table_len, uint32_t chain, uint32_t against, uint32_t number,
+uint32_t mishtodran_segment(const uint8_t *table, size_t table_len, uint32_t id, uint32_t against, uint32_t number,
                             uint8_t *answer, size_t answer_len)
 {
-    return plain_segment(table, table_len, chain, against, number, answer, answer_len);
+    return plain_segment(table, table_len, id, against, number, answer, answer_len);
 }
 
 uint32_t mishtodran_save(uint8_t *buffer, size_t buffer_len, uint64_t used, const uint8_t *old_record, size_t old_len,

@@ -127,7 +127,7 @@ enum mishtodran_refusal {
     /* A segment */
     MISHTODRAN_AGAINST_ITSELF = 25,    /* a segment of a chain against itself */
     MISHTODRAN_NO_SUCH_SEGMENT = 26,   /* there is no active segment of that number */
-    /* Any entry */
+    /* Any entry but the version */
     MISHTODRAN_ANSWER_TOO_SHORT = 27   /* the answer buffer is too short */
 };
 
@@ -158,10 +158,10 @@ uint32_t mishtodran_latency(const uint8_t *table, size_t table_len, uint32_t id,
 uint32_t mishtodran_misses(const uint8_t *table, size_t table_len, uint32_t id, uint32_t k,
                            uint8_t *answer, size_t answer_len);
 
-/* Where active segment `number` (from 1) of chain `chain` against chain `against` stands in the table: 8 bytes of
+/* Where active segment `number` (from 1) of chain `id` against chain `against` stands in the table: 8 bytes of
  * answer, its offset from the table's first byte and its length in bytes.
  * Refuses with 27, then 1 to 11, 12 for either id, 25, 26. */
-uint32_t mishtodran_segment(const uint8_t *table, size_t table_len, uint32_t chain, uint32_t against, uint32_t number,
+uint32_t mishtodran_segment(const uint8_t *table, size_t table_len, uint32_t id, uint32_t against, uint32_t number,
                             uint8_t *answer, size_t answer_len);
 
 /* Puts a new record in the place of an old one, in the table that stands in the first `used` bytes of a buffer: 4 bytes

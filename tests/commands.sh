@@ -130,7 +130,10 @@ done
 EOT
     in_copy "${one[@]}" >"$room/one" 2>&1 &
     first=$!
-    until [ -e "$room/started" ]; do sleep 0.05; done
+    until [ -e "$room/started" ]; do
+        kill -0 "$first" 2>/dev/null || found "$1 ended before it built: $(cat "$room/one")"
+        sleep 0.05
+    done
     try "${other[@]}"
     wait "$first" || found "$1 beside $2: $(cat "$room/one")"
     is "$2 beside $1: standard error" "$(cat "$room/err")" "mishtodran: waiting for another build*"

@@ -14,7 +14,8 @@ use Rattle.table.specs.Find.{rows}
 use Rattle.table.specs.declared.Row.{Row}
 use Rattle.segments.specs.Tasks.{Task, tasksOf, costOf, floorOf, tailOf, below, before}
 use Rattle.segments.specs.Segments.{cutSegments, cutSegmentsOf}
-use Rattle.segments.specs.View.{viewOf, Alike}
+use Rattle.segments.specs.View.{viewOf}
+use Rattle.segments.proofs.Views.{Alike}
 use Rattle.segments.proofs.Lists.{sum-map, sum-flatten}
 use Rattle.windows.specs.Latency.{boundOf}
 use Rattle.windows.specs.declared.Windows.{Windows}

@@ -8,5 +8,5 @@ seen-records = record {
   changed = λ x e h chain l id n. differing-refused x h e chain l id n;
   stale = λ x e a n es b never new. stale-until-back x e (a .buffer) (a .new) (a .number) n es b never new;
   changed-back = λ x e a. let c = changed-back x e (a .buffer) (a .new) (a .number) in (c .taken, c .table, c .seen);
-  idle = own-saved;
+  unchanged = own-saved;
 }

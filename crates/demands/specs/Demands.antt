@@ -19,8 +19,8 @@ use Rattle.demands.specs.Chains.{Has, chainOf, othersOf}
 use Rattle.demands.specs.Entries.{EveryEntry}
 use Rattle.demands.specs.Saves.{AcceptedEdit, SeenRecords}
 use Rattle.demands.specs.Arrivals.{ArrivalRules}
-use Rattle.demands.specs.Figures.{Exactly, Means}
-use Rattle.demands.specs.Misses.{full, Says, Right}
+use Rattle.demands.specs.Figures.{Exactly}
+use Rattle.demands.specs.Misses.{MeansOf, Says, Right}
 use Rattle.demands.specs.Others.{Besides, SameBesides, Unmoved, Reordered, SameWork, RegroupedTasks, DeadlineOrGap, SameCall}
 use Rattle.demands.specs.Starred.{sample}
 use Rattle.demands.specs.Witness.{altered}
@@ -38,9 +38,9 @@ pub record Demand2 : Type 0 where
   pub arrivals : {s : List ℕ} {id : ℕ} → Has s id → ArrivalRules (distances (chainOf s id))
   -- each window is the least solution of its demand equation up to the horizon, refused exactly when there is none; K, latency, late and
   -- margin are those of these windows
-  pub windows : {s : List ℕ} {id : ℕ} → Has s id → Means (full (chainOf s id) (othersOf s id)) (distances (chainOf s id)) (chainOf s id .deadline) (latencyOf s id)
+  pub windows : {s : List ℕ} {id : ℕ} → Has s id → MeansOf s id (latencyOf s id)
   -- and no other answer is
-  pub only : {s : List ℕ} {id : ℕ} → Has s id → (a : Latency) → Means (full (chainOf s id) (othersOf s id)) (distances (chainOf s id)) (chainOf s id .deadline) a → a ≡ latencyOf s id
+  pub only : {s : List ℕ} {id : ℕ} → Has s id → (a : Latency) → MeansOf s id a → a ≡ latencyOf s id
   -- the miss count is the late activations per window times the greatest feasible packing of bad combinations
   pub misses : {s : List ℕ} {id : ℕ} → Has s id → (k : ℕ) (a : Misses) → Exactly (missesOf s id k ≡ a) (Says (chainOf s id) (othersOf s id) k a)
   -- the report prints a figure in decimal: the digits read back as the figure, and the first is no 0 but in 0 itself

@@ -15,6 +15,7 @@ use Rattle.arrivals.specs.Arrivals.{δ, η}
 use Rattle.table.specs.Record.{distances}
 use Rattle.windows.specs.Window.{Solution}
 use Rattle.windows.specs.Latency.{latencyOf}
+use Rattle.windows.specs.declared.Answer.{Answer as Latency}
 use Rattle.packing.specs.Packing.{bit, IsMost}
 use Rattle.misses.specs.Overloads.{Overload, overloads, Piece, piecesOf}
 use Rattle.misses.specs.Sets.{members, setCost}
@@ -131,7 +132,11 @@ module _ (b : Row) (l : List Row) where
     -- late times the most uses that any packing has
     packed : (f : Figured k) (uses : ℕ) → 1 ≤ f .late → AtMostSix → Once f → Fine f → Capped f → Most f uses → Says k (Misses (f .late * uses))
 
+-- a latency answer is what the words say of the chain with the id
+abbrev pub MeansOf : List ℕ → ℕ → Latency → Type 0
+MeansOf s id a = Means (full (chainOf s id) (othersOf s id)) (distances (chainOf s id)) (chainOf s id .deadline) a
+
 -- the answers for a chain of an accepted table are those of the words
 pub record Right (s : List ℕ) (id : ℕ) : Type 0 where
-  pub latency : Means (full (chainOf s id) (othersOf s id)) (distances (chainOf s id)) (chainOf s id .deadline) (latencyOf s id)
+  pub latency : MeansOf s id (latencyOf s id)
   pub misses : (k : ℕ) (a : Answer) → Exactly (missesOf s id k ≡ a) (Says (chainOf s id) (othersOf s id) k a)

@@ -50,4 +50,4 @@ pub record SeenRecords : Type 0 where
       → (numberOf (answer (after x e) (back e)) ≡ 0) × (stored (after (after x e) (back e)) ≡ stored x)
       × ((new : List ℕ) → answer (after (after x e) (back e)) (from e new) ≡ answer x (from e new))
   -- a stored record saved as it is answers the used length, and changes nothing
-  pub idle : (x : State) → Holding x → (chain : ℕ) → chain < tableOf (stored x) .count → (answer x (asIs x chain) ≡ Used (x .used)) × (after x (asIs x chain) ≡ x)
+  pub unchanged : (x : State) → Holding x → (chain : ℕ) → chain < tableOf (stored x) .count → (answer x (asIs x chain) ≡ Used (x .used)) × (after x (asIs x chain) ≡ x)

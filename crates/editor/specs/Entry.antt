@@ -1,4 +1,5 @@
 -- The entries of the C editor (01, 'The C editor and the report'): what each returns, and what it leaves in the buffers it is lent.
+-- 01 has the first four; the report as an entry, and the version, are ours.
 use Prim.Native.Nat.{ℕ, zero, suc, _*_, _-_}
 use mathlib.Core.Path.{_≡_}
 use mathlib.Core.List.{List, [], _∷_, _++_, map}
@@ -60,7 +61,7 @@ pub record SegmentEntry (table : List ℕ) (id against number : ℕ) (before aft
 
 -- save: the new used length, and the table's buffer as the save leaves it; 27 leaves that too
 pub record SaveEntry (buffer : List ℕ) (used : ℕ) (old new answer bufferAfter answerAfter : List ℕ) (r : ℕ) : Type 0 where
-  pub answers : Answered 1 (save.numberOf (save.savedOf buffer used old new)) (save.figuresOf (save.savedOf buffer used old new)) answer answerAfter r
+  pub answers : Answered 1 (save.numberOf (save.savedOf buffer used old new)) (save.valuesOf (save.savedOf buffer used old new)) answer answerAfter r
   pub leaves : bufferAfter ≡ (buffer when ltb (length answer) 4 else save.bufferAfter buffer used old new)
 
 -- report: 24 where its text is longer than the text buffer, else the text's length, and the text; a refused table has its text

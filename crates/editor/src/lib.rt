@@ -12,6 +12,7 @@ ghost use Rattle.editor.specs.Entry.{unsigned as unsignedOf, figureBytes
 // What an entry returns where it has answered.
 const ANSWERED: u32 = 0;
 
+// Raised by each change that a caller can see, in the header and in specs/ too.
 const VERSION: u32 = 1;
 
 // A signed number in two's complement.

@@ -16,9 +16,9 @@ use Rattle.table.specs.Limits.{maxOverloads, maxCapacity}
 use Rattle.table.specs.declared.Row.{Row}
 use Rattle.arrivals.specs.Arrivals.{η, largest}
 use Rattle.table.specs.Record.{distances}
-use Rattle.segments.specs.View.{View, viewOf, Alike}
+use Rattle.segments.specs.View.{View, viewOf}
 use Rattle.segments.proofs.Renaming.{alike-renamed}
-use Rattle.segments.proofs.Views.{view-overload, view-list, alike-turn}
+use Rattle.segments.proofs.Views.{Alike, view-overload, view-list, alike-turn}
 use Rattle.windows.specs.Demand.{demandOf, typical}
 use Rattle.windows.specs.Latency.{boundOf}
 use Rattle.windows.specs.declared.Answer.{Answer as Bound}

@@ -14,6 +14,6 @@ withCost demand cost q t = demand q t + cost
 unfoldable pub over : (ℕ → ℕ → ℕ) → List ℕ → ℕ → ℕ → ℕ → Bool
 over demand ds deadline close cost = anyOver (withCost demand cost) ds deadline close
 
--- a bad combination
+-- a bad combination, by which costs are bad
 unfoldable pub bad : (ℕ → Bool) → List Piece → ℕ → Bool
-bad over ps m = allowed ps m && over (setCost (members ps m))
+bad costly ps m = allowed ps m && costly (setCost (members ps m))

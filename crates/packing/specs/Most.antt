@@ -13,7 +13,7 @@ use Rattle.packing.specs.code.Plain.{reach}
 
 -- the greatest number of uses that have room; it is no more than all the room there is
 unfoldable pub mostUses : (ℕ → Bool) → (ℕ → ℕ) → ℕ
-mostUses bad capacity = last (λ n. reach bad combinations (suc n) capacity) (sumTo maxOverloads capacity)
+mostUses bad room = last (λ n. reach bad combinations (suc n) room) (sumTo maxOverloads room)
 
 -- the bad combinations as flags, of which 1 says bad and anything else does not, and the capacities as a list
 abbrev pub flagged : List ℕ → ℕ → Bool

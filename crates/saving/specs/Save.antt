@@ -24,9 +24,9 @@ numberOf (Used n) = 0
 numberOf (Refused n) = n
 
 -- and its figures: the new used length, or none
-abbrev pub figuresOf : Saved → List ℕ
-figuresOf (Used n) = n ∷ []
-figuresOf (Refused n) = []
+abbrev pub valuesOf : Saved → List ℕ
+valuesOf (Used n) = n ∷ []
+valuesOf (Refused n) = []
 
 -- the fault of the table that the bytes store, 1 to 11, 0 if there is none
 abbrev pub readFault : List ℕ → ℕ

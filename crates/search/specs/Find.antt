@@ -1,4 +1,4 @@
--- Searches over a test on numbers, and the greatest and the least number of which something holds.
+-- Searches over a test on numbers, and the greatest number of which something holds.
 use Prim.Native.Nat.{ℕ, zero, suc, _≤_}
 use mathlib.Core.Bool.{Bool}
 use Rattle.search.specs.Choice.{_when_else_}
@@ -17,8 +17,3 @@ last p (suc n) = suc n when p n else last p n
 pub record Greatest (P : ℕ → Type 0) (n : ℕ) : Type 0 where
   pub holds : P n
   pub above : (m : ℕ) → P m → m ≤ n
-
--- n is the least number of which P holds
-pub record Least (P : ℕ → Type 0) (n : ℕ) : Type 0 where
-  pub holds : P n
-  pub below : (m : ℕ) → P m → n ≤ m

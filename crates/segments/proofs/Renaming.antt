@@ -11,7 +11,8 @@ use Rattle.table.specs.declared.Row.{Row}
 use Rattle.segments.specs.Tasks.{Task, tasksOf, floorOf, tailOf, costOf}
 use Rattle.segments.specs.Segments.{around, nonempty, parts, cutSegments}
 use Rattle.segments.specs.Actives.{actives, activesOf}
-use Rattle.segments.specs.View.{viewOf, Alike}
+use Rattle.segments.specs.View.{viewOf}
+use Rattle.segments.proofs.Views.{Alike}
 use Rattle.segments.proofs.Order.{labelOf, label, labels, costs, behind, by-number}
 
 -- the segments bear other numbers

@@ -6,17 +6,27 @@ use mathlib.Core.List.{List, [], _∷_, _++_, map, flatten, List·Permᴰ, Perm�
 use mathlib.Core.Bool.{false, not}
 use lib.Dec.{eqb}
 use lib.ListN.{length, take}
-use Rattle.search.specs.Lists.{sumOf, mostOf}
+use Rattle.search.specs.Lists.{sumOf, mostOf, Paired}
 use Rattle.search.proofs.Lists.{perm-sum, perm-most, paired-perm}
 use Rattle.search.proofs.Pairing.{paired-weaker, paired-turn}
 use Rattle.table.specs.declared.Row.{Row}
 use Rattle.segments.specs.Tasks.{Task, tasksOf, costOf, chainCost, floorOf, tailOf, below, deferred, before, firstCost}
 use Rattle.segments.specs.Segments.{onward, around, nonempty, segments, segmentsOf, cutSegments}
-use Rattle.segments.specs.View.{View, viewOf, sum, allOf, dearestOf, Alike}
+use Rattle.segments.specs.View.{View, viewOf, sum, allOf, dearestOf}
 use Rattle.segments.proofs.Steps.{rest-length, cost-nil}
 use Rattle.segments.proofs.Levels.{some-before, all-before, none-before}
 use Rattle.segments.proofs.Lists.{sum-map, most-map, sum-flatten, full-sum}
 use Rattle.segments.proofs.Stretches.{stretches-none, cut-flatten}
+
+-- the same view up to order: the segments pair off one to one, each pair with the same active-segment costs in some
+-- order, and so with the same cost
+pub record Alike (v w : View) : Type 0 where
+  pub kind : v .kind ≡ w .kind
+  pub overload : v .overload ≡ w .overload
+  pub list : v .list ≡ w .list
+  pub free : v .free ≡ w .free
+  pub first : v .first ≡ w .first
+  pub segments : Paired List·Permᴰ (v .segments) (w .segments)
 
 -- what the active segments of a segment cost together is what the segment costs
 sum-costs : (l : List (List Task)) → sum (map costOf l) ≡ costOf (flatten l)

@@ -1,9 +1,8 @@
 -- What matters of a chain a to a chain b: its view. Every figure of b goes by b's own row and the views of the others.
 use Prim.Native.Nat.{ℕ}
-use mathlib.Core.Path.{_≡_}
-use mathlib.Core.List.{List, map, List·Permᴰ}
+use mathlib.Core.List.{List, map}
 use mathlib.Core.Bool.{Bool, not}
-use Rattle.search.specs.Lists.{sumOf, mostOf, Paired}
+use Rattle.search.specs.Lists.{sumOf, mostOf}
 use Rattle.table.specs.Record.{distances}
 use Rattle.table.specs.declared.Row.{Row}
 use Rattle.segments.specs.Tasks.{costOf, deferred, firstCost}
@@ -40,13 +39,3 @@ allOf v = sumOf sum (v .segments)
 
 abbrev pub dearestOf : View → ℕ
 dearestOf v = mostOf sum (v .segments)
-
--- the same view up to order: the segments pair off one to one, each pair with the same active-segment costs in some
--- order, and so with the same cost
-pub record Alike (v w : View) : Type 0 where
-  pub kind : v .kind ≡ w .kind
-  pub overload : v .overload ≡ w .overload
-  pub list : v .list ≡ w .list
-  pub free : v .free ≡ w .free
-  pub first : v .first ≡ w .first
-  pub segments : Paired List·Permᴰ (v .segments) (w .segments)

@@ -66,6 +66,7 @@ records zero s at t = start s at t (refusal 11)
 records (suc left) s at t =
     start s at t (unless refusal (chainFault s at t) (records left s (at + lengthAt s at) (plus t (rowAt s at))))
 
+-- 1 where there is no byte or are too many; else the records from the first byte on
 unfoldable pub readTable : List ℕ → Reading
 readTable s = refusal 1 when eqb (length s) 0 || ltb maxBytes (length s) else records maxChains s 0 empty
 

@@ -71,6 +71,7 @@ costsAt s at = spaced (costAt s) 8 (tasksAt s at) (firstTask s at)
 abbrev pub pad : ℕ → List ℕ → List ℕ
 pad m l = l ++ replicate (m - length l) 0
 
+-- what the chain record at `at` says
 unfoldable pub rowAt : List ℕ → ℕ → Row
 rowAt s at =
     record {

@@ -11,10 +11,15 @@ use Rattle.search.specs.Find.{first}
 use Rattle.search.proofs.Choice.{when-yes, when-no, true-not-false, lt-or-le}
 use Rattle.search.proofs.Find.{first-is, first-none, first-hit, first-ge, first-miss}
 use Rattle.table.specs.Limits.{horizon}
-use Rattle.windows.specs.Window.{Solution, WindowOf, within, windowOf}
+use Rattle.windows.specs.Window.{Solution, within, windowOf}
 use Rattle.windows.specs.code.Climb.{Under}
 use Rattle.windows.specs.declared.Window.{Window}
 use Rattle.windows.specs.declared.Window.the-variants.{At, Nothing}
+
+-- a window of d: its solution, or none where no t in 1 to the horizon equals its demand
+abbrev pub WindowOf : (ℕ → ℕ) → Window → Type 0
+WindowOf d (At t) = Solution d t
+WindowOf d Nothing = (s : ℕ) → 1 ≤ s → s ≤ horizon → s ≡ d s → ⊥
 
 within-yes : (t : ℕ) → t ≤ horizon → within t ≡ At t
 within-yes t h = when-no Nothing (At t) (le-ltb horizon t h)

@@ -10,9 +10,9 @@ use Rattle.search.proofs.Lists.{perm-sum, paired-perm}
 use Rattle.search.proofs.Keeping.{keep}
 use Rattle.search.proofs.Pairing.{paired-keep, paired-weaker}
 use Rattle.table.specs.declared.Row.{Row}
-use Rattle.segments.specs.View.{View, Alike}
+use Rattle.segments.specs.View.{View}
 use Rattle.segments.proofs.Lists.{sum-map}
-use Rattle.segments.proofs.Views.{alike-all, alike-dearest}
+use Rattle.segments.proofs.Views.{Alike, alike-all, alike-dearest}
 use Rattle.windows.specs.Demand.{termOf, demandOf, typical}
 use Rattle.windows.specs.Latency.{boundOf}
 

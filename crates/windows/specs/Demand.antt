@@ -32,7 +32,7 @@ countedPart b = ownPart b when asynchronous (b .kind) else 0
 
 -- q times b's cost; plus max(0, η_b(t) − q) times its own first part; plus what every other chain adds
 unfoldable pub demandOf : Row → List View → ℕ → ℕ → ℕ
-demandOf b others q t = q * chainCost b + (η (distances b) t - q) * countedPart b + sumOf (λ v. termOf v t) others
+demandOf b views q t = q * chainCost b + (η (distances b) t - q) * countedPart b + sumOf (λ v. termOf v t) views
 
 -- every chain of a table but that one, in table order, and the views that it has of them
 abbrev pub others : Table → ℕ → List Row

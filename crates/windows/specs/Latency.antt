@@ -33,7 +33,7 @@ abbrev pub ends : Window → ℕ → Bool
 ends (At t) next = leb t next
 ends Nothing next = true
 
--- K: the first q at which it ends, one more than the limit where it's open still
+-- the first q at which it ends, which is K where that has a window; one more than the limit where it's open still
 unfoldable pub closeOf : (ℕ → ℕ → ℕ) → List ℕ → ℕ
 closeOf demand ds = first (λ q. ends (windowOf (demand q)) (δ ds (q + 1))) 1 maxActivations
 
@@ -57,7 +57,7 @@ overOf x deadline = 1 when ltb deadline x else 0
 unfoldable pub lateTo : (ℕ → ℕ → ℕ) → List ℕ → ℕ → ℕ → ℕ
 lateTo demand ds deadline close = sumOf (λ q. overOf (latencyAt demand ds q) deadline) (upTo close)
 
--- whether one of them exceeds it; a window that is not there is past the horizon, and so longer than any limit
+-- whether one of them exceeds it; a window that is not there counts as one that does (up to K every combination's is there)
 abbrev pub longer : Window → ℕ → Bool
 longer (At t) limit = ltb limit t
 longer Nothing limit = true
@@ -90,7 +90,7 @@ windowsOf demand ds deadline =
 
 -- every figure of b is a function of its row and its views of the others
 unfoldable pub boundOf : Row → List View → Windows
-boundOf b others = windowsOf (demandOf b others) (distances b) (b .deadline)
+boundOf b views = windowsOf (demandOf b views) (distances b) (b .deadline)
 
 -- those of a chain of a table, by its number there
 abbrev pub boundAt : Table → ℕ → Windows

@@ -15,11 +15,6 @@ pub record Solution (d : ℕ → ℕ) (t : ℕ) : Type 0 where
   pub solves : t ≡ d t
   pub least : (s : ℕ) → 1 ≤ s → s ≡ d s → t ≤ s
 
--- a window of d: its solution, or none where no t in 1 to the horizon equals its demand
-abbrev pub WindowOf : (ℕ → ℕ) → Window → Type 0
-WindowOf d (At t) = Solution d t
-WindowOf d Nothing = (s : ℕ) → 1 ≤ s → s ≤ horizon → s ≡ d s → ⊥
-
 -- the window: the first of 1, 2, .., horizon that equals its demand
 abbrev pub within : ℕ → Window
 within t = Nothing when ltb horizon t else At t

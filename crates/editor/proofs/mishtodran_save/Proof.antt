@@ -5,7 +5,7 @@ use Prim.Native.Nat.{ℕ}
 use denote.Ref.{now}
 use borrow.Author.Tests.{lt-ltb, le-ltb}
 use Rattle.search.proofs.Choice.{when-yes, when-no}
-use Rattle.saving.specs.Save.{numberOf, figuresOf, savedOf, bufferAfter}
+use Rattle.saving.specs.Save.{numberOf, valuesOf, savedOf, bufferAfter}
 use Rattle.editor.proofs.Writing.{answered-short, answered-refusal, answered-figures}
 use borrow.Author.Needs.{needs}
 use Rattle.editor.proofs.mishtodran_save.Statement.{statement}
@@ -26,7 +26,7 @@ returns c = let a = c .before .before .before .before .before .args in
     let saved = savedOf table (a .used) (now (a .old-record)) (now (a .new-record)) in
     let later = bufferAfter table (a .used) (now (a .old-record)) (now (a .new-record)) in
     record {
-      answers = answered-short 1 (numberOf saved) (figuresOf saved) (now (a .answer)) (c .if1 .taken);
+      answers = answered-short 1 (numberOf saved) (valuesOf saved) (now (a .answer)) (c .if1 .taken);
       leaves = sym (when-yes table later (lt-ltb _ _ (c .if1 .taken)));
     }
 
@@ -69,7 +69,7 @@ returns-3 c = let a = c .before .before .before .before .before .before .before 
     let room = c .before .before .before .before .before .before .before .if1 .left in
     let e = sym (save .answers) ∙ told .1 in
     record {
-      answers = answered-refusal 1 (numberOf saved) (figuresOf saved) (now (a .answer)) room (told .0 .0) (ap numberOf e) (ap figuresOf e);
+      answers = answered-refusal 1 (numberOf saved) (valuesOf saved) (now (a .answer)) room (told .0 .0) (ap numberOf e) (ap valuesOf e);
       leaves = save .leaves ∙ sym (when-no table later (le-ltb _ _ room));
     }
 
