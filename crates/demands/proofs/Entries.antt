@@ -16,7 +16,7 @@ use Rattle.saving.specs.Save as save
 use Rattle.saving.proofs.After.{saved-number}
 use Rattle.report_text.specs.Report.{reportOf}
 use Rattle.editor.specs.Entry.{figureBytes, returned, leftBy, tooLong, Answered, SaveEntry, ReportEntry}
-use Rattle.demands.specs.Entries.{SaveRefusal, ReportRefusal, AtEntry, OneAnswer, Query, Call, OneResult, OnePart, LatencyRefusal, MissesRefusal, SegmentRefusal, TableRefusal, EveryEntry}
+use Rattle.demands.specs.Entries.{SaveRefusal, ReportRefusal, AtEntry, OneAnswer, Query, Call, OnePart, LatencyRefusal, MissesRefusal, SegmentRefusal, TableRefusal, EveryEntry}
 use Rattle.demands.proofs.Answers.{verdict-one, latency-one, misses-one, segment-one, save-one}
 
 -- a statement that names the answer

@@ -1,7 +1,7 @@
 -- The sample and a table that differs from it meet demand 3's hypothesis for chains 1, 2 and 4. Assumes nothing.
 use Prim.Native.Nat.{ℕ, _<_}
-use mathlib.Core.Path.{_≡_, refl, ap, sym, _∙_}
-use mathlib.Core.List.{List, [], _∷_, map, List·Permᴰ, List·Permᴰ·cons, List·Permᴰ·swap, List·Permᴰ·trans, Permᴰ·refl}
+use mathlib.Core.Path.{_≡_, refl, ap, _∙_}
+use mathlib.Core.List.{List, [], _∷_, List·Permᴰ, List·Permᴰ·cons, List·Permᴰ·swap, List·Permᴰ·trans, Permᴰ·refl}
 use native.Mathlib.Omega.{arith}
 use lib.Dec.{lit≤}
 use lib.ListN.{length, take, drop}
@@ -11,11 +11,10 @@ use Rattle.search.specs.Lists.{sumOf, some, Paired}
 use Rattle.table.specs.Find.{rowOf, findOf}
 use Rattle.table.specs.Read.{tableOf}
 use Rattle.table.specs.Place.{lengthOf, placeOf}
-use Rattle.table.specs.declared.Row.{Row}
 use Rattle.table.specs.declared.Table.{Table}
 use Rattle.table.specs.declared.Reading.{Reading}
-use Rattle.segments.specs.Tasks.{costOf, tasksFrom, lowest, before, deferred, firstCost}
-use Rattle.segments.specs.Segments.{stretches, onward, around, nonempty, cuts, parts, cutSegments, cutSegmentsOf}
+use Rattle.segments.specs.Tasks.{tasksFrom, lowest, before}
+use Rattle.segments.specs.Segments.{stretches, onward, around, nonempty, cuts, parts, cutSegments}
 use Rattle.windows.specs.Demand.{others}
 use Rattle.saving.specs.Save.{recordOf}
 use Rattle.demands.specs.Others.{Agrees, SameBesides}

@@ -1,7 +1,6 @@
 -- Each way the entry ends, by its law.
-use mathlib.Core.Path.{_≡_, refl, ap, sym, _∙_}
-use mathlib.Core.List.{List, [], _∷_}
-use Prim.Native.Nat.{ℕ}
+use mathlib.Core.Path.{refl, ap, sym, _∙_}
+use mathlib.Core.List.{[], _∷_}
 use denote.Ref.{now}
 use Rattle.misses.specs.Misses.{numberOf, valuesOf, missesOf}
 use Rattle.editor.proofs.Writing.{answered-short, answered-refusal, answered-figures}
