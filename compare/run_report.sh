@@ -15,6 +15,7 @@ in_hex() {
 check_seed "$2"
 check_reports "$3"
 [ -f "$1" ] || fail "there is no program $1"
+program=$(readlink -f "$1")
 find_rt
 find_compiler
 find_runner
@@ -25,7 +26,7 @@ c_program reports "$top/compare"/{reports,generate,analyzer,words}.c
 c_run "$c_program" "$2" "$3" "$room" || fail "no tables were made"
 for ((number = 1; number <= 10#$3; number++)); do
     table=$room/$number.table
-    run_proved "$1" <"$table" >"$room/said" || found "the report ended with a failure; table $(in_hex "$table")"
+    run_proved "$program" <"$table" >"$room/said" || fail "the report ended with a failure; table $(in_hex "$table")"
     diff "$room/said" "$room/$number.txt" || found "difference; table $(in_hex "$table")"
 done
-echo "$((10#$3)) reports, no difference"
+print "$((10#$3)) reports, no difference"

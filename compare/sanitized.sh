@@ -10,7 +10,7 @@ name=sanitized
 [ $# = 2 ] || fail "usage: compare/sanitized.sh SEED N"
 check_seed "$1"
 check_tables "$2"
-c_compilers=(gcc cc)
+c_compilers=("${native_compilers[@]}")
 c_package=gcc
 c_flags=(-std=c11 -O2 -g -Wall -Wextra "-fsanitize=address,undefined" -fno-sanitize-recover=all)
 find_compiler

@@ -3,8 +3,8 @@
 
    Shows the figures of chain ID, asks for a new deadline, saves it to the file, and shows the figures again and the
    report of the whole table. Ends with 0; with 1 where the library refuses; with 2 where it is used wrongly, or
-   something cannot be read or written. After `./mishtodran lib` it is built by
-   cc -I target/mishtodran examples/editor.c target/mishtodran/libmishtodran.a -o editor */
+   something cannot be read or written. It is built by the line that `./mishtodran lib` prints, with examples/editor.c for
+   program.c. */
 #define _DEFAULT_SOURCE /* for flock and realpath */
 #include "mishtodran.h"
 
@@ -244,6 +244,8 @@ static void edit(const char *path, uint32_t id)
     if (typed == 0)
         return;
     put(deadline, MISHTODRAN_CHAIN_DEADLINE_BYTES, typed);
+    if (access(path, W_OK) != 0) /* a file that is renamed over it would not ask */
+        fail(path, strerror(errno));
 
     /* Others may have saved while the user looked at the figures. So the file is read again, and others wait meanwhile;
        where this very record is another now, the save is refused. */

@@ -34,7 +34,7 @@ END = struct.Struct("<2sH")  # mark, number of chains
 
 KINDS = ("synchronous", "asynchronous")
 U8, U16, U32 = 2**8 - 1, 2**16 - 1, 2**32 - 1
-LONGEST = 2**20  # bytes of a file that is read
+LONGEST_TABLE, LONGEST_TEXT = 2**18, 2**20  # bytes of a file that is read; the text of such a table is shorter
 TOLD = 20  # mistakes of a text
 
 
@@ -212,11 +212,11 @@ def text_of(s):
 
 # ---- Files ----
 
-def read(path):
+def read(path, longest):
     with open(path, "rb") as file:
-        found = file.read(LONGEST + 1)
-    if len(found) > LONGEST:
-        raise OSError(errno.EFBIG, f"longer than {LONGEST} bytes", path)
+        found = file.read(longest + 1)
+    if len(found) > longest:
+        raise OSError(errno.EFBIG, f"longer than {longest} bytes", path)
     return found
 
 
@@ -273,13 +273,14 @@ def print_text(text):
 # ---- The command ----
 
 def say(line):
-    print(line, file=sys.stderr)
+    if sys.stderr:
+        print(line, file=sys.stderr)
 
 
 def make(text, table):
     """Makes the table of a text, in files; the exit status."""
     try:
-        made = table_of(read(text))
+        made = table_of(read(text, LONGEST_TEXT))
     except Mistake as mistake:
         for what in mistake.args[:TOLD]:
             say(f"{text}:{what}")
@@ -295,7 +296,7 @@ def make(text, table):
 def show(table):
     """Prints the text of a table in a file; the exit status."""
     try:
-        text = text_of(read(table))
+        text = text_of(read(table, LONGEST_TABLE))
     except Mistake as mistake:
         say(f"{table}: {mistake}")
         return 2

@@ -35,6 +35,11 @@ check() {
     fail "$what"
 }
 
+# print TEXT: on standard output.
+print() {
+    printf '%s\n' "$1" 2>/dev/null || fail "standard output cannot be written"
+}
+
 # ---- Numbers ----
 
 # whole_number WORD LOW HIGH: whether the word is digits alone, at most 18, and says a number from LOW to HIGH.
@@ -84,10 +89,13 @@ toolchain() {
 # ---- C programs ----
 # The library is for x86-64, and so are the C programs around it.
 
+# The compiler of this machine, for what runs on it alone; Debian's package gcc.
+native_compilers=(gcc cc)
+
 # The two settings. CC_X86_64 and EMULATOR_X86_64 name another compiler and another emulator.
 case $(uname -m) in
     x86_64 | amd64)
-        c_compilers=(gcc cc)
+        c_compilers=("${native_compilers[@]}")
         c_package=gcc
         c_link=()
         c_emulators=()
@@ -158,7 +166,7 @@ run_proved() {
 # The folder itself is locked, since rt ci removes target/.
 lock() {
     command -v flock >/dev/null || fail "there is no flock here: install Debian's package util-linux"
-    exec 9<"$top" || fail "$top cannot be read"
+    { exec 9<"$top"; } 2>/dev/null || fail "$top cannot be read"
     flock -n 9 && return
     say "waiting for another build"
     flock 9 || fail "$top cannot be locked"

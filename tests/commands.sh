@@ -265,7 +265,29 @@ gate() {
         expect 2 "*" "*gate: *" "*" .ci/run
         stand_in "$one" <<<':'
     done
+    for one in try_table pack_all try_docs; do
+        stand_in "$tools/python3" <<<"case \$1 in */$one.py) exit 1 ;; esac"
+        expect 1 "*" "*gate: *" "*" .ci/run
+    done
+    stand_in "$tools/python3" <<<':'
+    touch "$room/unformatted"
+    expect 1 "*" "*gate: some files are not in rt's layout" "*" .ci/run
+    rm "$room/unformatted"
+    for one in sample report; do
+        echo >>"$copy/crates/$one/stdin"
+        expect 1 "*" "*gate: crates/$one/stdin is not examples/sample.table" "*" .ci/run
+        cp "$copy/examples/sample.table" "$copy/crates/$one/stdin"
+    done
+    rm -r "$copy/target"
+    touch "$room/makes_nothing"
+    expect 2 "*" "*gate: the library was not built" "*" .ci/run
+    rm "$room/makes_nothing"
     expect 0 "*"$'\n'"2 passed, 0 failed" "*" "*rt ci*" .ci/run
+    for one in "0 passed, 0 failed" "2 passed, 1 failed" "passed"; do
+        echo "$one" >"$room/verdict"
+        expect 1 "*$one" "*gate: rt ci did not pass (exit status 0)*" "*rt ci" .ci/run
+    done
+    rm "$room/verdict"
     during <<<'echo "1 passed, 1 failed" && exit 1'
     expect 1 "*1 passed, 1 failed" "*gate: rt ci did not pass (exit status 1)*" "*rt ci" .ci/run
 }
@@ -281,4 +303,4 @@ machine_aarch64
 packages
 glpk
 gate
-echo "commands: as they should be"
+print "commands: as they should be"

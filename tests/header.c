@@ -1,5 +1,6 @@
-/* Holds the constants of mishtodran.h against the library: the version, the fields of the records and the limits. Tables
-   are made by the constants alone, and what the library says of each shows whether they are right.
+/* Holds the constants of mishtodran.h against the library: the version, the fields of the records, the limits and the
+   lengths of the answers. Tables are made by the constants alone, and what the library says of each shows whether they
+   are right.
    Usage: header */
 #include "mishtodran.h"
 
@@ -195,12 +196,30 @@ static bool limits_hold(void)
     return right;
 }
 
+/* An entry takes an answer buffer of its length, and none that is shorter. */
+#define FITS(entry, call) \
+    (length = MISHTODRAN_##entry##_BYTES, is_same(#entry, (call) == MISHTODRAN_ANSWER_TOO_SHORT, false)) && \
+        (length = MISHTODRAN_##entry##_BYTES - 1, is_same(#entry, call, MISHTODRAN_ANSWER_TOO_SHORT))
+
+static bool answers_hold(void)
+{
+    uint8_t table[MISHTODRAN_MOST_TABLE_BYTES], old[MISHTODRAN_LEAST_CHAIN_RECORD_BYTES];
+    uint8_t answer[MISHTODRAN_LATENCY_BYTES], text[MISHTODRAN_LONGEST_REPORT];
+    size_t used = put_table(table, 1, 1, 1), length;
+    put_chain(old, 1, 1, 1);
+    return FITS(LATENCY, mishtodran_latency(table, used, 1, answer, length)) &&
+           FITS(MISSES, mishtodran_misses(table, used, 1, 1, answer, length)) &&
+           FITS(SEGMENT, mishtodran_segment(table, used, 1, 1, 1, answer, length)) &&
+           FITS(SAVE, mishtodran_save(table, sizeof table, used, old, sizeof old, old, sizeof old, answer, length)) &&
+           FITS(REPORT, mishtodran_report(table, used, text, sizeof text, answer, length));
+}
+
 int main(void)
 {
     bool version = is_same("version of the library", mishtodran_version(), MISHTODRAN_VERSION);
-    bool fields = fields_hold(), limits = limits_hold();
-    if (!version || !fields || !limits)
+    bool fields = fields_hold(), limits = limits_hold(), answers = answers_hold();
+    if (!version || !fields || !limits || !answers)
         return 1;
-    puts("the header's version, fields and limits are the library's");
+    puts("the header's version, fields, limits and answers are the library's");
     return 0;
 }

@@ -119,4 +119,4 @@ fails "no standard input" "mishtodran: standard input is closed" closed_input
 fails "a failing read" "report: standard input could not be read
 mishtodran: there is no report" failing_input
 fails "a full disk" "mishtodran: standard output cannot be written" full_disk
-echo "report_command: as it should be"
+print "report_command: as it should be"

@@ -94,6 +94,15 @@ mkdir "$table.new"
 ends 2 "editor: $table.new: File exists" 64 "$table" 1
 rmdir "$table.new"
 
+# A table that its user may not write, in a folder that he may.
+{ cp "$sample" "$table.protected" && chmod 444 "$table.protected" && chmod 777 "$room"; } || fail "$room cannot be written"
+user=()
+[ "$(id -u)" != 0 ] || user=(setpriv --reuid=65534 --regid=65534 --clear-groups)
+echo 64 | "${user[@]}" "${c_runner[@]}" "$room/editor" "$table.protected" 1 >"$room/out" 2>"$room/err"
+[ "${PIPESTATUS[1]}" = 2 ] || found "the example editor: a write-protected table: the status is not 2"
+[ "$(cat "$room/err")" = "editor: $table.protected: Permission denied" ] || found "the example editor: a write-protected table: it says '$(cat "$room/err")'"
+cmp -s "$sample" "$table.protected" || found "the example editor changed a write-protected table"
+
 # The record changes while an editor shows it: the later save is refused.
 fresh
 mkfifo "$room/late" "$room/one" "$room/two"
@@ -135,4 +144,4 @@ mkdir "$room/other"
 sed 's/^#define MISHTODRAN_VERSION .*/#define MISHTODRAN_VERSION 0/' "$include/mishtodran.h" >"$room/other/mishtodran.h"
 c_build "$room/editor" -I "$room/other" "$top/examples/editor.c" "$library" || fail "examples/editor.c was not built"
 ends 2 "editor: library: it is of another version than the header" 64 "$table" 1
-echo "the example editor does what is expected"
+print "the example editor does what is expected"

@@ -8,8 +8,9 @@
 #   in_copy WORDS..   runs a command in the copy, with the stand-ins alone
 #   try WORDS..       the same: leaves its exit status in `status`, what it wrote in $room/out and $room/err
 #
-# The stand-in rt runs $room/during, where there is one, in the middle of a build, and makes no library where there is
-# $room/makes_nothing. What it links as the report runs $room/says.
+# The stand-in rt runs $room/during, where there is one, in the middle of a build. It makes no library where there is
+# $room/makes_nothing, finds a file that is not in its layout where there is $room/unformatted, and ends the gate with the
+# line of $room/verdict, if any. What it links as the report runs $room/says.
 
 room=$(mktemp -d) || fail "no temporary folder can be made"
 trap 'rm -rf "$room"' EXIT
@@ -59,14 +60,14 @@ EOT
     stand_in "$tools/rt" <<'EOT'
 case $1 in
     version) echo stand-in && exit ;;
-    fmt) exit ;;
+    fmt) [ ! -e "$ROOM/unformatted" ]; exit ;;
 esac
 echo "rt $*" >>"$ROOM/called"
 mkdir -p target/bin target/staticlib
 [ ! -x "$ROOM/during" ] || "$ROOM/during" || exit
 case $1 in
     staticlib) [ -e "$ROOM/makes_nothing" ] || cat crates/*/src/*.rt >"target/staticlib/lib$2.a" ;;
-    ci) echo "rt: ok" && echo "2 passed, 0 failed" ;;
+    ci) echo "rt: ok" && { cat "$ROOM/verdict" 2>/dev/null || echo "2 passed, 0 failed"; } ;;
     check)
         shift
         for crate in "$@"; do

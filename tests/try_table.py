@@ -226,7 +226,7 @@ USES = [
     (["text", "link"], "link: the text itself, which would be lost"),
     (["--text", "none"], "none: No such file or directory"),
     (["--text", "folder"], "folder: Is a directory"),
-    (["--text", "long"], "long: longer than 1048576 bytes"),
+    (["--text", "long"], "long: longer than 262144 bytes"),
 ]
 
 
@@ -262,12 +262,33 @@ def failing_output():
     due(said == (2, None, "table.py: standard output: No space left on device\n"), f"standard output that is full: {said}")
     said = run("--text", "table", preexec_fn=lambda: os.close(1))
     due(said == (2, b"", "table.py: standard output: Bad file descriptor\n"), f"standard output that is closed: {said}")
-    if os.geteuid() != 0:  # root may write all the same
-        os.chmod("table", 0o444)
-        said = run("text", "table")
-        due(said == (2, b"", "table.py: table: Permission denied\n"), f"a target that is write-protected: {said}")
-        os.chmod("table", 0o644)
     due(there() == before, "a failed run has written something")
+
+
+def write_protected():
+    """A target that its user may not write, in a folder that he may. Root may write all, so another user tries."""
+    before = there()
+    os.chmod(".", 0o777)
+    os.chmod("table", 0o444)
+    child = os.fork()
+    if child == 0:
+        if os.geteuid() == 0:
+            os.setuid(65534)
+        with redirect_stderr(io.StringIO()) as said:
+            status = command(["text", "table"])
+        os._exit((status, said.getvalue()) != (2, "table.py: table: Permission denied\n"))
+    due(os.waitpid(child, 0)[1] == 0, "a target that is write-protected is not refused")
+    os.chmod("table", 0o644)
+    due(there() == before, "a write-protected target was written")
+
+
+def renamed():
+    """Who has the old table open reads it to its end."""
+    Path("table").write_bytes(SAMPLE)
+    with open("table", "rb") as opened:
+        due(run("text", "table") == (0, b"", ""), "a good text: the command failed")
+        due(opened.read() == SAMPLE, "the target was written over, not replaced")
+    due(Path("table").read_bytes() == TEXTS[0][1], "a good text: another table")
 
 
 def permission_bits():
@@ -296,6 +317,8 @@ def main(words):
         no_text()
         wrong_uses()
         failing_output()
+        write_protected()
+        renamed()
         permission_bits()
         os.chdir("/")
     for what in wrong:

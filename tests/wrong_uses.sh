@@ -88,12 +88,14 @@ wrong 2 "report_command: usage: tests/report_command.sh" tests/report_command.sh
 wrong 2 "gate: usage: .ci/run" .ci/run all
 
 # The C programs by themselves, built for this machine.
-compiler=$(first_command gcc cc) || fail "there is no C compiler (gcc cc) here: install Debian's package gcc"
+c_compilers=("${native_compilers[@]}")
+c_package=gcc
+find_compiler
 mkdir "$copy/built" || fail "$room cannot be written"
 for program in compare bench reports; do
-    "$compiler" -std=c11 -o "$copy/built/$program" "$top/compare"/{"$program",generate,analyzer,words,shim}.c || fail "$program was not built"
+    "$c_compiler" -std=c11 -o "$copy/built/$program" "$top/compare"/{"$program",generate,analyzer,words,shim}.c || fail "$program was not built"
 done
-"$compiler" -std=c11 -o "$copy/built/worst" "$top/packing/worst.c" "$top/compare/words.c" || fail "worst was not built"
+"$c_compiler" -std=c11 -o "$copy/built/worst" "$top/packing/worst.c" "$top/compare/words.c" || fail "worst was not built"
 n='N is a whole number from 1 to'
 seed='SEED is a whole number from 0 to 4294967295, not'
 wrong 2 "compare: usage: compare SEED N [walked]" built/compare 1
@@ -112,4 +114,4 @@ wrong 2 "reports: $n 10000, not '-3'" built/reports 1 -3 examples
 wrong 2 "reports: none/1.table cannot be written" built/reports 1 1 none
 wrong 2 "worst: $seed 'x'" built/worst none table x 1
 wrong 2 "worst: RUNS is a whole number from 1 to 1000000000, not '-3'" built/worst none table 1 -3
-echo "wrong_uses: $tried wrong uses are refused as they should be"
+print "wrong_uses: $tried wrong uses are refused as they should be"
