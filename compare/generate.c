@@ -675,12 +675,11 @@ static void set_field(struct source *source, struct generated *table, struct fie
     table->damage = "a field set";
 }
 
-/* Two chains that bear one id. */
-static void repeat_id(struct source *source, struct generated *table)
+/* Two of at least two chains bear one id. */
+static void repeat_id(struct source *source, struct generated *table, unsigned chains)
 {
-    size_t second = 16 + 4u * table->bytes[14] + 8u * table->bytes[15];
-    (void)source;
-    memcpy(table->bytes + second + 2, table->bytes + 2, 2);
+    unsigned later = (unsigned)draw(source, 1, chains - 1), earlier = (unsigned)draw(source, 0, later - 1);
+    memcpy(table->bytes + record_at(table, later) + 2, table->bytes + record_at(table, earlier) + 2, 2);
     table->damage = "an id repeated";
 }
 
@@ -713,7 +712,7 @@ static void damage(struct source *source, struct generated *table, unsigned chai
         break;
     case 5:
         if (chains > 1)
-            repeat_id(source, table);
+            repeat_id(source, table, chains);
         break;
     case 6: {
         struct field one = any_field(source, table, chains), other = any_field(source, table, chains);
@@ -937,25 +936,34 @@ static void spoil(struct source *source, struct generated *table, const struct l
         spoil_value(source, table, record, step);
 }
 
-/* An end record after all chains or before the first, its count right or wrong: the table ends before it, in its mark or
-   its count, with it, or later. */
+/* An end record after all chains or before the first, its count right, wrong, or wrong in its second byte. The table
+   ends before it, in its mark or its count, with it, or later. */
 static void spoil_end(struct source *source, struct generated *table, unsigned chains)
 {
     static const uint8_t chain_0[] = {'C', 'H', 0, 0};
     if (one_in(source, 3))
         chains = 0;
+    const uint32_t counts[] = {chains, chains, (uint32_t)draw(source, 0, 17), chains + 256};
     uint8_t *end = table->bytes + record_at(table, chains);
-    uint8_t *after = put(put_mark(end, "EN"), one_in(source, 2) ? chains : draw(source, 0, 17), 2);
+    uint8_t *after = put(put_mark(end, "EN"), pick(source, counts, 4), 2);
     memcpy(after, one_in(source, 2) ? chain_0 : (const uint8_t *)"XXXX", 4);
     table->length = (size_t)(end - table->bytes) + draw(source, 0, 8);
 }
 
-/* A fault of one chain and some of those that come next in order, or the id of the next chain; of a 17th chain only where
-   it begins. */
-static void spoil_chain(struct source *source, struct generated *table, unsigned chains, unsigned place)
+/* The first chain that lists most distances. */
+static unsigned longest_list(const struct generated *table, unsigned chains)
+{
+    unsigned found = 0;
+    for (unsigned i = 1; i < chains; i++)
+        if (table->bytes[record_at(table, i) + 14] > table->bytes[record_at(table, found) + 14])
+            found = i;
+    return found;
+}
+
+/* A fault of a chain in this step, and in some of the three after it; now and then the next chain's id is wrong too. */
+static void spoil_chain(struct source *source, struct generated *table, unsigned chains, unsigned place, unsigned first)
 {
     struct layout record = layout_of(source, table, place);
-    unsigned first = (unsigned)draw(source, 0, chains == 17 ? FIXED_PART_THERE : STEPS - 1);
     if (place + 1 < chains && one_in(source, 5))
         put(table->bytes + record_at(table, place + 1) + 2, 0, 2);
     for (unsigned step = least(first + 3, STEPS - 1); step > first; step--)
@@ -964,14 +972,19 @@ static void spoil_chain(struct source *source, struct generated *table, unsigned
     spoil(source, table, &record, first);
 }
 
-/* Spoils a table that was made without damage; now and then it is too long as well. */
-static void spoil_together(struct source *source, struct generated *table, unsigned chains)
+/* Of 17 chains only where the last begins; now and then the table is too long as well. */
+void spoil_together(struct source *source, struct generated *table, unsigned chains)
 {
-    unsigned place = chains == 17 ? 16 : (unsigned)draw(source, 0, chains);
-    if (place < chains)
-        spoil_chain(source, table, chains, place);
-    else
+    unsigned place = (unsigned)draw(source, 0, chains);
+    if (chains == 17)
+        spoil_chain(source, table, chains, 16, (unsigned)draw(source, 0, FIXED_PART_THERE));
+    else if (place == chains)
         spoil_end(source, table, chains);
+    else if (one_in(source, 3))
+        spoil_chain(source, table, chains, longest_list(table, chains),
+                    (unsigned)draw(source, LIST_THERE, GAP_TOO_SMALL));
+    else
+        spoil_chain(source, table, chains, place, (unsigned)draw(source, 0, STEPS - 1));
     if (one_in(source, 12))
         while (table->length <= 1284)
             table->bytes[table->length++] = 0;
@@ -980,12 +993,13 @@ static void spoil_together(struct source *source, struct generated *table, unsig
 
 /* ---- Any table ---- */
 
-/* Whether damage has left a table that is accepted, is busy almost all the time and has close arrivals. */
+/* Whether damage has left an accepted table in which a window may hold thousands of arrivals. No window is much wider
+   than what every chain asks for with its whole list at once, in the part of the time that is left. */
 static bool takes_long(const struct generated *table)
 {
     uint8_t answer[16];
-    uint64_t busy = 0; /* of a thousand */
-    bool close = false;
+    uint64_t at_once = 0, closest = LATEST, window = LATEST;
+    uint64_t busy = 0; /* of a million */
     if (plain_latency(table->bytes, table->length, 0, answer, sizeof answer) != 12)
         return false;
     for (const uint8_t *at = table->bytes; at[0] == 'C';) {
@@ -993,11 +1007,14 @@ static bool takes_long(const struct generated *table)
         uint64_t last = get(at + 12 + 4 * listed, 4), cost = 0;
         for (unsigned i = 0; i < tasks; i++)
             cost += get(at + 16 + 4 * listed + 8 * i + 4, 4);
-        busy += cost * listed * 1000 / last;
-        close = close || last / listed < 8000;
+        at_once += cost * listed;
+        busy += cost * listed * 1000000 / last;
+        closest = least(closest, last / listed);
         at += 16 + 4 * listed + 8 * tasks;
     }
-    return close && busy >= 950;
+    if (busy < 999000)
+        window = least(at_once * 1000000 / (1000000 - busy), LATEST);
+    return window > 2000 * closest;
 }
 
 static struct made_table documented(struct source *source)
