@@ -834,7 +834,7 @@ static void spoil_last_distance(struct source *source, uint8_t *list, unsigned l
 }
 
 /* A list that the gap just allows, but for one distance. */
-static void spoil_gap(struct source *source, uint8_t *gap_field, uint8_t *list, unsigned listed)
+static void exceed_gap(struct source *source, uint8_t *gap_field, uint8_t *list, unsigned listed)
 {
     uint32_t gap = (uint32_t)draw(source, 1, one_in(source, 2) ? 9 : LATEST / 9);
     unsigned place = (unsigned)draw(source, 0, listed - 1);
@@ -890,7 +890,7 @@ static void spoil_list(struct source *source, struct generated *table, const str
         spoil_last_distance(source, list, record->listed);
         break;
     default:
-        spoil_gap(source, table->bytes + record->at + 10, list, record->listed);
+        exceed_gap(source, table->bytes + record->at + 10, list, record->listed);
     }
 }
 
