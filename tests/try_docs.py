@@ -1,5 +1,6 @@
 #!/usr/bin/env python3
-"""Holds the docs against what they speak of: the header's refusals, fields, entries and version, and the bytes of the sample.
+"""Holds the docs, and the sentences of `./mishtodran check`, against what they speak of: the header's refusals, fields, entries
+and version, the bytes of the sample, and the line for a damaged table.
 
 Usage: try_docs.py
 
@@ -13,6 +14,9 @@ from table import end
 
 HEADER = (TOP / "include" / "mishtodran.h").read_text("utf8")
 CONSTANTS = {name: int(value) for name, value in re.findall(r"MISHTODRAN_(\w+)(?: =)? (\d+)", HEADER)}
+# Name, number and sentence of each refusal.
+REFUSALS = re.findall(r"MISHTODRAN_(\w+) = (\d+),? +/\* (.*) \*/\n",
+                      HEADER.partition("enum mishtodran_refusal {")[2].partition("};")[0])
 
 
 def text_of(name):
@@ -21,8 +25,7 @@ def text_of(name):
 
 def refusals():
     """Lines for the numbers and names that docs/REFUSALS.md and the header do not have alike."""
-    listed = re.search(r"enum mishtodran_refusal \{(.*?)\n\};", HEADER, re.S)
-    due = re.findall(r"MISHTODRAN_(\w+) = (\d+)", listed.group(1)) if listed else []
+    due = [(name, number) for name, number, _ in REFUSALS]
     rows = re.findall(r"^\| (\d+) \| `(\w+)` \|", text_of("docs/REFUSALS.md"), re.M)
     there = [(name, number) for number, name in rows]
     if not due:
@@ -73,6 +76,18 @@ def entries():
     return lines
 
 
+def sentences():
+    """Lines for the sentences of `./mishtodran check` that are not the header's, and for docs that show another line."""
+    said = re.findall(r'^ +(\d+) => put\(b"(.*)"\),$', text_of("crates/table_check/src/sentence.rt"), re.M)
+    due = [(number, what) for _, number, what in REFUSALS if int(number) in NUMBERS]
+    lines = [f"sentence.rt has not the header's {number}: {what}" for number, what in due if (number, what) not in said]
+    if len(said) != len(NUMBERS):
+        lines.append(f"sentence.rt has {len(said)} sentences, and a table {len(NUMBERS)} numbers")
+    shown = f"    {text_of('crates/table_check/stdout')}"
+    return lines + [f"{name} does not show the line for the damaged table" for name in ("README.md", "docs/REFUSALS.md")
+                    if shown not in text_of(name)]
+
+
 def drawing():
     """Lines for the bytes that docs/TABLE.md draws otherwise than the sample has them."""
     sample = (TOP / "examples" / "sample.table").read_bytes()
@@ -91,7 +106,7 @@ def main(words):
     if words:
         print("try_docs.py: usage: try_docs.py", file=sys.stderr)
         return 2
-    wrong = refusals() + fields() + entries() + drawing()
+    wrong = refusals() + fields() + entries() + sentences() + drawing()
     for line in wrong or ["as it should be"]:
         print(f"try_docs: {line}")
     return 1 if wrong else 0
