@@ -46,6 +46,29 @@ struct table {
 
 /* ---- Stored table ---- */
 
+/* Where a field stands in its record: a chain's fixed part, a task, the end. */
+enum {
+    ID_AT = 2,
+    KIND_AT = 4,
+    OVERLOAD_AT = 5,
+    DEADLINE_AT = 6,
+    GAP_AT = 10,
+    LIST_LENGTH_AT = 14,
+    TASK_COUNT_AT = 15,
+    PRIORITY_AT = 2,
+    COST_AT = 4,
+    CHAIN_COUNT_AT = 2
+};
+
+/* The first fault of a table: its number, and the offset of the field at fault. No fault is 0 and 0. */
+struct fault {
+    uint32_t number, at;
+};
+
+static struct fault fault_at(uint32_t number, size_t at) { return (struct fault){number, (uint32_t)at}; }
+
+static struct fault no_fault(void) { return fault_at(0, 0); }
+
 static uint32_t number16(const uint8_t *at) { return at[0] | (uint32_t)at[1] << 8; }
 
 static uint32_t number32(const uint8_t *at) { return number16(at) | number16(at + 2) << 16; }
@@ -71,115 +94,131 @@ static unsigned tasks_so_far(const struct table *table)
     return sum;
 }
 
-/* The fields of a chain's fixed part, in their order. `table` holds the chains before it. */
-static uint32_t read_fixed_part(const uint8_t *at, const struct table *table, struct chain *chain)
+/* The fields of the fixed part at chain->at, in their order. `table` holds the chains before it. */
+static struct fault read_fixed_part(const uint8_t *bytes, const struct table *table, struct chain *chain)
 {
-    chain->id = number16(at + 2);
+    size_t at = chain->at;
+    const uint8_t *fixed_part = bytes + at;
+    chain->id = number16(fixed_part + ID_AT);
     if (chain->id == 0 || id_used(table, chain->id))
-        return 4;
-    if (at[4] > 1 || at[5] > 1)
-        return 5;
-    chain->asynchronous = at[4] == 1;
-    chain->overload = at[5] == 1;
-    chain->deadline = number32(at + 6);
+        return fault_at(4, at + ID_AT);
+    if (fixed_part[KIND_AT] > 1)
+        return fault_at(5, at + KIND_AT);
+    if (fixed_part[OVERLOAD_AT] > 1)
+        return fault_at(5, at + OVERLOAD_AT);
+    chain->asynchronous = fixed_part[KIND_AT] == 1;
+    chain->overload = fixed_part[OVERLOAD_AT] == 1;
+    chain->deadline = number32(fixed_part + DEADLINE_AT);
     if (chain->deadline < 1 || chain->deadline > MOST_TIME)
-        return 6;
-    chain->gap = number32(at + 10);
+        return fault_at(6, at + DEADLINE_AT);
+    chain->gap = number32(fixed_part + GAP_AT);
     if (chain->gap > MOST_TIME)
-        return 7;
-    chain->listed = at[14];
+        return fault_at(7, at + GAP_AT);
+    chain->listed = fixed_part[LIST_LENGTH_AT];
     if (chain->listed < 1 || chain->listed > MOST_LISTED)
-        return 8;
-    chain->tasks = at[15];
+        return fault_at(28, at + LIST_LENGTH_AT);
+    chain->tasks = fixed_part[TASK_COUNT_AT];
     if (chain->tasks < 1 || chain->tasks > MOST_TASKS || tasks_so_far(table) + chain->tasks > MOST_TASKS_IN_ALL)
-        return 9;
-    return 0;
+        return fault_at(9, at + TASK_COUNT_AT);
+    return no_fault();
 }
 
-/* The listed distances: distance[i] is that of i + 2 activations. */
-static uint32_t read_list(const uint8_t *at, struct chain *chain)
+/* The listed distances: distance[i] is that of i + 2 activations. All are held against the limit and the one before,
+   then the last against 0, then all against the gap. */
+static struct fault read_list(const uint8_t *bytes, size_t at, struct chain *chain)
 {
+    uint32_t before = 0;
     for (unsigned i = 0; i < chain->listed; i++) {
-        chain->distance[i] = number32(at + 4 * i);
-        if (chain->distance[i] > MOST_TIME)
-            return 8;
-        if (i > 0 && chain->distance[i] < chain->distance[i - 1])
-            return 8;
-        if (chain->gap != 0 && (uint64_t)chain->gap * (i + 1) < chain->distance[i])
-            return 8;
+        uint32_t distance = number32(bytes + at + 4 * i);
+        if (distance < before || distance > MOST_TIME)
+            return fault_at(29, at + 4 * i);
+        chain->distance[i] = before = distance;
     }
-    return chain->distance[chain->listed - 1] == 0 ? 8 : 0;
+    if (before == 0)
+        return fault_at(30, at + 4 * (chain->listed - 1));
+    if (chain->gap == 0)
+        return no_fault();
+    for (unsigned i = 0; i < chain->listed; i++)
+        if ((uint64_t)chain->gap * (i + 1) < chain->distance[i])
+            return fault_at(31, chain->at + GAP_AT);
+    return no_fault();
 }
 
-static uint32_t read_task(const uint8_t *bytes, size_t length, size_t at, struct task *task)
+static struct fault read_task(const uint8_t *bytes, size_t length, size_t at, struct task *task)
 {
     if (!there(length, at, 2))
-        return 2;
+        return fault_at(2, length);
     if (!is_mark(bytes + at, "TK"))
-        return 3;
+        return fault_at(3, at);
     if (!there(length, at, TASK_BYTES))
-        return 2;
-    task->priority = number16(bytes + at + 2);
-    task->cost = number32(bytes + at + 4);
-    return task->priority == 0 || task->cost < 1 || task->cost > MOST_COST ? 10 : 0;
+        return fault_at(2, length);
+    task->priority = number16(bytes + at + PRIORITY_AT);
+    if (task->priority == 0)
+        return fault_at(10, at + PRIORITY_AT);
+    task->cost = number32(bytes + at + COST_AT);
+    if (task->cost < 1 || task->cost > MOST_COST)
+        return fault_at(10, at + COST_AT);
+    return no_fault();
 }
 
 /* The chain record at `at`, whose mark has been seen. */
-static uint32_t read_chain(const uint8_t *bytes, size_t length, size_t at, struct table *table)
+static struct fault read_chain(const uint8_t *bytes, size_t length, size_t at, struct table *table)
 {
     if (table->chains == MOST_CHAINS)
-        return 11;
+        return fault_at(11, at);
     if (!there(length, at, FIXED_BYTES))
-        return 2;
+        return fault_at(2, length);
     struct chain *chain = &table->chain[table->chains];
     chain->at = at;
-    uint32_t fault = read_fixed_part(bytes + at, table, chain);
-    if (fault)
+    struct fault fault = read_fixed_part(bytes, table, chain);
+    if (fault.number)
         return fault;
     at += FIXED_BYTES;
     if (!there(length, at, 4 * chain->listed))
-        return 2;
-    fault = read_list(bytes + at, chain);
-    if (fault)
+        return fault_at(2, length);
+    fault = read_list(bytes, at, chain);
+    if (fault.number)
         return fault;
     at += 4 * chain->listed;
     chain->tasks_at = at;
     for (unsigned i = 0; i < chain->tasks; i++) {
         fault = read_task(bytes, length, at, &chain->task[i]);
-        if (fault)
+        if (fault.number)
             return fault;
         at += TASK_BYTES;
     }
     chain->end = at;
     table->chains++;
-    return 0;
+    return no_fault();
 }
 
-static uint32_t read_end(const uint8_t *bytes, size_t length, size_t at, const struct table *table)
+static struct fault read_end(const uint8_t *bytes, size_t length, size_t at, const struct table *table)
 {
     if (!there(length, at, END_BYTES))
-        return 2;
-    if (table->chains == 0 || number16(bytes + at + 2) != table->chains || at + END_BYTES != length)
-        return 11;
-    return 0;
+        return fault_at(2, length);
+    if (table->chains == 0 || number16(bytes + at + CHAIN_COUNT_AT) != table->chains)
+        return fault_at(11, at + CHAIN_COUNT_AT);
+    if (at + END_BYTES != length)
+        return fault_at(11, at + END_BYTES);
+    return no_fault();
 }
 
-/* Refusals 1 to 11 of `length` bytes; 0 and the table where there is none. */
-static uint32_t read_table(const uint8_t *bytes, size_t length, struct table *table)
+/* The first fault of `length` bytes; where there is none, the table. */
+static struct fault read_table(const uint8_t *bytes, size_t length, struct table *table)
 {
     table->chains = 0;
     if (length == 0 || length > MOST_BYTES)
-        return 1;
+        return fault_at(1, 0);
     size_t at = 0;
     for (;;) {
         if (!there(length, at, 2))
-            return 2;
+            return fault_at(2, length);
         if (is_mark(bytes + at, "EN"))
             return read_end(bytes, length, at, table);
         if (!is_mark(bytes + at, "CH"))
-            return 3;
-        uint32_t fault = read_chain(bytes, length, at, table);
-        if (fault)
+            return fault_at(3, at);
+        struct fault fault = read_chain(bytes, length, at, table);
+        if (fault.number)
             return fault;
         at = table->chain[table->chains - 1].end;
     }
@@ -778,7 +817,8 @@ static bool may_replace(const uint8_t *record, size_t record_len, uint32_t id)
 {
     if (record_len < FIXED_BYTES || !is_mark(record, "CH"))
         return false;
-    return record_len == FIXED_BYTES + 4u * record[14] + (size_t)TASK_BYTES * record[15] && number16(record + 2) == id;
+    size_t length = FIXED_BYTES + 4u * record[LIST_LENGTH_AT] + (size_t)TASK_BYTES * record[TASK_COUNT_AT];
+    return record_len == length && number16(record + ID_AT) == id;
 }
 
 static uint32_t save(uint8_t *buffer, size_t buffer_len, uint64_t used, const uint8_t *old_record, size_t old_len,
@@ -787,9 +827,9 @@ static uint32_t save(uint8_t *buffer, size_t buffer_len, uint64_t used, const ui
     struct table table;
     if (used > buffer_len)
         return 1;
-    uint32_t fault = read_table(buffer, (size_t)used, &table);
-    if (fault)
-        return fault;
+    uint32_t refusal = read_table(buffer, (size_t)used, &table).number;
+    if (refusal)
+        return refusal;
     const struct chain *old = find_record(&table, buffer, old_record, old_len);
     if (!old)
         return 22;
@@ -803,9 +843,9 @@ static uint32_t save(uint8_t *buffer, size_t buffer_len, uint64_t used, const ui
     memcpy(result, buffer, old->at);
     memcpy(result + old->at, new_record, new_len);
     memcpy(result + old->at + new_len, buffer + old->end, rest);
-    fault = read_table(result, result_len, &table);
-    if (fault)
-        return fault;
+    refusal = read_table(result, result_len, &table).number;
+    if (refusal)
+        return refusal;
     memcpy(buffer, result, result_len);
     if (result_len < used)
         memset(buffer + result_len, 0, (size_t)used - result_len);
@@ -828,7 +868,7 @@ uint32_t plain_latency(const uint8_t *table, size_t table_len, uint32_t id, uint
     struct figures figures;
     if (answer_len < 16)
         return 27;
-    uint32_t refusal = read_table(table, table_len, &read);
+    uint32_t refusal = read_table(table, table_len, &read).number;
     if (!refusal)
         refusal = latency_of(&read, id, &b, &figures);
     if (refusal)
@@ -847,7 +887,7 @@ uint32_t plain_misses(const uint8_t *table, size_t table_len, uint32_t id, uint3
     uint32_t misses;
     if (answer_len < 4)
         return 27;
-    uint32_t refusal = read_table(table, table_len, &read);
+    uint32_t refusal = read_table(table, table_len, &read).number;
     if (!refusal)
         refusal = misses_of(&read, id, k, &misses);
     if (!refusal)
@@ -862,7 +902,7 @@ uint32_t plain_segment(const uint8_t *table, size_t table_len, uint32_t chain, u
     size_t offset, length;
     if (answer_len < 8)
         return 27;
-    uint32_t refusal = read_table(table, table_len, &read);
+    uint32_t refusal = read_table(table, table_len, &read).number;
     if (!refusal)
         refusal = segment_of(&read, chain, against, number, &offset, &length);
     if (refusal)
@@ -882,6 +922,17 @@ uint32_t plain_save(uint8_t *buffer, size_t buffer_len, uint64_t used, const uin
     if (!refusal)
         put32(answer, (uint32_t)new_used);
     return refusal;
+}
+
+uint32_t plain_check(const uint8_t *table, size_t table_len, uint8_t *answer, size_t answer_len)
+{
+    struct table read;
+    if (answer_len < 8)
+        return 27;
+    struct fault fault = read_table(table, table_len, &read);
+    put32(answer, fault.number);
+    put32(answer + 4, fault.at);
+    return 0;
 }
 
 /* ---- The report ---- */
@@ -922,10 +973,10 @@ static void report_chain(struct text *text, const struct table *table, uint32_t 
 static void report_table(struct text *text, const uint8_t *table, size_t table_len)
 {
     struct table read;
-    uint32_t refusal = read_table(table, table_len, &read);
-    if (refusal) {
+    struct fault fault = read_table(table, table_len, &read);
+    if (fault.number) {
         char line[LONGEST_LINE];
-        snprintf(line, sizeof line, "refused %" PRIu32 "\n", refusal);
+        snprintf(line, sizeof line, "refused %" PRIu32 " %" PRIu32 "\n", fault.number, fault.at);
         say(text, line);
         return;
     }

@@ -1,4 +1,4 @@
-/* The analyzer once more, in plain C, written from document 01 alone and sharing nothing with the proved one.
+/* The analyzer once more, in plain C, written from documents 01 and 02 alone and sharing nothing with the proved one.
    It takes the straightforward way everywhere and is slow on hard tables. It is there to be compared with. */
 #ifndef PLAIN_ANALYZER_H
 #define PLAIN_ANALYZER_H
@@ -12,6 +12,7 @@ uint32_t plain_misses(const uint8_t *table, size_t table_len, uint32_t id, uint3
                       size_t answer_len);
 uint32_t plain_segment(const uint8_t *table, size_t table_len, uint32_t chain, uint32_t against, uint32_t number,
                        uint8_t *answer, size_t answer_len);
+uint32_t plain_check(const uint8_t *table, size_t table_len, uint8_t *answer, size_t answer_len);
 uint32_t plain_save(uint8_t *buffer, size_t buffer_len, uint64_t used, const uint8_t *old_record, size_t old_len,
                     const uint8_t *new_record, size_t new_len, uint8_t *answer, size_t answer_len);
 uint32_t plain_report(const uint8_t *table, size_t table_len, uint8_t *text, size_t text_len, uint8_t *answer,

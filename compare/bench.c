@@ -15,7 +15,7 @@
 #include <string.h>
 #include <time.h>
 
-enum { LATENCY, MISSES, SEGMENT, SAVE, REPORT };
+enum { LATENCY, MISSES, SEGMENT, CHECK, SAVE, REPORT };
 enum { MOST_CALLS = 512, MOST_TABLES = 32, ROUNDS = 25 };
 enum { ROOM = 16 + MISHTODRAN_LONGEST_REPORT }; /* of an answer, and of a report's text after it */
 
@@ -29,7 +29,7 @@ struct stored {
 struct call {
     unsigned entry;
     struct stored *table;
-    uint32_t number[3]; /* id; id, k; chain, against, number */
+    uint32_t number[3]; /* id; id, k; chain, against, number; a check has none */
 };
 
 struct bench_case {
@@ -44,13 +44,14 @@ struct side {
     uint32_t (*latency)(const uint8_t *, size_t, uint32_t, uint8_t *, size_t);
     uint32_t (*misses)(const uint8_t *, size_t, uint32_t, uint32_t, uint8_t *, size_t);
     uint32_t (*segment)(const uint8_t *, size_t, uint32_t, uint32_t, uint32_t, uint8_t *, size_t);
+    uint32_t (*check)(const uint8_t *, size_t, uint8_t *, size_t);
     uint32_t (*save)(uint8_t *, size_t, uint64_t, const uint8_t *, size_t, const uint8_t *, size_t, uint8_t *, size_t);
     uint32_t (*report)(const uint8_t *, size_t, uint8_t *, size_t, uint8_t *, size_t);
 };
 
-static const struct side proved = {mishtodran_latency, mishtodran_misses, mishtodran_segment, mishtodran_save,
-                                   mishtodran_report};
-static const struct side plain = {plain_latency, plain_misses, plain_segment, plain_save, plain_report};
+static const struct side proved = {mishtodran_latency, mishtodran_misses, mishtodran_segment,
+                                   mishtodran_check,   mishtodran_save,   mishtodran_report};
+static const struct side plain = {plain_latency, plain_misses, plain_segment, plain_check, plain_save, plain_report};
 
 /* The deadline of a table's first chain becomes another, and then what it was. */
 static uint32_t save_and_back(const struct side *side, const struct call *call, uint8_t *answer)
@@ -76,6 +77,8 @@ static uint32_t run_call(const struct side *side, const struct call *call, uint8
         return side->misses(bytes, length, call->number[0], call->number[1], answer, 4);
     case SEGMENT:
         return side->segment(bytes, length, call->number[0], call->number[1], call->number[2], answer, 8);
+    case CHECK:
+        return side->check(bytes, length, answer, 8);
     case REPORT:
         return side->report(bytes, length, answer + 16, MISHTODRAN_LONGEST_REPORT, answer, 4);
     default:
@@ -158,6 +161,15 @@ static struct stored *keep(struct made_table table)
     return stored;
 }
 
+/* The same table with one chain more in the count that ends it. */
+static struct stored *keep_miscounted(const struct stored *table)
+{
+    struct stored *stored = &tables[tables_used++];
+    *stored = *table;
+    stored->bytes[stored->length - 2]++;
+    return stored;
+}
+
 static double measure_one(const char *name, unsigned entry, struct stored *table, uint32_t first, uint32_t second,
                           uint32_t third)
 {
@@ -195,8 +207,12 @@ static void usual_cases(struct source *source)
     struct stored *sample = keep(sample_table());
     struct stored *study = keep(case_study());
     struct stored *full = keep(full_table(source));
+    struct stored *miscounted = keep_miscounted(full);
     measure_one("read the sample (140 bytes), refusal 12", LATENCY, sample, 0, 0, 0);
     measure_one("read a full table (1,284 bytes), refusal 12", LATENCY, full, 0, 0, 0);
+    measure_one("check, sample", CHECK, sample, 0, 0, 0);
+    measure_one("check, full table", CHECK, full, 0, 0, 0);
+    measure_one("check, full table, wrong count at its end", CHECK, miscounted, 0, 0, 0);
     measure_one("latency, sample", LATENCY, sample, 1, 0, 0);
     measure_one("misses, sample, k 10", MISSES, sample, 1, 10, 0);
     measure_one("segment, sample", SEGMENT, sample, 3, 1, 2);

@@ -14,14 +14,15 @@
 #include <stdlib.h>
 #include <string.h>
 
-enum { LATENCY, MISSES, SEGMENT, SAVE, REPORT, ENTRIES };
-enum { LONGEST_RECORD = 4096, ANSWER_ROOM = 32, TEXT_ROOM = MISHTODRAN_LONGEST_REPORT + 32, NUMBERS = 28 };
+enum { LATENCY, MISSES, SEGMENT, CHECK, SAVE, REPORT, ENTRIES };
+enum { LONGEST_RECORD = 4096, ANSWER_ROOM = 32, TEXT_ROOM = MISHTODRAN_LONGEST_REPORT + 32, NUMBERS = 32 };
 
-static const char *const entry_name[] = {"latency", "misses", "segment", "save", "report"};
-static const size_t answer_bytes[] = {16, 4, 8, 4};
+static const char *const entry_name[] = {"latency", "misses", "segment", "check", "save", "report"};
+static const size_t answer_bytes[] = {16, 4, 8, 8};
 
-/* How often each entry has returned each number. */
+/* How often each entry has returned each number, and the check has answered it. */
 static uint64_t met[ENTRIES][NUMBERS];
+static uint64_t answered[NUMBERS];
 
 static void print_hex(const char *what, const uint8_t *bytes, size_t length)
 {
@@ -29,6 +30,17 @@ static void print_hex(const char *what, const uint8_t *bytes, size_t length)
     for (size_t i = 0; i < length; i++)
         printf("%02x", bytes[i]);
     putchar('\n');
+}
+
+static void put32(uint8_t *at, uint64_t value)
+{
+    for (unsigned i = 0; i < 4; i++)
+        at[i] = (uint8_t)(value >> 8 * i);
+}
+
+static uint32_t get32(const uint8_t *at)
+{
+    return at[0] | (uint32_t)at[1] << 8 | (uint32_t)at[2] << 16 | (uint32_t)at[3] << 24;
 }
 
 /* ---- Answers of both ---- */
@@ -57,17 +69,17 @@ static void print_outcome(const char *whose, const struct outcome *outcome)
     print_hex("answer buffer and beyond", outcome->answer, ANSWER_ROOM);
 }
 
-static void note(unsigned entry, uint32_t returned)
+static void note(uint64_t counts[NUMBERS], uint32_t number)
 {
-    if (returned < NUMBERS)
-        met[entry][returned]++;
+    if (number < NUMBERS)
+        counts[number]++;
 }
 
 /* ---- Queries ---- */
 
 struct query {
     unsigned entry;
-    uint32_t number[3]; /* id; id, k; chain, against, number */
+    uint32_t number[3]; /* id; id, k; chain, against, number; a check has none */
     size_t answer_len;
 };
 
@@ -79,6 +91,8 @@ static uint32_t ask_proved(const struct generated *table, const struct query *qu
         return mishtodran_latency(table->bytes, table->length, number[0], answer, query->answer_len);
     case MISSES:
         return mishtodran_misses(table->bytes, table->length, number[0], number[1], answer, query->answer_len);
+    case CHECK:
+        return mishtodran_check(table->bytes, table->length, answer, query->answer_len);
     default:
         return mishtodran_segment(table->bytes, table->length, number[0], number[1], number[2], answer,
                                   query->answer_len);
@@ -93,6 +107,8 @@ static uint32_t ask_plain(const struct generated *table, const struct query *que
         return plain_latency(table->bytes, table->length, number[0], answer, query->answer_len);
     case MISSES:
         return plain_misses(table->bytes, table->length, number[0], number[1], answer, query->answer_len);
+    case CHECK:
+        return plain_check(table->bytes, table->length, answer, query->answer_len);
     default:
         return plain_segment(table->bytes, table->length, number[0], number[1], number[2], answer, query->answer_len);
     }
@@ -123,7 +139,9 @@ static uint32_t ask(const struct generated *table, struct query query)
         print_hex("table", table->bytes, table->length);
         stop_at_query(table, &query, &proved, &plain, changed);
     }
-    note(query.entry, proved.returned);
+    note(met[query.entry], proved.returned);
+    if (query.entry == CHECK && proved.returned == 0)
+        note(answered, get32(proved.answer));
     return proved.returned;
 }
 
@@ -209,6 +227,26 @@ static void ask_oddly(struct source *source, const struct generated *table, cons
     }
 }
 
+/* With answer buffers too short, just long enough and longer. */
+static void ask_checks(const struct generated *table)
+{
+    size_t whole = answer_bytes[CHECK];
+    const size_t lengths[] = {0, 1, whole - 1, whole, whole + 1, ANSWER_ROOM};
+    for (unsigned i = 0; i < sizeof lengths / sizeof lengths[0]; i++)
+        ask(table, (struct query){.entry = CHECK, .answer_len = lengths[i]});
+}
+
+/* Spoils an accepted table again and again: a check costs little, and reading has many faults. */
+static void check_spoiled(struct source *source, struct generated *table, unsigned chains)
+{
+    const struct generated accepted = *table;
+    for (unsigned i = 0; i < 16; i++) {
+        *table = accepted;
+        spoil_together(source, table, chains);
+        ask_whole(table, CHECK, 0, 0, 0);
+    }
+}
+
 /* ---- Saves ---- */
 
 struct record {
@@ -255,18 +293,12 @@ static uint32_t save(struct buffer *buffer, const struct record *old, const stru
         print_outcome("plain", &plain);
         exit(1);
     }
-    note(SAVE, plain.returned);
+    note(met[SAVE], plain.returned);
     if (plain.returned == 0) {
         *buffer = for_plain;
-        buffer->used = plain.answer[0] | (uint64_t)plain.answer[1] << 8;
+        buffer->used = get32(plain.answer);
     }
     return plain.returned;
-}
-
-static void put32(uint8_t *at, uint64_t value)
-{
-    for (unsigned i = 0; i < 4; i++)
-        at[i] = (uint8_t)(value >> 8 * i);
 }
 
 /* One task or one distance more or less; a record's counts are its bytes 14 and 15. */
@@ -348,7 +380,7 @@ static void change_record(struct source *source, struct record *record)
 static void spoil_record(struct source *source, struct record *record)
 {
     resize_record(source, record);
-    switch (draw(source, 0, 7)) {
+    switch (draw(source, 0, 9)) {
     case 0:
         record->bytes[2 + draw(source, 0, 1)] ^= (uint8_t)draw(source, 1, 255);
         break;
@@ -368,6 +400,12 @@ static void spoil_record(struct source *source, struct record *record)
         put32(record->bytes + 16, UINT32_MAX); /* a distance, a task's mark and priority, or a cost */
         break;
     case 6:
+        memset(record->bytes + 16, 0, 4u * record->bytes[14]); /* all distances */
+        break;
+    case 7:
+        put32(record->bytes + 10, 1); /* less than most lists ask for */
+        break;
+    case 8:
         record->bytes[record->length - 8] ^= 1;
         break;
     default:
@@ -495,8 +533,8 @@ static size_t report(const struct generated *table, size_t text_len, size_t answ
     if (!same(&proved.outcome, &plain.outcome) || memcmp(proved.text, plain.text, TEXT_ROOM) != 0 ||
         memcmp(lent.bytes, table->bytes, sizeof lent.bytes) != 0)
         stop_at_report(table, &proved, &plain, text_len, answer_len);
-    note(REPORT, plain.outcome.returned);
-    return plain.outcome.returned ? 0 : plain.outcome.answer[0] | (size_t)plain.outcome.answer[1] << 8;
+    note(met[REPORT], plain.outcome.returned);
+    return plain.outcome.returned ? 0 : get32(plain.outcome.answer);
 }
 
 /* Into a buffer of the longest text, of this one's length, and of less; an answer too short comes before that. */
@@ -510,15 +548,19 @@ static void ask_reports(struct source *source, const struct generated *table)
 
 /* ---- All tables ---- */
 
-static void compare_table(struct source *source, const struct generated *table)
+/* The table is spoiled at the end. */
+static void compare_table(struct source *source, struct generated *table)
 {
     struct places places = find_places(table);
     ask_figures(table, &places);
     ask_segments(table, &places);
     ask_oddly(source, table, &places);
+    ask_checks(table);
     for (unsigned i = 0; i < 12; i++)
         save_somehow(source, table, &places);
     ask_reports(source, table);
+    if (places.chains > 0)
+        check_spoiled(source, table, places.chains);
 }
 
 /* The first chain alone, and once. */
@@ -539,15 +581,20 @@ static void on_crash(int number)
     exit(1);
 }
 
+static void print_counts(const char *what, const uint64_t counts[NUMBERS])
+{
+    printf("%s:", what);
+    for (unsigned i = 0; i < NUMBERS; i++)
+        if (counts[i])
+            printf(" %u x %" PRIu64 ",", i, counts[i]);
+    puts(" calls");
+}
+
 static void print_met(void)
 {
-    for (unsigned entry = 0; entry < ENTRIES; entry++) {
-        printf("%s:", entry_name[entry]);
-        for (unsigned i = 0; i < NUMBERS; i++)
-            if (met[entry][i])
-                printf(" %u x %" PRIu64 ",", i, met[entry][i]);
-        puts(" calls");
-    }
+    for (unsigned entry = 0; entry < ENTRIES; entry++)
+        print_counts(entry_name[entry], met[entry]);
+    print_counts("answered by check", answered);
 }
 
 int main(int count, char **words)

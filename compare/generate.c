@@ -675,12 +675,11 @@ static void set_field(struct source *source, struct generated *table, struct fie
     table->damage = "a field set";
 }
 
-/* Two chains that bear one id. */
-static void repeat_id(struct source *source, struct generated *table)
+/* Two of at least two chains bear one id. */
+static void repeat_id(struct source *source, struct generated *table, unsigned chains)
 {
-    size_t second = 16 + 4u * table->bytes[14] + 8u * table->bytes[15];
-    (void)source;
-    memcpy(table->bytes + second + 2, table->bytes + 2, 2);
+    unsigned later = (unsigned)draw(source, 1, chains - 1), earlier = (unsigned)draw(source, 0, later - 1);
+    memcpy(table->bytes + record_at(table, later) + 2, table->bytes + record_at(table, earlier) + 2, 2);
     table->damage = "an id repeated";
 }
 
@@ -713,7 +712,7 @@ static void damage(struct source *source, struct generated *table, unsigned chai
         break;
     case 5:
         if (chains > 1)
-            repeat_id(source, table);
+            repeat_id(source, table, chains);
         break;
     case 6: {
         struct field one = any_field(source, table, chains), other = any_field(source, table, chains);
@@ -728,17 +727,18 @@ static void damage(struct source *source, struct generated *table, unsigned chai
     }
 }
 
-/* ---- Two faults, the one soon after the other in the order of reading ---- */
+/* ---- Faults that are close together in the order of reading ---- */
 
 /* Where the parts of a chain record stand, with one of its tasks. */
 struct layout {
+    unsigned place; /* of the chain in its table */
     size_t at, list, task;
     unsigned listed, tasks_before; /* of the chains before it */
 };
 
 static struct layout layout_of(struct source *source, const struct generated *table, unsigned place)
 {
-    struct layout found = {.at = record_at(table, place)};
+    struct layout found = {.place = place, .at = record_at(table, place)};
     for (unsigned i = 0; i < place; i++)
         found.tasks_before += table->bytes[record_at(table, i) + 15];
     found.listed = table->bytes[found.at + 14];
@@ -756,16 +756,20 @@ enum {
     FIXED_PART_THERE,
     ID,
     KIND,
+    OVERLOAD,
     DEADLINE,
     GAP,
     LIST_LENGTH,
     TASK_COUNT,
     LIST_THERE,
-    LIST,
+    DISTANCES,
+    LAST_DISTANCE,
+    GAP_TOO_SMALL,
     TASK_MARK_THERE,
     TASK_MARK,
     TASK_THERE,
-    TASK,
+    PRIORITY,
+    COST,
     NEXT_THERE,
     NEXT_MARK,
     STEPS
@@ -780,7 +784,7 @@ static size_t end_before(struct source *source, const struct layout *record, uns
     case FIXED_PART_THERE:
         return record->at + draw(source, 2, 15);
     case LIST_THERE:
-        return record->list + (record->listed > 1 ? draw(source, 4, 4 * record->listed - 1) : draw(source, 0, 3));
+        return record->list + draw(source, 0, 4 * record->listed - 1);
     case TASK_MARK_THERE:
         return record->task + draw(source, 0, 1);
     case TASK_THERE:
@@ -790,36 +794,53 @@ static size_t end_before(struct source *source, const struct layout *record, uns
     }
 }
 
+/* 0, or that of a chain before. */
+static uint32_t wrong_id(struct source *source, const struct generated *table, const struct layout *record)
+{
+    if (record->place == 0 || one_in(source, 2))
+        return 0;
+    return get(table->bytes + record_at(table, (unsigned)draw(source, 0, record->place - 1)) + 2, 2);
+}
+
+/* Too many with the tasks before where that can be, or wrong by itself. */
 static uint8_t wrong_task_count(struct source *source, unsigned tasks_before)
 {
     if (tasks_before > 48 && one_in(source, 2))
-        return 16;
+        return (uint8_t)draw(source, MOST_IN_ALL + 1 - tasks_before, 16);
     return (uint8_t)(one_in(source, 2) ? 0 : draw(source, 17, 255));
 }
 
-static void spoil_list(struct source *source, struct generated *table, const struct layout *record)
+/* One distance above the limit, or below the one before it; now and then two of them. */
+static void spoil_distances(struct source *source, uint8_t *list, unsigned listed)
 {
-    uint8_t *list = table->bytes + record->list;
-    switch (draw(source, 0, 2)) {
-    case 0:
-        put(list, LATEST + 1, 4);
-        break;
-    case 1:
-        put(list, one_in(source, 2) ? 0 : 7, 4); /* and then it falls or ends in 0 */
-        put(list + 4 * (record->listed > 1), 0, 4);
-        break;
-    default:
-        put(table->bytes + record->at + 10, 1, 4);
-        put(list, 2, 4);
+    for (unsigned count = one_in(source, 3) ? 2 : 1; count > 0; count--) {
+        unsigned place = (unsigned)draw(source, 0, listed - 1);
+        uint8_t *distance = list + 4 * place;
+        if (place == 0 || one_in(source, 2)) {
+            put(distance, one_in(source, 2) ? LATEST + 1 : UINT32_MAX, 4);
+            continue;
+        }
+        if (get(distance - 4, 4) == 0)
+            put(distance - 4, 1, 4);
+        put(distance, one_in(source, 2) ? 0 : get(distance - 4, 4) - 1, 4);
     }
 }
 
-static void spoil_task(struct source *source, uint8_t *task)
+/* A last distance of 0, after what stands before it or with all others. */
+static void spoil_last_distance(struct source *source, uint8_t *list, unsigned listed)
 {
-    if (one_in(source, 2))
-        put(task + 2, 0, 2);
-    else
-        put(task + 4, one_in(source, 2) ? 0 : DEAREST + 1, 4);
+    unsigned from = one_in(source, 2) ? 0 : listed - 1;
+    memset(list + 4 * from, 0, 4 * (listed - from));
+}
+
+/* A list that the gap just allows, but for one distance. */
+static void exceed_gap(struct source *source, uint8_t *gap_field, uint8_t *list, unsigned listed)
+{
+    uint32_t gap = (uint32_t)draw(source, 1, one_in(source, 2) ? 9 : LATEST / 9);
+    unsigned place = (unsigned)draw(source, 0, listed - 1);
+    put(gap_field, gap, 4);
+    for (unsigned i = 0; i < listed; i++)
+        put(list + 4 * i, gap * (i + 1) + (i == place), 4);
 }
 
 /* The mark after a task, or the count after the last one. */
@@ -836,10 +857,13 @@ static void spoil_fixed_part(struct source *source, struct generated *table, con
     uint8_t *bytes = table->bytes + record->at;
     switch (step) {
     case ID:
-        put(bytes + 2, record->at > 0 && one_in(source, 2) ? get(table->bytes + 2, 2) : 0, 2);
+        put(bytes + 2, wrong_id(source, table, record), 2);
         break;
     case KIND:
-        bytes[4 + draw(source, 0, 1)] = (uint8_t)draw(source, 2, 255);
+        bytes[4] = (uint8_t)draw(source, 2, 255);
+        break;
+    case OVERLOAD:
+        bytes[5] = (uint8_t)draw(source, 2, 255);
         break;
     case DEADLINE:
         put(bytes + 6, one_in(source, 2) ? 0 : LATEST + 1, 4);
@@ -855,30 +879,51 @@ static void spoil_fixed_part(struct source *source, struct generated *table, con
     }
 }
 
+static void spoil_list(struct source *source, struct generated *table, const struct layout *record, unsigned step)
+{
+    uint8_t *list = table->bytes + record->list;
+    switch (step) {
+    case DISTANCES:
+        spoil_distances(source, list, record->listed);
+        break;
+    case LAST_DISTANCE:
+        spoil_last_distance(source, list, record->listed);
+        break;
+    default:
+        exceed_gap(source, table->bytes + record->at + 10, list, record->listed);
+    }
+}
+
+static void spoil_task(struct source *source, uint8_t *task, unsigned step)
+{
+    static const char *const marks[] = {"CH", "EN", "XK", "TX"};
+    switch (step) {
+    case TASK_MARK:
+        put_mark(task, marks[draw(source, 0, 3)]);
+        break;
+    case PRIORITY:
+        put(task + 2, 0, 2);
+        break;
+    case COST:
+        put(task + 4, one_in(source, 2) ? 0 : DEAREST + 1, 4);
+        break;
+    default:
+        spoil_next(source, task + 8);
+    }
+}
+
 /* Makes the value wrong that is looked at in this step. */
 static void spoil_value(struct source *source, struct generated *table, const struct layout *record, unsigned step)
 {
-    static const char *const marks[] = {"TK", "XX", "Ch"}, *const task_marks[] = {"CH", "EN", "XK", "TX"};
-    uint8_t *task = table->bytes + record->task;
-    switch (step) {
-    case MARK:
+    static const char *const marks[] = {"TK", "XX", "Ch"};
+    if (step == MARK)
         put_mark(table->bytes + record->at, marks[draw(source, 0, 2)]);
-        break;
-    case LIST:
-        spoil_list(source, table, record);
-        break;
-    case TASK_MARK:
-        put_mark(task, task_marks[draw(source, 0, 3)]);
-        break;
-    case TASK:
-        spoil_task(source, task);
-        break;
-    case NEXT_MARK:
-        spoil_next(source, task + 8);
-        break;
-    default:
+    else if (step < LIST_THERE)
         spoil_fixed_part(source, table, record, step);
-    }
+    else if (step < TASK_MARK_THERE)
+        spoil_list(source, table, record, step);
+    else
+        spoil_task(source, table->bytes + record->task, step);
 }
 
 static void spoil(struct source *source, struct generated *table, const struct layout *record, unsigned step)
@@ -891,55 +936,70 @@ static void spoil(struct source *source, struct generated *table, const struct l
         spoil_value(source, table, record, step);
 }
 
-/* An end record that is cut and has a wrong count, or stands first; or one with something after it. */
-static void spoil_end(struct source *source, struct generated *table, size_t at)
+/* An end record after all chains or before the first, its count right, wrong, or wrong in its second byte. The table
+   ends before it, in its mark or its count, with it, or later. */
+static void spoil_end(struct source *source, struct generated *table, unsigned chains)
 {
     static const uint8_t chain_0[] = {'C', 'H', 0, 0};
     if (one_in(source, 3))
-        at = 0;
-    put(put_mark(table->bytes + at, "EN"), draw(source, 0, 17), 2);
-    table->length = at + 2 + draw(source, 0, 1);
-    if (one_in(source, 3)) {
-        memcpy(table->bytes + at + 4, one_in(source, 2) ? chain_0 : (const uint8_t *)"XXXX", 4);
-        table->length = at + 4 + draw(source, 1, 4);
-    }
+        chains = 0;
+    const uint32_t counts[] = {chains, chains, (uint32_t)draw(source, 0, 17), chains + 256};
+    uint8_t *end = table->bytes + record_at(table, chains);
+    uint8_t *after = put(put_mark(end, "EN"), pick(source, counts, 4), 2);
+    memcpy(after, one_in(source, 2) ? chain_0 : (const uint8_t *)"XXXX", 4);
+    table->length = (size_t)(end - table->bytes) + draw(source, 0, 8);
 }
 
-/* Two faults of one chain, or of one and the next; of a 17th chain only where it begins. */
-static void spoil_chains(struct source *source, struct generated *table, unsigned chains, unsigned place)
+/* The first chain that lists most distances. */
+static unsigned longest_list(const struct generated *table, unsigned chains)
+{
+    unsigned found = 0;
+    for (unsigned i = 1; i < chains; i++)
+        if (table->bytes[record_at(table, i) + 14] > table->bytes[record_at(table, found) + 14])
+            found = i;
+    return found;
+}
+
+/* A fault of a chain in this step, and in some of the three after it; now and then the next chain's id is wrong too. */
+static void spoil_chain(struct source *source, struct generated *table, unsigned chains, unsigned place, unsigned first)
 {
     struct layout record = layout_of(source, table, place);
-    unsigned first = (unsigned)draw(source, 0, chains == 17 ? FIXED_PART_THERE : STEPS - 2);
-    unsigned second = first + (unsigned)draw(source, 1, first + 2 < STEPS ? 2 : 1);
     if (place + 1 < chains && one_in(source, 5))
-        put(table->bytes + record_at(table, place + 1) + 2, 0, 2); /* the next id */
-    else
-        spoil(source, table, &record, second);
+        put(table->bytes + record_at(table, place + 1) + 2, 0, 2);
+    for (unsigned step = least(first + 3, STEPS - 1); step > first; step--)
+        if (one_in(source, 2))
+            spoil(source, table, &record, step);
     spoil(source, table, &record, first);
 }
 
-/* Spoils a table that was made without damage; now and then it is too long as well. */
-static void spoil_twice(struct source *source, struct generated *table, unsigned chains)
+/* Of 17 chains only where the last begins; now and then the table is too long as well. */
+void spoil_together(struct source *source, struct generated *table, unsigned chains)
 {
-    unsigned place = chains == 17 ? 16 : (unsigned)draw(source, 0, chains);
-    if (place < chains)
-        spoil_chains(source, table, chains, place);
+    unsigned place = (unsigned)draw(source, 0, chains);
+    if (chains == 17)
+        spoil_chain(source, table, chains, 16, (unsigned)draw(source, 0, FIXED_PART_THERE));
+    else if (place == chains)
+        spoil_end(source, table, chains);
+    else if (one_in(source, 3))
+        spoil_chain(source, table, chains, longest_list(table, chains),
+                    (unsigned)draw(source, LIST_THERE, GAP_TOO_SMALL));
     else
-        spoil_end(source, table, record_at(table, chains));
+        spoil_chain(source, table, chains, place, (unsigned)draw(source, 0, STEPS - 1));
     if (one_in(source, 12))
         while (table->length <= 1284)
             table->bytes[table->length++] = 0;
-    table->damage = "two faults";
+    table->damage = "faults close together";
 }
 
 /* ---- Any table ---- */
 
-/* Whether damage has left a table that is accepted, is busy almost all the time and has close arrivals. */
+/* Whether damage has left an accepted table in which a window may hold thousands of arrivals. No window is much wider
+   than what every chain asks for with its whole list at once, in the part of the time that is left. */
 static bool takes_long(const struct generated *table)
 {
     uint8_t answer[16];
-    uint64_t busy = 0; /* of a thousand */
-    bool close = false;
+    uint64_t at_once = 0, closest = LATEST, window = LATEST;
+    uint64_t busy = 0; /* of a million */
     if (plain_latency(table->bytes, table->length, 0, answer, sizeof answer) != 12)
         return false;
     for (const uint8_t *at = table->bytes; at[0] == 'C';) {
@@ -947,11 +1007,14 @@ static bool takes_long(const struct generated *table)
         uint64_t last = get(at + 12 + 4 * listed, 4), cost = 0;
         for (unsigned i = 0; i < tasks; i++)
             cost += get(at + 16 + 4 * listed + 8 * i + 4, 4);
-        busy += cost * listed * 1000 / last;
-        close = close || last / listed < 8000;
+        at_once += cost * listed;
+        busy += cost * listed * 1000000 / last;
+        closest = least(closest, last / listed);
         at += 16 + 4 * listed + 8 * tasks;
     }
-    return close && busy >= 950;
+    if (busy < 999000)
+        window = least(at_once * 1000000 / (1000000 - busy), LATEST);
+    return window > 2000 * closest;
 }
 
 static struct made_table documented(struct source *source)
@@ -1006,7 +1069,7 @@ struct generated generate(struct source *source)
     struct made_table table = family->make(source);
     found.length = encode(&table, found.bytes);
     if (one_in(source, table.chains == 17 ? 2 : 4)) {
-        spoil_twice(source, &found, table.chains);
+        spoil_together(source, &found, table.chains);
     } else if (one_in(source, 3)) {
         damage(source, &found, table.chains);
         if (takes_long(&found))

@@ -19,6 +19,11 @@ uint32_t mishtodran_segment(const uint8_t *table, size_t table_len, uint32_t id,
     return plain_segment(table, table_len, id, against, number, answer, answer_len);
 }
 
+uint32_t mishtodran_check(const uint8_t *table, size_t table_len, uint8_t *answer, size_t answer_len)
+{
+    return plain_check(table, table_len, answer, answer_len);
+}
+
 uint32_t mishtodran_save(uint8_t *buffer, size_t buffer_len, uint64_t used, const uint8_t *old_record, size_t old_len,
                          const uint8_t *new_record, size_t new_len, uint8_t *answer, size_t answer_len)
 {

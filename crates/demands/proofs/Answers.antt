@@ -6,13 +6,15 @@ use mathlib.Core.Logic.{inl, inr, ⊎-elim}
 use native.Mathlib.Omega.{arith}
 use lib.Dec.{lit≤}
 use lib.ListN.{length, take}
+use Rattle.search.specs.Choice.{byNumber}
 use Rattle.search.proofs.Choice.{when-cases}
-use Rattle.table.specs.Read.{byVerdict, unless, readTable}
+use Rattle.table.specs.Read.{byVerdict, readTable}
+use Rattle.table.specs.Field.{TableRefusal}
 use Rattle.table.specs.Read as read
 use Rattle.table.specs.declared.Row.{Row}
-use Rattle.table.specs.declared.Reading.{Reading}
 use Rattle.table.specs.declared.Verdict.{Verdict}
 use Rattle.table.specs.declared.Verdict.the-variants.{Accepted, Refused as Faulty}
+use Rattle.table.proofs.Fields.{refused-placed, some-number}
 use Rattle.segments.specs.Query as segment
 use Rattle.segments.specs.declared.Answer.{Answer as Segment}
 use Rattle.segments.specs.declared.Answer.the-variants.{Refused as NoSegment}
@@ -32,9 +34,8 @@ use Rattle.misses.specs.declared.Answer.{Answer as Misses}
 use Rattle.misses.specs.declared.Answer.the-variants.{Refused as NoMisses}
 use Rattle.saving.specs.Save as save
 use Rattle.saving.specs.declared.Saved.the-variants.{Used, Refused as NoSave}
-use Rattle.saving.proofs.Verdicts.{read-accepted}
-use Rattle.editor.specs.Entry.{latencyFigures}
-use Rattle.demands.specs.Entries.{Between, TableRefusal, LatencyRefusal, MissesRefusal, SegmentRefusal, SaveRefusal, OneAnswer}
+use Rattle.editor.specs.Entry.{latencyFigures, verdictFigures}
+use Rattle.demands.specs.Entries.{CheckRefusal, LatencyRefusal, MissesRefusal, SegmentRefusal, SaveRefusal, OneAnswer}
 use Rattle.demands.proofs.Numbers.{table-number, save-number}
 
 module _ (Refusal : ℕ → Type 0) (n : ℕ) where
@@ -45,17 +46,17 @@ module _ (Refusal : ℕ → Type 0) (n : ℕ) where
   refuses : (f : ℕ) → 1 ≤ f → Refusal f → OneAnswer Refusal n f []
   refuses f h r = record { answered = λ z. absurd (omega arith); refused = λ z. (r, refl) }
 
-  -- no table is refused with 0
-  faulty : ((f : ℕ) → Between 1 11 f → Refusal f) → (s : List ℕ) (f : ℕ) → readTable s .verdict ≡ Faulty f → OneAnswer Refusal n f []
-  faulty low s zero e =
-      let a = ap (λ (r : Reading). r .verdict) (read-accepted s (ap read.numberOf e)) in
-      let z : _≡_ {A = ℕ} 0 1 = cc in
-      absurd (omega arith)
-  faulty low s (suc f) e = refuses (suc f) (omega arith) (low (suc f) (omega arith, omega (arith, table-number s, ap read.numberOf e)))
+  -- a table's refusal
+  faulty : ((f : ℕ) → TableRefusal f → Refusal f) → (s : List ℕ) (f place : ℕ) → readTable s .verdict ≡ Faulty f place → OneAnswer Refusal n f []
+  faulty low s f place e = refuses f (some-number s e) (low f (refused-placed s e .number))
 
 -- a table
 pub verdict-one : (s : List ℕ) → OneAnswer TableRefusal 0 (read.numberOf (readTable s .verdict)) []
-verdict-one s = record { answered = λ z. refl; refused = λ h. ((omega (arith, h), table-number s), refl) }
+verdict-one s = record { answered = λ z. refl; refused = λ h. (⊎-elim (λ e. absurd (h e)) (λ r. r) (table-number s), refl) }
+
+-- the check, which is answered whatever the table
+pub check-one : (s : List ℕ) → OneAnswer CheckRefusal 2 0 (verdictFigures (readTable s .verdict))
+check-one s = answers CheckRefusal 2 _ refl
 
 -- latency
 abbrev OneLatency : Latency → Type 0
@@ -65,19 +66,19 @@ bound-one : (b : Row) (views : List View) → OneLatency (latency.boundOf b view
 unfolding latency.boundOf latency.windowsOf
 bound-one b views =
     let k = latency.closeOf (demandOf b views) (distances b) in
-    when-cases (λ (w : Windows). OneLatency (w .answer)) _ (λ e. refuses LatencyRefusal 4 17 (lit≤ tt) (inr (lit≤ tt, lit≤ tt))) (λ e. by (demandOf b views) (distances b) (b .deadline) k (windowOf (demandOf b views k)))
+    when-cases (λ (w : Windows). OneLatency (w .answer)) _ (λ e. refuses LatencyRefusal 4 17 (lit≤ tt) (inr (inr (lit≤ tt, lit≤ tt)))) (λ e. by (demandOf b views) (distances b) (b .deadline) k (windowOf (demandOf b views k)))
   where
     by : (demand : ℕ → ℕ → ℕ) (ds : List ℕ) (deadline k : ℕ) (w : Window) → OneLatency (latency.endsWith demand ds deadline k w .answer)
     by demand ds deadline k (At t) = answers LatencyRefusal 4 _ refl
-    by demand ds deadline k Nothing = refuses LatencyRefusal 4 16 (lit≤ tt) (inr (lit≤ tt, lit≤ tt))
+    by demand ds deadline k Nothing = refuses LatencyRefusal 4 16 (lit≤ tt) (inr (inr (lit≤ tt, lit≤ tt)))
 
 pub latency-one : (s : List ℕ) (id : ℕ) → OneLatency (latency.latencyOf s id)
 unfolding latency.latencyOf latency.latencyIn
 latency-one s id = by (readTable s .verdict) refl
   where
     by : (v : Verdict) → readTable s .verdict ≡ v → OneLatency (byVerdict NoLatency v (latency.latencyIn (readTable s .table) id))
-    by Accepted e = when-cases OneLatency _ (λ f. refuses LatencyRefusal 4 12 (lit≤ tt) (inl (lit≤ tt, lit≤ tt))) (λ f. bound-one _ _)
-    by (Faulty f) e = faulty LatencyRefusal 4 (λ f h. inl (h .0, omega (arith, h .1))) s f e
+    by Accepted e = when-cases OneLatency _ (λ f. refuses LatencyRefusal 4 12 (lit≤ tt) (inr (inl refl))) (λ f. bound-one _ _)
+    by (Faulty f place) e = faulty LatencyRefusal 4 (λ f h. inl h) s f place e
 
 -- misses
 abbrev OneMisses : Misses → Type 0
@@ -87,23 +88,23 @@ figures-one : (b : Row) (views : List View) (os : List Overload) (k close latenc
 unfolding misses.byFigures
 figures-one b views os k close latency late last =
     when-cases OneMisses _ (λ e. answers MissesRefusal 1 _ refl) (λ e.
-    when-cases OneMisses _ (λ e. refuses MissesRefusal 1 18 (lit≤ tt) (lit≤ tt, lit≤ tt)) (λ e.
-    when-cases OneMisses _ (λ e. refuses MissesRefusal 1 19 (lit≤ tt) (lit≤ tt, lit≤ tt)) (λ e.
-    when-cases OneMisses _ (λ e. refuses MissesRefusal 1 20 (lit≤ tt) (lit≤ tt, lit≤ tt)) (λ e.
-    when-cases OneMisses _ (λ e. refuses MissesRefusal 1 21 (lit≤ tt) (lit≤ tt, lit≤ tt)) (λ e. answers MissesRefusal 1 _ refl)))))
+    when-cases OneMisses _ (λ e. refuses MissesRefusal 1 18 (lit≤ tt) (inr (lit≤ tt, lit≤ tt))) (λ e.
+    when-cases OneMisses _ (λ e. refuses MissesRefusal 1 19 (lit≤ tt) (inr (lit≤ tt, lit≤ tt))) (λ e.
+    when-cases OneMisses _ (λ e. refuses MissesRefusal 1 20 (lit≤ tt) (inr (lit≤ tt, lit≤ tt))) (λ e.
+    when-cases OneMisses _ (λ e. refuses MissesRefusal 1 21 (lit≤ tt) (inr (lit≤ tt, lit≤ tt))) (λ e. answers MissesRefusal 1 _ refl)))))
 
-early-low : (b : Row) (k : ℕ) → misses.earlyOf b k ≤ 21
+early-one : (b : Row) (k : ℕ) → (misses.earlyOf b k ≡ 0 → ⊥) → MissesRefusal (misses.earlyOf b k)
 unfolding misses.earlyOf
-early-low b k = when-cases Low _ (λ e. lit≤ tt) (λ e. when-cases Low _ (λ e. lit≤ tt) (λ e. when-cases Low _ (λ e. lit≤ tt) (λ e. lit≤ tt)))
-  where
-    Low : ℕ → Type 0
-    Low f = f ≤ 21
+early-one b k =
+    when-cases (λ f. (f ≡ 0 → ⊥) → MissesRefusal f) _ (λ e h. inr (lit≤ tt, lit≤ tt)) (λ e.
+    when-cases (λ f. (f ≡ 0 → ⊥) → MissesRefusal f) _ (λ e h. inr (lit≤ tt, lit≤ tt)) (λ e.
+    when-cases (λ f. (f ≡ 0 → ⊥) → MissesRefusal f) _ (λ e h. inr (lit≤ tt, lit≤ tt)) (λ e h. absurd (h refl))))
 
 in-one : (b : Row) (views : List View) (os : List Overload) (k : ℕ) → OneMisses (misses.missesBeside b views os k)
-unfolding misses.missesBeside unless
-in-one b views os k = by (misses.earlyOf b k) (early-low b k) (latency.boundOf b views .answer) (latency.boundOf b views .last) (bound-one b views)
+unfolding misses.missesBeside byNumber
+in-one b views os k = by (misses.earlyOf b k) (early-one b k) (latency.boundOf b views .answer) (latency.boundOf b views .last) (bound-one b views)
   where
-    by : (f : ℕ) → f ≤ 21 → (a : Latency) (last : ℕ) → OneLatency a → OneMisses (unless NoMisses f (misses.byBound b views os k a last))
+    by : (f : ℕ) → ((f ≡ 0 → ⊥) → MissesRefusal f) → (a : Latency) (last : ℕ) → OneLatency a → OneMisses (byNumber NoMisses f (misses.byBound b views os k a last))
     by zero l (Figures close latency late margin) last o = figures-one b views os k close latency late last
     by zero l (NoLatency n) last o = some n o
       where
@@ -111,16 +112,16 @@ in-one b views os k = by (misses.earlyOf b k) (early-low b k) (latency.boundOf b
         some zero o = absurd (omega (arith, o .answered refl))
         some (suc n) o =
             let r = o .refused (λ z. omega (arith, z)) .0 in
-            refuses MissesRefusal 1 (suc n) (omega arith) (⊎-elim (λ h. (h .0, omega (arith, h .1))) (λ h. (omega arith, omega (arith, h .1))) r)
-    by (suc f) l a last o = refuses MissesRefusal 1 (suc f) (omega arith) (omega arith, l)
+            refuses MissesRefusal 1 (suc n) (omega arith) (⊎-elim (λ h. inl h) (λ g. ⊎-elim (λ h. inr (omega (arith, h), omega (arith, h))) (λ h. inr (omega (arith, h .0), omega (arith, h .1))) g) r)
+    by (suc f) l a last o = refuses MissesRefusal 1 (suc f) (omega arith) (l (λ z. omega (arith, z)))
 
 pub misses-one : (s : List ℕ) (id k : ℕ) → OneMisses (misses.missesOf s id k)
 unfolding misses.missesOf misses.missesIn misses.missesAt
 misses-one s id k = by (readTable s .verdict) refl
   where
     by : (v : Verdict) → readTable s .verdict ≡ v → OneMisses (byVerdict NoMisses v (misses.missesIn (readTable s .table) id k))
-    by Accepted e = when-cases OneMisses _ (λ f. refuses MissesRefusal 1 12 (lit≤ tt) (lit≤ tt, lit≤ tt)) (λ f. in-one _ _ _ k)
-    by (Faulty f) e = faulty MissesRefusal 1 (λ f h. (h .0, omega (arith, h .1))) s f e
+    by Accepted e = when-cases OneMisses _ (λ f. refuses MissesRefusal 1 12 (lit≤ tt) (inr (lit≤ tt, lit≤ tt))) (λ f. in-one _ _ _ k)
+    by (Faulty f place) e = faulty MissesRefusal 1 (λ f h. inl h) s f place e
 
 -- segment
 abbrev OneSegment : Segment → Type 0
@@ -132,17 +133,17 @@ segment-one s chain against number = by (readTable s .verdict) refl
   where
     by : (v : Verdict) → readTable s .verdict ≡ v → OneSegment (byVerdict NoSegment v (segment.answerOf (readTable s .table) chain against number))
     by Accepted e =
-        when-cases OneSegment _ (λ f. refuses SegmentRefusal 2 12 (lit≤ tt) (inl (lit≤ tt, lit≤ tt))) (λ f.
-        when-cases OneSegment _ (λ f. refuses SegmentRefusal 2 25 (lit≤ tt) (inr (lit≤ tt, lit≤ tt))) (λ f.
-        when-cases OneSegment _ (λ f. refuses SegmentRefusal 2 26 (lit≤ tt) (inr (lit≤ tt, lit≤ tt))) (λ f. answers SegmentRefusal 2 _ refl)))
-    by (Faulty f) e = faulty SegmentRefusal 2 (λ f h. inl (h .0, omega (arith, h .1))) s f e
+        when-cases OneSegment _ (λ f. refuses SegmentRefusal 2 12 (lit≤ tt) (inr (inl refl))) (λ f.
+        when-cases OneSegment _ (λ f. refuses SegmentRefusal 2 25 (lit≤ tt) (inr (inr (lit≤ tt, lit≤ tt)))) (λ f.
+        when-cases OneSegment _ (λ f. refuses SegmentRefusal 2 26 (lit≤ tt) (inr (inr (lit≤ tt, lit≤ tt)))) (λ f. answers SegmentRefusal 2 _ refl)))
+    by (Faulty f place) e = faulty SegmentRefusal 2 (λ f h. inl h) s f place e
 
 -- save
 pub save-one : (buffer : List ℕ) (used : ℕ) (old new : List ℕ)
     → OneAnswer SaveRefusal 1 (save.numberOf (save.savedOf buffer used old new)) (save.valuesOf (save.savedOf buffer used old new))
-unfolding save.savedOf unless
+unfolding save.savedOf byNumber
 save-one buffer used old new = by (save.saveFault buffer used old new) (save-number buffer used old new) (length (save.resultOf (take used buffer) old new))
   where
-    by : (f : ℕ) → ((f ≡ 0 → ⊥) → SaveRefusal f) → (n : ℕ) → OneAnswer SaveRefusal 1 (save.numberOf (unless NoSave f (Used n))) (save.valuesOf (unless NoSave f (Used n)))
+    by : (f : ℕ) → ((f ≡ 0 → ⊥) → SaveRefusal f) → (n : ℕ) → OneAnswer SaveRefusal 1 (save.numberOf (byNumber NoSave f (Used n))) (save.valuesOf (byNumber NoSave f (Used n)))
     by zero r n = answers SaveRefusal 1 _ refl
     by (suc f) r n = refuses SaveRefusal 1 (suc f) (omega arith) (r (λ z. omega (arith, z)))

@@ -1,4 +1,5 @@
 -- The three demands, each closed by one theorem. Assumes nothing.
+use Rattle.table.proofs.Fields.{blames, refused-placed}
 use Rattle.segments.proofs.Answers.{answer-records}
 use Rattle.report_text.proofs.Decimals.{decimal-value, decimal-first}
 use Rattle.demands.specs.Demands.{Demand1, Demand2, Demand3}
@@ -12,7 +13,7 @@ use Rattle.demands.proofs.Calls.{same-latency-call, same-misses-call}
 use Rattle.demands.proofs.Witness.{met}
 
 pub demand-1 : Demand1
-demand-1 = record { entries = every-entry; saves = seen-records }
+demand-1 = record { entries = every-entry; places = λ s e. (refused-placed s e, blames s e); saves = seen-records }
 
 pub demand-2 : Demand2
 demand-2 = record {

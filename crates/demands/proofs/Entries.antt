@@ -11,13 +11,14 @@ use borrow.Author.Tests.{lt-ltb, le-ltb, ne-eqb}
 use denote.Ref.{RefT, ptr, now}
 use Rattle.search.specs.Choice.{_when_else_}
 use Rattle.search.proofs.Choice.{when-yes, when-no, when-cases, lt-or-le}
+use Rattle.table.specs.Field.{TableRefusal}
 use Rattle.segments.specs.Query.{segmentOf, partOf, offsetOf}
 use Rattle.saving.specs.Save as save
 use Rattle.saving.proofs.After.{saved-number}
 use Rattle.report_text.specs.Report.{reportOf}
 use Rattle.editor.specs.Entry.{figureBytes, returned, leftBy, tooLong, Answered, SaveEntry, ReportEntry}
-use Rattle.demands.specs.Entries.{SaveRefusal, ReportRefusal, AtEntry, OneAnswer, Query, Call, OnePart, LatencyRefusal, MissesRefusal, SegmentRefusal, TableRefusal, EveryEntry}
-use Rattle.demands.proofs.Answers.{verdict-one, latency-one, misses-one, segment-one, save-one}
+use Rattle.demands.specs.Entries.{SaveRefusal, ReportRefusal, CheckRefusal, AtEntry, OneAnswer, Query, Call, OnePart, LatencyRefusal, MissesRefusal, SegmentRefusal, EveryEntry}
+use Rattle.demands.proofs.Answers.{verdict-one, check-one, latency-one, misses-one, segment-one, save-one}
 
 -- a statement that names the answer
 query : {A : Type 0} (right : A) (Refusal : ℕ → Type 0) (n : ℕ) (number : A → ℕ) (figures : A → List ℕ) → OneAnswer Refusal n (number right) (figures right) → Query (λ a. a ≡ right) Refusal n number figures
@@ -134,5 +135,6 @@ every-entry = record {
       entry (λ x r a. record { answers = a }) (λ x r e. e .answers) (answered SegmentRefusal 2 _ _ (segment-one s chain against number) before);
   save-entry = save-entry;
   report-entry = report-entry;
+  check-entry = λ s before. entry (λ x r a. record { answers = a }) (λ x r e. e .answers) (answered CheckRefusal 2 _ _ (check-one s) before);
   version-entry = λ e f. e ∙ sym f;
 }

@@ -35,7 +35,8 @@ use Rattle.misses.specs.declared.Answer.{Answer}
 use Rattle.misses.specs.declared.Answer.the-variants.{Misses, Refused}
 use Rattle.misses.proofs.Starts.{starts}
 use Rattle.misses.proofs.Answers as answers
-use Rattle.table.specs.Read.{tableOf, unless}
+use Rattle.search.specs.Choice.{byNumber}
+use Rattle.table.specs.Read.{tableOf}
 use Rattle.demands.specs.Chains.{Has, chainNumber, chainOf, othersOf}
 use Rattle.demands.specs.Figures.{Exactly}
 use Rattle.demands.specs.Misses.{marked, pieces, full, capacityOf, IsBad, MayAsk, Figured, lastOf, AtMostSix, Once, Fine, Capped, Most, Says, Right}
@@ -106,14 +107,14 @@ module _ (b : Row) (l : List Row) (good : GoodRow b) (rows : All GoodRow l) (pac
   asked-early a = answers.early-none b k (inside (a .low) (a .high)) (a .typical) (λ e. omega (arith, e, a .gap))
 
   early-refused : (n : ℕ) → earlyOf b k ≡ suc n → answer ≡ Refused (suc n)
-  unfolding missesBeside unless
-  early-refused n e = ap (λ x. unless Refused x (byBound b vs os k (boundOf b vs .answer) (boundOf b vs .last))) e
+  unfolding missesBeside byNumber
+  early-refused n e = ap (λ x. byNumber Refused x (byBound b vs os k (boundOf b vs .answer) (boundOf b vs .last))) e
 
   -- the windows refuse, or their figures decide
   by-windows : MayAsk b l k → (w : Windows) → windows ≡ w → answer ≡ byBound b vs os k (w .answer) (w .last)
-  unfolding missesBeside boundOf unless
+  unfolding missesBeside boundOf byNumber
   by-windows a w e =
-      ap (λ x. unless Refused x (byBound b vs os k (boundOf b vs .answer) (boundOf b vs .last))) (asked-early a)
+      ap (λ x. byNumber Refused x (byBound b vs os k (boundOf b vs .answer) (boundOf b vs .last))) (asked-early a)
       ∙ ap (λ (x : Windows). byBound b vs os k (x .answer) (x .last)) (ap (λ d. windowsOf d (distances b) (b .deadline)) (equation-is b l) ∙ e)
 
   refused-by : MayAsk b l k → (n : ℕ) → windows .answer ≡ Unbounded n → answer ≡ Refused n

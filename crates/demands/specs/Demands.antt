@@ -6,6 +6,9 @@ use mathlib.Core.List.{List}
 use lib.ListN.{length, getD}
 use Rattle.table.specs.Bytes.{Bytes}
 use Rattle.table.specs.Record.{idAt, distances}
+use Rattle.table.specs.Read.{readTable}
+use Rattle.table.specs.Field.{Blames, Placed}
+use Rattle.table.specs.declared.Verdict.the-variants.{Refused}
 use Rattle.segments.specs.Query.{segmentOf, partOf, TaskRecords}
 use Rattle.segments.specs.declared.Answer.the-variants.{Records}
 use Rattle.windows.specs.Latency.{latencyOf}
@@ -29,6 +32,9 @@ pub record Demand1 : Type 0 where
   -- every entry takes every input without help from its caller: it is taken, or gets the one refusal the rules name, and a refused call
   -- changes no byte it was lent
   pub entries : EveryEntry
+  -- a table's refusal says where the table broke (02, request 1): its place lies within the table, or is its length or 0; and there stands
+  -- the field that the number names, which is wrong
+  pub places : (s : List ℕ) {n place : ℕ} → readTable s .verdict ≡ Refused n place → Placed s n place × Blames s n place
   -- a save that starts from a record other than the stored one is refused; a record changed away and back counts as the one seen
   pub saves : SeenRecords
 

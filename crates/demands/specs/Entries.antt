@@ -7,6 +7,7 @@ use mathlib.Core.Logic.{_⊎_}
 use lib.ListN.{length}
 use denote.Ref.{RefT, ptr, now}
 use Rattle.table.specs.Read.{readTable, numberOf as verdictNumber}
+use Rattle.table.specs.Field.{TableRefusal}
 use Rattle.table.specs.declared.Reading.{Reading}
 use Rattle.segments.specs.Query.{segmentOf, HandedBack, numberOf as segmentNumber, valuesOf as segmentFigures}
 use Rattle.segments.specs.declared.Answer.{Answer as Segment}
@@ -14,30 +15,30 @@ use Rattle.windows.specs.Latency.{latencyOf, numberOf as latencyNumber}
 use Rattle.misses.specs.Misses.{missesOf, numberOf as missesNumber, valuesOf as missesFigures}
 use Rattle.saving.specs.Save.{Saves, numberOf as saveNumber}
 use Rattle.report_text.specs.Report.{Reported}
-use Rattle.editor.specs.Entry.{latencyFigures, LatencyEntry, MissesEntry, SegmentEntry, SaveEntry, ReportEntry, version}
+use Rattle.editor.specs.Entry.{latencyFigures, LatencyEntry, MissesEntry, SegmentEntry, SaveEntry, CheckEntry, ReportEntry, version}
 
 -- n lies between low and high, both included
 abbrev pub Between : ℕ → ℕ → ℕ → Type 0
 Between low high n = (low ≤ n) × (n ≤ high)
 
--- the numbers that a table, each query, a save and a report can be refused with; a C entry also with 27
-abbrev pub TableRefusal : ℕ → Type 0
-TableRefusal n = Between 1 11 n
-
+-- the numbers that each query, a save, a report and the check can be refused with, a table's own among them; a C entry also with 27
 abbrev pub LatencyRefusal : ℕ → Type 0
-LatencyRefusal n = Between 1 12 n ⊎ Between 16 17 n
+LatencyRefusal n = TableRefusal n ⊎ (n ≡ 12) ⊎ Between 16 17 n
 
 abbrev pub MissesRefusal : ℕ → Type 0
-MissesRefusal n = Between 1 21 n
+MissesRefusal n = TableRefusal n ⊎ Between 12 21 n
 
 abbrev pub SegmentRefusal : ℕ → Type 0
-SegmentRefusal n = Between 1 12 n ⊎ Between 25 26 n
+SegmentRefusal n = TableRefusal n ⊎ (n ≡ 12) ⊎ Between 25 26 n
 
 abbrev pub SaveRefusal : ℕ → Type 0
-SaveRefusal n = Between 1 11 n ⊎ Between 22 24 n
+SaveRefusal n = TableRefusal n ⊎ Between 22 24 n
 
 abbrev pub ReportRefusal : ℕ → Type 0
 ReportRefusal n = n ≡ 24
+
+abbrev pub CheckRefusal : ℕ → Type 0
+CheckRefusal n = ⊥
 
 abbrev pub AtEntry : (ℕ → Type 0) → ℕ → Type 0
 AtEntry Refusal n = (n ≡ 27) ⊎ Refusal n
@@ -93,5 +94,7 @@ pub record EveryEntry : Type 0 where
       → Call {A = List ℕ × List ℕ} (λ after r. SaveEntry buffer used old new answer (after .0) (after .1) r) (AtEntry SaveRefusal) (λ r. r) (buffer, answer)
   pub report-entry : (s text answer : List ℕ)
       → Call {A = List ℕ × List ℕ} (λ after r. ReportEntry s text answer (after .0) (after .1) r) (AtEntry ReportRefusal) (λ r. r) (text, answer)
+  -- `mishtodran_check`, which no table refuses
+  pub check-entry : (s before : List ℕ) → Call (CheckEntry s before) (AtEntry CheckRefusal) (λ r. r) before
   -- `mishtodran_version`, which takes nothing
   pub version-entry : {r q : ℕ} → r ≡ version → q ≡ version → r ≡ q

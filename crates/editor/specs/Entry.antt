@@ -1,5 +1,5 @@
 -- The entries of the C editor (01, 'The C editor and the report'): what each returns, and what it leaves in the buffers it is lent.
--- 01 has the first four; the report as an entry, and the version, are ours.
+-- 01 has the first four, 02 the check (request 1); the report as an entry, and the version, are ours.
 use Prim.Native.Nat.{ℕ, zero, suc, _*_, _-_}
 use mathlib.Core.Path.{_≡_}
 use mathlib.Core.List.{List, [], _∷_, _++_, map}
@@ -9,6 +9,8 @@ use lib.Dec.{ltb}
 use lib.IntN.{ℤ, pos, negsuc}
 use Rattle.search.specs.Choice.{_when_else_}
 use Rattle.table.specs.Bytes.{bytesOf}
+use Rattle.table.specs.Read.{readTable, numberOf, faultPlace}
+use Rattle.table.specs.declared.Verdict.{Verdict}
 use Rattle.segments.specs.Query as segment
 use Rattle.windows.specs.Latency as latency
 use Rattle.windows.specs.declared.Answer.{Answer as Latency}
@@ -64,6 +66,13 @@ pub record SaveEntry (buffer : List ℕ) (used : ℕ) (old new answer bufferAfte
   pub answers : Answered 1 (save.numberOf (save.savedOf buffer used old new)) (save.valuesOf (save.savedOf buffer used old new)) answer answerAfter r
   pub leaves : bufferAfter ≡ (buffer when ltb (length answer) 4 else save.bufferAfter buffer used old new)
 
+-- check: what the reader says of the table, the number and the place of its first fault, 0 and 0 where it is accepted
+abbrev pub verdictFigures : Verdict → List ℕ
+verdictFigures v = numberOf v ∷ faultPlace v ∷ []
+
+pub record CheckEntry (table : List ℕ) (before after : List ℕ) (r : ℕ) : Type 0 where
+  pub answers : Answered 2 0 (verdictFigures (readTable table .verdict)) before after r
+
 -- report: 24 where its text is longer than the text buffer, else the text's length, and the text; a refused table has its text
 abbrev pub tooLong : List ℕ → List ℕ → Bool
 tooLong table text = ltb (length text) (length (reportOf table))
@@ -74,4 +83,4 @@ pub record ReportEntry (table text answer textAfter answerAfter : List ℕ) (r :
 
 -- the version of the entries, which a caller holds against its header's; a change of an answer, a refusal or an entry raises it
 abbrev pub version : ℕ
-version = 1
+version = 2

@@ -1,19 +1,20 @@
-// The C editor's entries (document 01, 'The C editor and the report'): numbers and byte slices only. Each but the version
+// The C editor's entries (document 01, 'The C editor and the report'; document 02, request 1): numbers and byte slices only. Each but the version
 // returns 0 or the refusal's number; refused, every byte lent stays.
 use report_text::LONGEST;
 use report_text::magnitude;
 use saving::Saved;
+use table::Verdict;
 use table::put_u32;
 ghost use mathlib.Core.Path.{_≡_};
 ghost use Prim.Native.Nat.{_*_, _≤_};
 ghost use lib.ListN.{length};
-ghost use Rattle.editor.specs.Entry.{unsigned as unsignedOf, figureBytes, startingWith, LatencyEntry, MissesEntry, SegmentEntry, SaveEntry, ReportEntry, version};
+ghost use Rattle.editor.specs.Entry.{unsigned as unsignedOf, figureBytes, startingWith, LatencyEntry, MissesEntry, SegmentEntry, SaveEntry, CheckEntry, ReportEntry, version};
 
 // What an entry returns where it has answered.
 const ANSWERED: u32 = 0;
 
 // Raised by each change that a caller can see, in the header and in specs/ too.
-const VERSION: u32 = 1;
+const VERSION: u32 = 2;
 
 // A signed number in two's complement.
 fn unsigned(x: i32) -> u32
@@ -125,6 +126,29 @@ pub extern "C" fn mishtodran_save(
             ANSWERED
         }
         Saved::Refused(n) => n,
+    }
+}
+
+// What the reader says of a table: the number and the place of its first fault, 0 and 0 where it is accepted. That is an answer,
+// so a refused table does not refuse the call.
+#[no_mangle]
+pub extern "C" fn mishtodran_check(table: &[u8], answer: &mut [u8]) -> u32
+    ensures { λ r. ⌜ CheckEntry (now (table .entry)) (now (answer .entry)) (now (answer .exit)) r ⌝ }
+{
+    if answer.len() < 8 {
+        return 27;
+    }
+    match table::judge(table) {
+        Verdict::Accepted => {
+            let figures = [0, 0];
+            put_figures(answer, &figures);
+            ANSWERED
+        }
+        Verdict::Refused(n, at) => {
+            let figures = [n, at as u32];
+            put_figures(answer, &figures);
+            ANSWERED
+        }
     }
 }
 

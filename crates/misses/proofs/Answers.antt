@@ -6,11 +6,12 @@ use mathlib.Core.List.{List}
 use lib.Dec.{ltb}
 use lib.ListN.{length, getD}
 use borrow.Author.Tests.{lt-ltb, le-ltb, eq-eqb, ne-eqb}
+use Rattle.search.specs.Choice.{byNumber}
 use Rattle.search.proofs.Choice.{when-yes, when-no}
 use Rattle.table.specs.Limits.{maxRun, maxOverloads, maxCapacity}
 use Rattle.table.specs.Fault.{outside}
 use Rattle.table.specs.Find.{rowOf, findOf}
-use Rattle.table.specs.Read.{byVerdict, readTable, unless}
+use Rattle.table.specs.Read.{byVerdict, readTable}
 use Rattle.table.specs.declared.Row.{Row}
 use Rattle.table.specs.declared.Table.{Table}
 use Rattle.table.specs.declared.Verdict.the-variants.{Accepted, Refused as Faulty}
@@ -82,23 +83,23 @@ module _ (b : Row) (k : ℕ) where
       early-none h = when-no _ _ run ∙ when-no _ _ (ap not (eq-eqb (b .overload) 0 typical)) ∙ when-no _ _ (ne-eqb (b .gap) 0 h)
 
 -- a number refuses, 0 does not
-unless-some : (n : ℕ) (rest : Answer) → (n ≡ 0 → ⊥) → unless Refused n rest ≡ Refused n
-unfolding unless
-unless-some zero rest h = absurd (h refl)
-unless-some (suc n) rest h = refl
+number-refuses : (n : ℕ) (rest : Answer) → (n ≡ 0 → ⊥) → byNumber Refused n rest ≡ Refused n
+unfolding byNumber
+number-refuses zero rest h = absurd (h refl)
+number-refuses (suc n) rest h = refl
 
 module _ (t : Table) (chain k : ℕ) where
   pub at-early : (earlyOf (rowOf t chain) k ≡ 0 → ⊥) → missesAt t chain k ≡ Refused (earlyOf (rowOf t chain) k)
-  unfolding missesAt missesBeside unless
-  at-early h = unless-some (earlyOf (rowOf t chain) k) _ h
+  unfolding missesAt missesBeside byNumber
+  at-early h = number-refuses (earlyOf (rowOf t chain) k) _ h
 
   -- what windows w would give
   abbrev given : Windows → Answer
   given w = byBound (rowOf t chain) (viewsOf t chain) (overloadsOf t chain) k (w .answer) (w .last)
 
   pub at-bound : earlyOf (rowOf t chain) k ≡ 0 → (w : Windows) → w ≡ boundAt t chain → given w ≡ missesAt t chain k
-  unfolding missesAt missesBeside unless
-  at-bound e w f = ap given f ∙ sym (ap (λ n. unless Refused n (given (boundAt t chain))) e)
+  unfolding missesAt missesBeside byNumber
+  at-bound e w f = ap given f ∙ sym (ap (λ n. byNumber Refused n (given (boundAt t chain))) e)
 
 module _ (t : Table) (id k : ℕ) where
   pub chain-none : findOf t id ≡ t .count → missesIn t id k ≡ Refused 12
@@ -110,9 +111,9 @@ module _ (t : Table) (id k : ℕ) where
   chain-found h = when-no _ _ (ne-eqb _ _ h)
 
 module _ (s : List ℕ) (id k : ℕ) where
-  pub misses-refused : (n : ℕ) → readTable s .verdict ≡ Faulty n → missesOf s id k ≡ Refused n
+  pub misses-refused : {n place : ℕ} → readTable s .verdict ≡ Faulty n place → missesOf s id k ≡ Refused n
   unfolding missesOf
-  misses-refused n e = ap (λ v. byVerdict Refused v (missesIn (readTable s .table) id k)) e
+  misses-refused e = ap (λ v. byVerdict Refused v (missesIn (readTable s .table) id k)) e
 
   pub misses-accepted : readTable s .verdict ≡ Accepted → missesOf s id k ≡ missesIn (readTable s .table) id k
   unfolding missesOf

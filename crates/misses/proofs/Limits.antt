@@ -5,9 +5,10 @@ use mathlib.Core.List.{List}
 use native.Mathlib.Omega.{arith}
 use borrow.Author.Tests.{eqb-true, not-false, ltb-false}
 use lib.IntN.{ℤ}
+use Rattle.search.proofs.Choice.{when-zero}
 use Rattle.table.specs.Limits.{maxRun}
 use Rattle.table.specs.declared.Row.{Row}
-use Rattle.table.proofs.Firsts.{none-or, when-zero}
+use Rattle.table.proofs.Firsts.{none-or}
 use Rattle.table.specs.Record.{distances}
 use Rattle.segments.specs.View.{View}
 use Rattle.windows.specs.Demand.{demandOf}

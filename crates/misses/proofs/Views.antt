@@ -7,7 +7,7 @@ use native.Mathlib.Omega.{arith}
 use lib.Dec.{eqb, ltb}
 use lib.ListN.{length, getD}
 use borrow.Author.Tests.{ltb-false}
-use Rattle.search.specs.Choice.{_when_else_}
+use Rattle.search.specs.Choice.{_when_else_, byNumber}
 use Rattle.search.specs.Lists.{Paired, some}
 use Rattle.search.proofs.Lists.{paired-perm}
 use Rattle.search.proofs.Keeping.{keep}
@@ -29,7 +29,6 @@ use Rattle.packing.specs.Most.{mostUses}
 use Rattle.misses.specs.Overloads.{Overload, overload, overloads, piecesOf, capacitiesOf}
 use Rattle.misses.specs.Bad.{over, bad}
 use Rattle.misses.specs.Misses.{earlyOf, badOf, roomOf, byFigures, byBound, missesBeside}
-use Rattle.table.specs.Read.{unless}
 use Rattle.misses.specs.declared.Answer.the-variants.{Misses, Refused}
 use Rattle.misses.proofs.Packs.{bad-none}
 use Rattle.misses.proofs.Starts.{starts}
@@ -120,6 +119,6 @@ alike-misses b {l} {r} p k =
     let one = alike-overloads b p in
     let two = alike-overloads b (paired-turn (λ a c h. alike-turn h) p) in
     let same = alike-bound views b in
-    ap (unless Refused (earlyOf b k))
+    ap (byNumber Refused (earlyOf b k))
     (same-byBound b views one two k (boundOf b vs .answer) (boundOf b vs .last)
     ∙ ap (λ (w : Windows). byBound b ws (overloads b r) k (w .answer) (w .last)) same)

@@ -4,11 +4,11 @@ use mathlib.Core.Bool.{Bool, not}
 use mathlib.Core.List.{List, [], _∷_}
 use lib.Dec.{eqb, ltb}
 use lib.ListN.{length, getD}
-use Rattle.search.specs.Choice.{_when_else_}
+use Rattle.search.specs.Choice.{_when_else_, byNumber}
 use Rattle.table.specs.Limits.{maxRun, maxOverloads, maxCapacity}
 use Rattle.table.specs.Fault.{outside}
 use Rattle.table.specs.Find.{rowOf, findOf}
-use Rattle.table.specs.Read.{byVerdict, unless, readTable, tableOf}
+use Rattle.table.specs.Read.{byVerdict, readTable, tableOf}
 use Rattle.table.specs.declared.Row.{Row}
 use Rattle.table.specs.declared.Table.{Table}
 use Rattle.arrivals.specs.Arrivals.{η, largest}
@@ -71,7 +71,7 @@ module _ (b : Row) (views : List View) (os : List Overload) (k : ℕ) where
 
   -- what is refused before any window, or the windows decide
   unfoldable pub missesBeside : Answer
-  missesBeside = unless Refused (earlyOf b k) (byBound (boundOf b views .answer) (boundOf b views .last))
+  missesBeside = byNumber Refused (earlyOf b k) (byBound (boundOf b views .answer) (boundOf b views .last))
 
 -- the overload chains beside a chain of a table, and its misses, by its number there
 abbrev pub overloadsOf : Table → ℕ → List Overload

@@ -236,6 +236,6 @@ pub fn misses(table: &[u8], id: u32, k: u32) -> Answer
 {
     match judge(table) {
         Verdict::Accepted => misses_in(table, id, k),
-        Verdict::Refused(n) => Answer::Refused(n),
+        Verdict::Refused(n, _) => Answer::Refused(n),
     }
 }

@@ -10,7 +10,7 @@ use Rattle.table.specs.Bytes.{Bytes}
 use Rattle.table.specs.Record.{blank}
 use Rattle.table.specs.Find.{rowOf, rows, findOf}
 use Rattle.table.specs.code.Good.{GoodTable}
-use Rattle.table.specs.Read.{byVerdict, readTable}
+use Rattle.table.specs.Read.{unless, readTable}
 use Rattle.table.specs.declared.Table.{Table}
 use Rattle.table.specs.declared.Verdict.the-variants.{Accepted, Refused as Faulty}
 use Rattle.table.proofs.Accepted.{taken}
@@ -73,13 +73,13 @@ module _ (s : List ℕ) (bytes : Bytes s) (yes : readTable s .verdict ≡ Accept
 
   -- the report of an accepted table
   pub report-accepted : reportOf s ≡ header ++ linesIn t (t .count)
-  unfolding reportOf
-  report-accepted = ap (λ v. byVerdict refusedText v (header ++ flatMap (lineOf s) (rows t))) yes ∙ ap (λ l. header ++ l) (lines-are (t .count) (omega arith))
+  unfolding reportOf unless
+  report-accepted = ap (λ v. unless refusedText v (header ++ flatMap (lineOf s) (rows t))) yes ∙ ap (λ l. header ++ l) (lines-are (t .count) (omega arith))
 
 -- the report of a refused one
-pub report-refused : (s : List ℕ) (n : ℕ) → readTable s .verdict ≡ Faulty n → reportOf s ≡ refusedText n
-unfolding reportOf
-report-refused s n e = ap (λ v. byVerdict refusedText v (header ++ flatMap (lineOf s) (rows (readTable s .table)))) e
+pub report-refused : (s : List ℕ) {n place : ℕ} → readTable s .verdict ≡ Faulty n place → reportOf s ≡ refusedText n place
+unfolding reportOf unless
+report-refused s e = ap (λ v. unless refusedText v (header ++ flatMap (lineOf s) (rows (readTable s .table)))) e
 
 -- the report stands first in the buffer
 pub wrote-report : (s : List ℕ) {text before after : List ℕ} {r : ℕ} → reportOf s ≡ text → length before ≡ longest → Wrote before 0 text after r

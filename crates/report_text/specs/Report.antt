@@ -5,7 +5,7 @@ use mathlib.Core.List.{List, [], _∷_, _++_, flatMap}
 use lib.ListN.{length, drop}
 use Rattle.table.specs.Find.{rows}
 use Rattle.table.specs.Limits.{maxChains}
-use Rattle.table.specs.Read.{byVerdict, readTable, tableOf}
+use Rattle.table.specs.Read.{unless, readTable, tableOf}
 use Rattle.table.specs.declared.Row.{Row}
 use Rattle.windows.specs.Latency.{latencyOf}
 use Rattle.windows.specs.declared.Answer.{Answer as Latency}
@@ -57,13 +57,13 @@ lineText id latency missed = decimal id ++ answersText latency missed ++ feed
 abbrev pub lineOf : List ℕ → Row → List ℕ
 lineOf s r = lineText (r .id) (latencyOf s (r .id)) (missesOf s (r .id) missRun)
 
--- a refused table prints only one line, `refused` and the number, without the header
-abbrev pub refusedText : ℕ → List ℕ
-refusedText n = refusedWord ++ decimal n ++ feed
+-- a refused table prints only one line, `refused`, the number and the place (02, request 1), without the header
+abbrev pub refusedText : ℕ → ℕ → List ℕ
+refusedText n place = refusedWord ++ decimal n ++ afterSpace (decimal place) ++ feed
 
 -- the whole text: header, then a line per chain in table order
 unfoldable pub reportOf : List ℕ → List ℕ
-reportOf s = byVerdict refusedText (readTable s .verdict) (header ++ flatMap (lineOf s) (rows (tableOf s)))
+reportOf s = unless refusedText (readTable s .verdict) (header ++ flatMap (lineOf s) (rows (tableOf s)))
 
 -- more bytes no report has: 35 in the header, and 68 in a line of six numbers of 32 bits, one with a sign and one after `r`
 abbrev pub longest : ℕ

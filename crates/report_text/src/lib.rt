@@ -10,6 +10,7 @@ use table::judge;
 pub use text::magnitude;
 use text::put_byte;
 use text::put_decimal;
+use text::put_number;
 use text::put_text;
 ghost use mathlib.Core.List.{_++_};
 ghost use Prim.Native.Nat.{_≤_};
@@ -25,13 +26,14 @@ const LINE: usize = 68;
 pub const LONGEST: usize = 35 + Table::CHAINS * LINE;
 
 // The only line of a refused table.
-fn put_refused(out: &mut [u8], n: u32) -> usize
+fn put_refused(out: &mut [u8], n: u32, place: u32) -> usize
     requires { ⌜ longest ≤ length (now out) ⌝ }
-    ensures { λ r. ⌜ Wrote (now (out .entry)) 0 (refusedText n) (now (out .exit)) r ⌝ }
+    ensures { λ r. ⌜ Wrote (now (out .entry)) 0 (refusedText n place) (now (out .exit)) r ⌝ }
 {
-    let word = put_text(out, 0, b"refused ");
-    let number = put_decimal(out, word, n);
-    put_byte(out, number, b'\n')
+    let after_word = put_text(out, 0, b"refused ");
+    let after_number = put_decimal(out, after_word, n);
+    let after_place = put_number(out, after_number, place);
+    put_byte(out, after_place, b'\n')
 }
 
 // The header and a line for each chain.
@@ -55,6 +57,6 @@ pub fn report(table: &[u8], out: &mut [u8; LONGEST]) -> usize
 {
     match judge(table) {
         Verdict::Accepted => put_lines(out, table),
-        Verdict::Refused(n) => put_refused(out, n),
+        Verdict::Refused(n, at) => put_refused(out, n, at as u32),
     }
 }

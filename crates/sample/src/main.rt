@@ -73,8 +73,9 @@ fn main() {
     let verdict = reading.verdict;
     match verdict {
         Verdict::Accepted => show_table(reading.table),
-        Verdict::Refused(f) => {
-            say(b"refused ", f as u64);
+        Verdict::Refused(n, at) => {
+            say(b"refused ", n as u64);
+            say(b" ", at as u64);
             io::write_all(libc::STDOUT_FILENO, b"\n");
         }
     }

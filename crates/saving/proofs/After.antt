@@ -9,8 +9,9 @@ use borrow.Author.Tests.{ltb-false}
 use Rattle.table.specs.Bytes.{Bytes}
 use Rattle.table.specs.Find.{rowOf}
 use Rattle.table.specs.Place.{lengthOf, placeOf}
-use Rattle.table.specs.Read.{unless, tableOf}
-use Rattle.table.proofs.Firsts.{when-zero}
+use Rattle.table.specs.Read.{tableOf}
+use Rattle.search.specs.Choice.{byNumber}
+use Rattle.search.proofs.Choice.{when-zero}
 use Rattle.saving.specs.Save.{numberOf, seenOf, resultOf, saveFault, written, savedOf}
 use Rattle.saving.specs.Later.{State, stored, Holding, Edit, usedAfter, answer, after}
 use Rattle.saving.specs.declared.Saved.the-variants.{Used, Refused}
@@ -19,10 +20,10 @@ use Rattle.saving.proofs.Faults.{NoFault, passed, change-none, save-wit
 -- the answer in the paper's terms: the fault's number, and the new used length where there is none
 module _ (buffer : List ℕ) (used : ℕ) (old new : List ℕ) where
   pub saved-number : numberOf (savedOf buffer used old new) ≡ saveFault buffer used old new
-  unfolding savedOf unless
+  unfolding savedOf byNumber
   saved-number = by (saveFault buffer used old new)
     where
-      by : (f : ℕ) → numberOf (unless Refused f (Used (length (resultOf (take used buffer) old new)))) ≡ f
+      by : (f : ℕ) → numberOf (byNumber Refused f (Used (length (resultOf (take used buffer) old new)))) ≡ f
       by zero = refl
       by (suc f) = refl
 

@@ -16,7 +16,7 @@ use Rattle.table.specs.Fault.{markOf}
 use Rattle.table.specs.Read.{accepted, readTable, tableOf}
 use Rattle.table.specs.Place.{lengthOf, placeOf}
 use Rattle.table.specs.declared.Mark.{Mark}
-use Rattle.table.specs.declared.Mark.the-variants.{Chain, Task, End, Refused as Unknown}
+use Rattle.table.specs.declared.Mark.the-variants.{Chain, Task, End, Unknown}
 use Rattle.table.specs.declared.Table.{Table}
 use Rattle.search.proofs.Choice.{true-not-false}
 use Rattle.table.proofs.Firsts.{none-or}
@@ -36,7 +36,7 @@ chain-mark : (m : Mark) → isChain m ≡ true → m ≡ Chain
 chain-mark Chain e = refl
 chain-mark Task e = absurd (true-not-false e refl)
 chain-mark End e = absurd (true-not-false e refl)
-chain-mark (Unknown n) e = absurd (true-not-false e refl)
+chain-mark Unknown e = absurd (true-not-false e refl)
 
 -- a new record that is fit is whole, and bears the id
 pub fit-whole : (new : List ℕ) (id : ℕ) → unfit new id ≡ false → Whole new × (idAt new 0 ≡ id)

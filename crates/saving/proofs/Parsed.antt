@@ -20,8 +20,10 @@ use Rattle.table.specs.Read.{empty, plus, refusal, accepted, unless, byMark, re
 use Rattle.table.specs.declared.Reading.{Reading}
 use Rattle.table.specs.declared.Table.{Table}
 use Rattle.table.specs.declared.Mark.{Mark}
-use Rattle.table.specs.declared.Mark.the-variants.{Chain, Task, End, Refused as Unknown}
-use Rattle.table.specs.declared.Verdict.the-variants.{Accepted}
+use Rattle.table.specs.declared.Mark.the-variants.{Chain, Task, End, Unknown}
+use Rattle.table.specs.declared.Verdict.{Verdict}
+use Rattle.table.specs.declared.Verdict.the-variants.{Accepted, Refused}
+use Rattle.table.proofs.Firsts.{not-accepted}
 use Rattle.table.proofs.Faultless.{chain-right}
 use Rattle.table.proofs.Steps.{records-mark, records-full, records-chain}
 use Rattle.saving.proofs.Moved.{SameBytes, length-moved, mark-moved, row-moved}
@@ -34,14 +36,11 @@ stands s at r rest e w i h =
     let f : 0 + i ≡ i = omega arith in
     rw (f, ← getD-drop at s i 0, e) (List·getD-append r rest 0 i (omega (arith, w .long)))
 
--- a refusal is not accepted, and no fault was found where what follows one was
-not-refused : (n : ℕ) → refusal n .verdict ≡ Accepted → ⊥
-not-refused n e = let z : _≡_ {A = ℕ} 0 1 = cc in omega arith
-
-unless-passed : (n : ℕ) (r : Reading) → unless refusal n r .verdict ≡ Accepted → (n ≡ 0) × (unless refusal n r ≡ r)
+-- no fault was found where what follows one was
+unless-passed : (v : Verdict) (r : Reading) → unless refusal v r .verdict ≡ Accepted → (v ≡ Accepted) × (unless refusal v r ≡ r)
 unfolding unless
-unless-passed zero r e = (refl, refl)
-unless-passed (suc n) r e = absurd (not-refused (suc n) e)
+unless-passed Accepted r e = (refl, refl)
+unless-passed (Refused n place) r e = absurd (not-accepted e)
 
 module _ (s : List ℕ) where
   -- the rest of the reading, from the rows of t on
@@ -53,26 +52,26 @@ module _ (s : List ℕ) where
     passes r e = subst (λ (x : Reading). x .verdict ≡ Accepted) e a
 
     -- a chain's mark: it was read without a fault, and reading went on after it
-    chain-read : markOf (word 2 s at) ≡ Chain → (t .count < maxChains) × (chainFault s at t ≡ 0) × (go at t ≡ go (at + lengthAt s at) (plus t (rowAt s at)))
+    chain-read : markOf (word 2 s at) ≡ Chain → (t .count < maxChains) × (chainFault s at t ≡ Accepted) × (go at t ≡ go (at + lengthAt s at) (plus t (rowAt s at)))
     chain-read m = ⊎-elim
         (λ h. let f = records-chain s at t there m h in
         let g = unless-passed (chainFault s at t) _ (passes _ f) in
         (h, g .0, f ∙ g .1))
-        (λ h. absurd (not-refused 11 (passes (refusal 11) (records-full s at t there m (omega arith)))))
+        (λ h. absurd (not-accepted (passes (refusal 11 at) (records-full s at t there m (omega arith)))))
         (lt-or-le (t .count) maxChains)
 
     -- any other: it was the end's, and nothing was added
     end-read : (markOf (word 2 s at) ≡ Chain → ⊥) → go at t .table ≡ t
     end-read c = by (markOf (word 2 s at)) refl
       where
-        marked : (m : Mark) → markOf (word 2 s at) ≡ m → go at t ≡ byMark m (refusal 11) (unless refusal (endFault s at t) (accepted t))
+        marked : (m : Mark) → markOf (word 2 s at) ≡ m → go at t ≡ byMark at m (refusal 11 at) (unless refusal (endFault s at t) (accepted t))
         marked m e = records-mark s at t there (maxChains - t .count) m e (λ z. c (e ∙ z))
 
         by : (m : Mark) → markOf (word 2 s at) ≡ m → go at t .table ≡ t
         by Chain e = absurd (c e)
-        by Task e = absurd (not-refused 3 (passes (refusal 3) (marked Task e)))
+        by Task e = absurd (not-accepted (passes (refusal 3 at) (marked Task e)))
         by End e = ap (λ (r : Reading). r .table) (marked End e ∙ unless-passed (endFault s at t) (accepted t) (passes _ (marked End e)) .1)
-        by (Unknown n) e = absurd (not-refused n (passes (refusal n) (marked (Unknown n) e)))
+        by Unknown e = absurd (not-accepted (passes (refusal 3 at) (marked Unknown e)))
 
   -- four bytes are no chain
   ended : (at : ℕ) (t : Table) → length s ≡ at + 4 → t .count ≤ maxChains → go at t .verdict ≡ Accepted → go at t .table ≡ t
@@ -105,7 +104,7 @@ started : (s : List ℕ) (t : Table) → readTable s ≡ accepted t → records 
 unfolding readTable
 started s t =
     when-cases (λ r. r ≡ accepted t → records maxChains s 0 empty ≡ accepted t) (eqb (length s) 0 || ltb maxBytes (length s))
-    (λ e f. absurd (not-refused 1 (ap (λ (r : Reading). r .verdict) f))) (λ e f. f)
+    (λ e f. absurd (not-accepted (ap (λ (r : Reading). r .verdict) f))) (λ e f. f)
 
 -- the rows of an accepted table are those of its records
 pub parts-rows : (s : List ℕ) (t : Table) → readTable s ≡ accepted t → (rs : List (List ℕ)) (e : List ℕ) → Parts s rs e → rows t ≡ map rowIn rs

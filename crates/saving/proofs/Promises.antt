@@ -7,11 +7,12 @@ use mathlib.Core.Path.{_≡_, refl, ap, ap₂, sym, subst, _∙_}
 use mathlib.Core.List.{List, [], _∷_}
 use lib.ListN.{length, set}
 use lib.Seq.{length-take-le}
+use Rattle.search.specs.Choice.{byNumber}
 use Rattle.search.specs.Lists.{All}
 use Rattle.table.specs.Bytes.{Bytes}
 use Rattle.table.specs.Record.{idAt}
 use Rattle.table.specs.Find.{rowOf, rows}
-use Rattle.table.specs.Read.{unless, accepted, readTable, tableOf}
+use Rattle.table.specs.Read.{accepted, readTable, tableOf}
 use Rattle.saving.specs.Save.{numberOf, saveFault, recordOf, seenOf, resultOf, changeFault, written, savedOf}
 use Rattle.saving.specs.Later.{State, stored, Holding, Edit, answer, after, afterAll, Never}
 use Rattle.saving.specs.declared.Saved.the-variants.{Used, Refused}
@@ -141,9 +142,9 @@ stale-until-back x e bytes new-bytes ok n es b never new =
 
 -- a record changed away and changed back counts as the one seen
 answer-is : (x : State) (e : Edit) → x .used ≤ length (x .buffer)
-    → answer x e ≡ unless Refused (changeFault (length (x .buffer)) (stored x) (e .old) (e .new)) (Used (length (resultOf (stored x) (e .old) (e .new))))
+    → answer x e ≡ byNumber Refused (changeFault (length (x .buffer)) (stored x) (e .old) (e .new)) (Used (length (resultOf (stored x) (e .old) (e .new))))
 unfolding savedOf
-answer-is x e h = ap (λ (f : ℕ). unless Refused f (Used (length (resultOf (stored x) (e .old) (e .new))))) (save-within (x .buffer) (x .used) (e .old) (e .new) h)
+answer-is x e h = ap (λ (f : ℕ). byNumber Refused f (Used (length (resultOf (stored x) (e .old) (e .new))))) (save-within (x .buffer) (x .used) (e .old) (e .new) h)
 
 pub record ChangedBack (x : State) (e : Edit) (back : Edit) : Type 0 where
   pub taken : numberOf (answer (after x e) back) ≡ 0
@@ -171,6 +172,6 @@ changed-back x e bytes new-bytes ok =
       used = same-used;
       seen = λ new.
           answer-is (after y back) (record { old = e .old; new = new }) (omega (arith, same-used, same-room, used-within x e ok))
-          ∙ ap₂ (λ (m : ℕ) (q : List ℕ). unless Refused (changeFault m q (e .old) new) (Used (length (resultOf q (e .old) new)))) same-room same-table
+          ∙ ap₂ (λ (m : ℕ) (q : List ℕ). byNumber Refused (changeFault m q (e .old) new) (Used (length (resultOf q (e .old) new)))) same-room same-table
           ∙ sym (answer-is x (record { old = e .old; new = new }) (used-within x e ok));
     }

@@ -5,16 +5,16 @@ use mathlib.Core.List.{List, [], _∷_, _++_}
 use mathlib.Core.Bool.{Bool, true, false, not, _&&_, _||_}
 use lib.ListN.{length, take, drop, replicate}
 use lib.Dec.{ltb, eqb}
-use Rattle.search.specs.Choice.{_when_else_}
+use Rattle.search.specs.Choice.{_when_else_, byNumber}
 use Rattle.search.specs.Find.{first}
 use Rattle.table.specs.Bytes.{word}
 use Rattle.table.specs.Record.{idAt, lengthAt}
 use Rattle.table.specs.Find.{rowOf}
-use Rattle.table.specs.Fault.{_then_, markOf}
-use Rattle.table.specs.Read.{numberOf as verdictNumber, unless, readTable, tableOf}
+use Rattle.table.specs.Fault.{markOf}
+use Rattle.table.specs.Read.{numberOf as verdictNumber, byVerdict, readTable, tableOf}
 use Rattle.table.specs.Place.{lengthOf, placeOf}
 use Rattle.table.specs.declared.Mark.{Mark}
-use Rattle.table.specs.declared.Mark.the-variants.{Chain, Task, End, Refused as Unknown}
+use Rattle.table.specs.declared.Mark.the-variants.{Chain, Task, End, Unknown}
 use Rattle.saving.specs.declared.Saved.{Saved}
 use Rattle.saving.specs.declared.Saved.the-variants.{Used, Refused}
 
@@ -28,7 +28,7 @@ abbrev pub valuesOf : Saved → List ℕ
 valuesOf (Used n) = n ∷ []
 valuesOf (Refused n) = []
 
--- the fault of the table that the bytes store, 1 to 11, 0 if there is none
+-- the number with which the table that the bytes store is refused, 0 if it is accepted
 abbrev pub readFault : List ℕ → ℕ
 readFault s = verdictNumber (readTable s .verdict)
 
@@ -51,7 +51,7 @@ abbrev pub isChain : Mark → Bool
 isChain Chain = true
 isChain Task = false
 isChain End = false
-isChain (Unknown n) = false
+isChain Unknown = false
 
 -- the new record is under 16 bytes, lacks mark `CH`, is not exactly as long as its own list length and task count say, or
 -- bears another id
@@ -67,20 +67,20 @@ splice s at n new = take at s ++ new ++ drop (at + n) s
 unfoldable pub resultOf : List ℕ → List ℕ → List ℕ → List ℕ
 resultOf s old new = splice s (placeOf (tableOf s) (seenOf s old)) (lengthOf (rowOf (tableOf s) (seenOf s old))) new
 
--- the result is longer than the buffer, which has that much room; then 1 to 11 on the result
+-- the result is longer than the buffer, which has that much room; then a table's numbers on the result
 unfoldable pub resultFault : ℕ → List ℕ → ℕ
 resultFault room result = 24 when ltb room (length result) else readFault result
 
--- on an accepted table: 22, 23, 24, then 1 to 11 on the result
+-- on an accepted table: 22, 23, 24, then a table's numbers on the result
 unfoldable pub replaceFault : ℕ → List ℕ → List ℕ → List ℕ → ℕ
 replaceFault room s old new =
     22 when eqb (seenOf s old) (tableOf s .count) else
     23 when unfit new (rowOf (tableOf s) (seenOf s old) .id) else
     resultFault room (resultOf s old new)
 
--- 1 to 11 on the table come first
+-- a refused table refuses the save with its own number
 unfoldable pub changeFault : ℕ → List ℕ → List ℕ → List ℕ → ℕ
-changeFault room s old new = readFault s then replaceFault room s old new
+changeFault room s old new = byVerdict (λ n. n) (readTable s .verdict) (replaceFault room s old new)
 
 -- the table is the first `used` bytes of the buffer; 1 where those are more than it has
 unfoldable pub saveFault : List ℕ → ℕ → List ℕ → List ℕ → ℕ
@@ -94,7 +94,7 @@ written buffer used result = result ++ replicate (used - length result) 0 ++ dro
 -- The answer, and the whole buffer afterwards: refused, every byte stays
 
 unfoldable pub savedOf : List ℕ → ℕ → List ℕ → List ℕ → Saved
-savedOf buffer used old new = unless Refused (saveFault buffer used old new) (Used (length (resultOf (take used buffer) old new)))
+savedOf buffer used old new = byNumber Refused (saveFault buffer used old new) (Used (length (resultOf (take used buffer) old new)))
 
 unfoldable pub bufferAfter : List ℕ → ℕ → List ℕ → List ℕ → List ℕ
 bufferAfter buffer used old new =

@@ -20,7 +20,7 @@ fn number_of(v: Verdict) -> u32
 {
     match v {
         Verdict::Accepted => 0,
-        Verdict::Refused(n) => n,
+        Verdict::Refused(n, _) => n,
     }
 }
 
@@ -31,7 +31,7 @@ fn is_chain(m: Mark) -> bool
         Mark::Chain => true,
         Mark::Task => false,
         Mark::End => false,
-        Mark::Refused(_) => false,
+        Mark::Unknown => false,
     }
 }
 
@@ -70,7 +70,7 @@ fn unfit(new: &[u8], id: u16) -> bool
     table::id_at(new, 0) != id
 }
 
-// 24, then 1 to 11: the result of `new` in the place of `gone` bytes from `at` on. Only a result within the
+// 24, then a table's numbers: the result of `new` in the place of `gone` bytes from `at` on. Only a result within the
 // limit is built, in `out`.
 fn result(s: &[u8], at: usize, gone: usize, new: &[u8], room: usize, out: &mut [u8]) -> u32
     requires { ⌜ (at + gone ≤ length (now s)) × (length (now out) ≡ maxBytes) ⌝ }
@@ -87,7 +87,7 @@ fn result(s: &[u8], at: usize, gone: usize, new: &[u8], room: usize, out: &mut [
     number_of(table::judge(&out[..n]))
 }
 
-// 22, 23, 24, then 1 to 11 on the result: `new` in the place of the record `old` of an accepted table.
+// 22, 23, 24, then a table's numbers on the result: `new` in the place of the record `old` of an accepted table.
 fn replaced(s: &[u8], room: usize, old: &[u8], new: &[u8], out: &mut [u8; Table::BYTES]) -> u32
     requires { ⌜ readTable (now s) .verdict ≡ Accepted ⌝ }
     ensures { λ r. ⌜ Ready (replaceFault room (now (s .entry)) (now (old .entry)) (now (new .entry))) (resultOf (now (s .entry)) (now (old .entry)) (now (new .entry))) (now (out .exit)) r ⌝ }
@@ -103,12 +103,12 @@ fn replaced(s: &[u8], room: usize, old: &[u8], new: &[u8], out: &mut [u8; Table:
     result(s, at, old.len(), new, room, out)
 }
 
-// 1 to 11 on the table come first. Where there is no fault, `out` begins with the result.
+// The table's own number comes first. Where there is no fault, `out` begins with the result.
 pub fn judged(s: &[u8], room: usize, old: &[u8], new: &[u8], out: &mut [u8; Table::BYTES]) -> u32
     ensures { λ r. ⌜ Ready (changeFault room (now (s .entry)) (now (old .entry)) (now (new .entry))) (resultOf (now (s .entry)) (now (old .entry)) (now (new .entry))) (now (out .exit)) r ⌝ }
 {
     match table::judge(s) {
         Verdict::Accepted => replaced(s, room, old, new, out),
-        Verdict::Refused(fault) => fault,
+        Verdict::Refused(fault, _) => fault,
     }
 }

@@ -1,5 +1,5 @@
 -- Laws of `_when_else_`. Assumes nothing.
-use Prim.Native.Nat.{ℕ, _<_, _≤_}
+use Prim.Native.Nat.{ℕ, suc, _<_, _≤_}
 use mathlib.Core.Path.{_≡_, refl}
 use mathlib.Core.Bool.{Bool, true, false}
 use mathlib.Core.Logic.{_⊎_, inl, inr}
@@ -20,6 +20,12 @@ pub when-cases : {A : Type 0} {x y : A} (P : A → Type 0) (t : Bool) → (t ≡
 unfolding _when_else_
 when-cases P true f g = f refl
 when-cases P false f g = g refl
+
+-- no refusal: what it says
+pub when-zero : (n m : ℕ) (t : Bool) → (suc n when t else m) ≡ 0 → (t ≡ false) × (m ≡ 0)
+unfolding _when_else_
+when-zero n m true e = absurd (omega (arith, e))
+when-zero n m false e = (refl, e)
 
 pub true-not-false : {b : Bool} → b ≡ true → b ≡ false → ⊥
 true-not-false e f = let z : _≡_ {A = ℕ} 0 1 = cc in omega arith

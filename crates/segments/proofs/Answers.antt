@@ -117,7 +117,7 @@ module _ (s : List ℕ) (bytes : Bytes s) (id against number offset len : ℕ) (
     where
       by : (v : Verdict) → byVerdict Refused v (answerOf (tableOf s) id against number) ≡ Records offset len → v ≡ verdict.Accepted
       by verdict.Accepted q = refl
-      by (verdict.Refused n) q = refused n offset len q
+      by (verdict.Refused n place) q = refused n offset len q
 
   answer-of : Answered (tableOf s) id against number offset len
   unfolding segmentOf

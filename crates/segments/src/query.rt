@@ -59,7 +59,7 @@ pub fn segment(table: &[u8], id: u32, against: u32, number: u32) -> Answer
 {
     match judge(table) {
         Verdict::Accepted => ask(table, id, against, number),
-        Verdict::Refused(n) => Answer::Refused(n),
+        Verdict::Refused(n, _) => Answer::Refused(n),
     }
 }
 

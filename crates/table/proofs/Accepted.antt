@@ -27,9 +27,10 @@ use Rattle.table.specs.declared.Row.{Row}
 use Rattle.table.specs.declared.Table.{Table}
 use Rattle.table.specs.declared.Reading.{Reading}
 use Rattle.table.specs.declared.Mark.{Mark}
-use Rattle.table.specs.declared.Mark.the-variants.{Chain, Task, End, Refused as Unknown}
-use Rattle.table.specs.declared.Verdict.the-variants.{Accepted}
-use Rattle.table.proofs.Firsts.{when-zero}
+use Rattle.table.specs.declared.Mark.the-variants.{Chain, Task, End, Unknown}
+use Rattle.table.specs.declared.Verdict.{Verdict}
+use Rattle.table.specs.declared.Verdict.the-variants.{Accepted, Refused}
+use Rattle.table.proofs.Firsts.{not-accepted, when-none}
 use Rattle.table.proofs.Faultless.{chain-right}
 use Rattle.table.proofs.Goods.{row-good}
 use Rattle.table.proofs.Standing.{place-none}
@@ -75,7 +76,7 @@ fresh t id e chain h =
 
 -- one row more
 module _ (s : List ℕ) (at : ℕ) (t : Table) (g : RowsKept s at t) (bytes : Bytes s) (room : t .count < maxChains)
-    (mark : markOf (word 2 s at) ≡ Chain) (right : chainFault s at t ≡ 0) where
+    (mark : markOf (word 2 s at) ≡ Chain) (right : chainFault s at t ≡ Accepted) where
   abbrev r : Row
   r = rowAt s at
 
@@ -145,25 +146,23 @@ module _ (s : List ℕ) (at : ℕ) (t : Table) (g : RowsKept s at t) (bytes : By
 GoodReading : List ℕ → Reading → Type 0
 GoodReading s r = r .verdict ≡ Accepted → GoodTable (r .table) × Holds s (r .table)
 
-refused : (s : List ℕ) (n : ℕ) → GoodReading s (refusal n)
+refused : (s : List ℕ) (n place : ℕ) → GoodReading s (refusal n place)
 unfolding GoodReading
-refused s n e = absurd (let z : _≡_ {A = ℕ} 0 1 = cc in omega arith)
+refused s n place e = absurd (not-accepted e)
 
-unless-sound : (s : List ℕ) (n : ℕ) (r : Reading) → (n ≡ 0 → GoodReading s r) → GoodReading s (unless refusal n r)
+unless-sound : (s : List ℕ) (v : Verdict) (r : Reading) → (v ≡ Accepted → GoodReading s r) → GoodReading s (unless refusal v r)
 unfolding unless
-unless-sound s zero r f = f refl
-unless-sound s (suc n) r f = refused s (suc n)
+unless-sound s Accepted r f = f refl
+unless-sound s (Refused n place) r f = refused s n place
 
 -- the end record is whole, counts the rows, and is the last
-end-sound : (s : List ℕ) (at : ℕ) (t : Table) → RowsKept s at t → endFault s at t ≡ 0 → GoodReading s (accepted t)
+end-sound : (s : List ℕ) (at : ℕ) (t : Table) → RowsKept s at t → endFault s at t ≡ Accepted → GoodReading s (accepted t)
 unfolding endFault GoodReading
 end-sound s at t g e a =
-    let e1 = when-zero 1 _ _ e in
-    let e2 = when-zero 10 _ _ (e1 .1) in
-    let e3 = when-zero 10 _ _ (e2 .1) in
-    let e4 = when-zero 10 _ _ (e3 .1) in
-    let some : t .count ≡ 0 → ⊥ = eqb-false _ _ (e2 .0) in
-    let last : length s ≡ at + 4 = eqb-true _ _ (not-false _ (e4 .0)) in (
+    let some = when-none _ _ _ _ (when-none _ _ _ _ e .1) in
+    let count = when-none _ _ _ _ (some .1) in
+    let none : t .count ≡ 0 → ⊥ = eqb-false _ _ (some .0) in
+    let last : length s ≡ at + 4 = eqb-true _ _ (not-false _ (when-none _ _ _ _ (count .1) .0)) in (
       record { some = omega arith; few = g .few; row = g .row; ids = g .ids; past = g .past; size = g .long; tasks = g .tasks; tasks-max = g .tasks-max },
       record {
         marks = g .marks;
@@ -171,24 +170,24 @@ end-sound s at t g e a =
         task-marks = g .task-marks;
         inside = g .inside;
         ends = omega (arith, g .place, last);
-        counts = ap (λ n. word 2 s (n + 2)) (sym (g .place)) ∙ eqb-true _ _ (not-false _ (e3 .0));
+        counts = ap (λ n. word 2 s (n + 2)) (sym (g .place)) ∙ eqb-true _ _ (not-false _ (count .0));
       },
     )
 
 start-sound : (s : List ℕ) (at : ℕ) (t : Table) (chain : Reading) → RowsKept s at t → (markOf (word 2 s at) ≡ Chain → GoodReading s chain) → GoodReading s (start s at t chain)
 unfolding start
 start-sound s at t chain g f =
-    when-cases (GoodReading s) (ltb (length s) (at + 2)) (λ e. refused s 2) (λ e. by (markOf (word 2 s at)) refl)
+    when-cases (GoodReading s) (ltb (length s) (at + 2)) (λ e. refused s 2 (length s)) (λ e. by (markOf (word 2 s at)) refl)
   where
-    by : (m : Mark) → markOf (word 2 s at) ≡ m → GoodReading s (byMark m chain (unless refusal (endFault s at t) (accepted t)))
+    by : (m : Mark) → markOf (word 2 s at) ≡ m → GoodReading s (byMark at m chain (unless refusal (endFault s at t) (accepted t)))
     by Chain e = f e
-    by Task e = refused s 3
+    by Task e = refused s 3 at
     by End e = unless-sound s (endFault s at t) (accepted t) (end-sound s at t g)
-    by (Unknown n) e = refused s n
+    by Unknown e = refused s 3 at
 
 records-sound : (left : ℕ) (s : List ℕ) (at : ℕ) (t : Table) → Bytes s → RowsKept s at t → t .count + left ≤ maxChains → GoodReading s (records left s at t)
 unfolding records
-records-sound zero s at t bytes g h = start-sound s at t (refusal 11) g (λ m. refused s 11)
+records-sound zero s at t bytes g h = start-sound s at t (refusal 11 at) g (λ m. refused s 11 at)
 records-sound (suc left) s at t bytes g h =
     start-sound s at t _ g
     (λ m. unless-sound s (chainFault s at t) (records left s (at + lengthAt s at) (plus t (rowAt s at)))
@@ -196,7 +195,7 @@ records-sound (suc left) s at t bytes g h =
 
 sound : (s : List ℕ) → Bytes s → GoodReading s (readTable s)
 unfolding readTable
-sound s bytes = when-cases (GoodReading s) (eqb (length s) 0 || ltb maxBytes (length s)) (λ e. refused s 1)
+sound s bytes = when-cases (GoodReading s) (eqb (length s) 0 || ltb maxBytes (length s)) (λ e. refused s 1 0)
     (λ e. records-sound maxChains s 0 empty bytes (kept-empty s) (omega arith))
 
 -- the bytes of an accepted table: within every limit, and they hold it

@@ -7,15 +7,16 @@ use mathlib.Core.Bool.{false}
 use lib.ListN.{length}
 use lib.Dec.{eqb}
 use borrow.Author.Tests.{ltb-false, eqb-false}
-use Rattle.search.proofs.Choice.{when-cases}
 use Rattle.table.specs.Limits.{maxDeadline, maxGap, maxDistances, maxTasks, maxAllTasks, maxCost}
 use Rattle.table.specs.Bytes.{word}
-use Rattle.table.specs.Record.{idAt, kindAt, overloadAt, deadlineAt, gapAt, listedAt, tasksAt, firstTask, lengthAt, priorityAt, costAt, distancesAt}
+use Rattle.table.specs.Record.{idAt, kindAt, overloadAt, deadlineAt, gapPlace, gapAt, listedAt, tasksAt, listPlace, firstTask, lengthAt, priorityAt, costAt, distancesAt}
 use Rattle.table.specs.Find.{used}
-use Rattle.table.specs.Fault.{outside, markOf, noTask, identityFault, timesFault, countsFault, headFault, distancesFault, gapFault, listFault, taskMarkFault, taskRestFault, taskFault, tasksFault, chainFault}
+use Rattle.table.specs.Fault.{outside, markOf, noTask, identityFault, timesFault, countsFault, headFault, fallFault, lastFault, gapFault, distancesFault, listFault, taskMarkFault, taskRestFault, taskFault, tasksFault, chainFault}
 use Rattle.table.specs.declared.Table.{Table}
-use Rattle.table.specs.declared.Mark.the-variants.{Task}
-use Rattle.table.proofs.Firsts.{none-or, when-zero, then-zero}
+use Rattle.table.specs.declared.Mark.{Mark}
+use Rattle.table.specs.declared.Mark.the-variants.{Chain, Task, End, Unknown}
+use Rattle.table.specs.declared.Verdict.the-variants.{Accepted}
+use Rattle.table.proofs.Firsts.{none-or, not-accepted, when-none, then-none}
 
 pub inside : (low high x : ℕ) → outside low high x ≡ false → (low ≤ x) × (x ≤ high)
 inside low high x e =
@@ -37,53 +38,54 @@ pub record HeadRight (s : List ℕ) (at : ℕ) (t : Table) : Type 0 where
   pub tasks : (1 ≤ tasksAt s at) × (tasksAt s at ≤ maxTasks)
   pub all : t .tasks + tasksAt s at ≤ maxAllTasks
 
-pub head-right : (s : List ℕ) (at : ℕ) (t : Table) → headFault s at t ≡ 0 → HeadRight s at t
+pub head-right : (s : List ℕ) (at : ℕ) (t : Table) → headFault s at t ≡ Accepted → HeadRight s at t
 unfolding headFault identityFault timesFault countsFault
 head-right s at t e =
-    let e2 = when-zero 1 _ _ e in
-    let identity = then-zero _ _ (e2 .1) in
-    let times = then-zero _ _ (identity .1) in
-    let e4 = when-zero 3 _ _ (identity .0) in
-    let e5 = when-zero 4 _ _ (e4 .1) in
-    let e6 = when-zero 5 _ _ (times .0) in
-    let e7 = when-zero 6 _ _ (e6 .1) in
-    let e8 = when-zero 7 _ _ (times .1) in
-    let e9 = when-zero 8 _ _ (e8 .1) in
+    let there = when-none _ _ _ _ e in
+    let identity = then-none _ _ (there .1) in
+    let times = then-none _ _ (identity .1) in
+    let e4 = when-none _ _ _ _ (identity .0) in
+    let kind = when-none _ _ _ _ (e4 .1) in
+    let overload = when-none _ _ _ _ (kind .1) in
+    let e6 = when-none _ _ _ _ (times .0) in
+    let e7 = when-none _ _ _ _ (e6 .1) in
+    let e28 = when-none _ _ _ _ (times .1) in
+    let e9 = when-none _ _ _ _ (e28 .1) in
     let id = none-or _ _ (e4 .0) in
-    let bytes = none-or _ _ (e5 .0) in
     let tasks = none-or (outside 1 maxTasks (tasksAt s at)) _ (e9 .0) in
     record {
-      there = ltb-false _ _ (e2 .0);
+      there = ltb-false _ _ (there .0);
       id = not-zero _ (id .0);
       fresh = id .1;
-      kind = ltb-false _ _ (bytes .0);
-      overload = ltb-false _ _ (bytes .1);
+      kind = ltb-false _ _ (kind .0);
+      overload = ltb-false _ _ (overload .0);
       deadline = inside 1 maxDeadline (deadlineAt s at) (e6 .0);
       gap = ltb-false _ _ (e7 .0);
-      listed = inside 1 maxDistances (listedAt s at) (e8 .0);
+      listed = inside 1 maxDistances (listedAt s at) (e28 .0);
       tasks = inside 1 maxTasks (tasksAt s at) (tasks .0);
       all = ltb-false _ _ (tasks .1);
     }
 
 pub record ListRight (s : List ℕ) (at : ℕ) : Type 0 where
   pub there : firstTask s at ≤ length s
-  pub distances : distancesFault (distancesAt s at) ≡ 0
-  pub gap : gapFault (gapAt s at) (distancesAt s at) ≡ 0
+  pub rises : fallFault 0 (distancesAt s at) (listPlace at) ≡ Accepted
+  pub ends : lastFault (distancesAt s at) (listPlace at) ≡ Accepted
+  pub gap : gapFault (gapAt s at) (distancesAt s at) (gapPlace at) ≡ Accepted
 
-pub list-right : (s : List ℕ) (at : ℕ) → listFault s at ≡ 0 → ListRight s at
-unfolding listFault
+pub list-right : (s : List ℕ) (at : ℕ) → listFault s at ≡ Accepted → ListRight s at
+unfolding listFault distancesFault
 list-right s at e =
-    let e2 = when-zero 1 _ _ e in
-    let e8 = then-zero _ _ (e2 .1) in
-    record { there = ltb-false _ _ (e2 .0); distances = e8 .0; gap = e8 .1 }
+    let there = when-none _ _ _ _ e in
+    let rises = then-none _ _ (there .1) in
+    let ends = then-none _ _ (rises .1) in
+    record { there = ltb-false _ _ (there .0); rises = rises .0; ends = ends .0; gap = ends .1 }
 
 -- a mark that is refused nowhere a task stands is a task's
-mark-task : (m : ℕ) → noTask (markOf m) ≡ 0 → markOf m ≡ Task
-unfolding markOf
-mark-task m =
-    when-cases (λ x. noTask x ≡ 0 → x ≡ Task) (eqb m 18499) (λ a e. absurd (omega arith))
-    (λ a. when-cases (λ x. noTask x ≡ 0 → x ≡ Task) (eqb m 19284) (λ b e. refl)
-    (λ b. when-cases (λ x. noTask x ≡ 0 → x ≡ Task) (eqb m 20037) (λ c e. absurd (omega arith)) (λ c e. absurd (omega arith))))
+mark-task : (m : Mark) (at : ℕ) → noTask m at ≡ Accepted → m ≡ Task
+mark-task Task at e = refl
+mark-task Chain at e = absurd (not-accepted e)
+mark-task End at e = absurd (not-accepted e)
+mark-task Unknown at e = absurd (not-accepted e)
 
 pub record TaskRight (s : List ℕ) (at : ℕ) : Type 0 where
   pub there : at + 8 ≤ length s
@@ -91,29 +93,29 @@ pub record TaskRight (s : List ℕ) (at : ℕ) : Type 0 where
   pub priority : 1 ≤ priorityAt s at
   pub cost : (1 ≤ costAt s at) × (costAt s at ≤ maxCost)
 
-pub task-right : (s : List ℕ) (at : ℕ) → taskFault s at ≡ 0 → TaskRight s at
+pub task-right : (s : List ℕ) (at : ℕ) → taskFault s at ≡ Accepted → TaskRight s at
 unfolding taskFault taskMarkFault taskRestFault
 task-right s at e =
-    let e3 = when-zero 1 _ _ (then-zero _ _ e .0) in
-    let e2 = when-zero 1 _ _ (then-zero _ _ e .1) in
-    let e10 = when-zero 9 _ _ (e2 .1) in
-    let values = none-or _ (outside 1 maxCost (costAt s at)) (e10 .0) in
+    let mark = when-none _ _ _ _ (then-none _ _ e .0) in
+    let there = when-none _ _ _ _ (then-none _ _ e .1) in
+    let priority = when-none _ _ _ _ (there .1) in
+    let cost = when-none _ _ _ _ (priority .1) in
     record {
-      there = ltb-false _ _ (e2 .0);
-      mark = mark-task (word 2 s at) (e3 .1);
-      priority = not-zero _ (values .0);
-      cost = inside 1 maxCost (costAt s at) (values .1);
+      there = ltb-false _ _ (there .0);
+      mark = mark-task (markOf (word 2 s at)) at (mark .1);
+      priority = not-zero _ (priority .0);
+      cost = inside 1 maxCost (costAt s at) (cost .0);
     }
 
-pub tasks-right : (s : List ℕ) (n at : ℕ) → tasksFault s n at ≡ 0 → (i : ℕ) → i < n → TaskRight s (at + 8 * i)
+pub tasks-right : (s : List ℕ) (n at : ℕ) → tasksFault s n at ≡ Accepted → (i : ℕ) → i < n → TaskRight s (at + 8 * i)
 unfolding tasksFault
 tasks-right s zero at e i h = absurd (omega arith)
 tasks-right s (suc n) at e zero h =
     let f : at + 8 * 0 ≡ at = omega arith in
-    rw f (task-right s at (then-zero _ _ e .0))
+    rw f (task-right s at (then-none _ _ e .0))
 tasks-right s (suc n) at e (suc i) h =
     let f : at + 8 + 8 * i ≡ at + 8 * suc i = omega arith in
-    rw (← f) (tasks-right s n (at + 8) (then-zero _ _ e .1) i (omega arith))
+    rw (← f) (tasks-right s n (at + 8) (then-none _ _ e .1) i (omega arith))
 
 pub record ChainRight (s : List ℕ) (at : ℕ) (t : Table) : Type 0 where
   pub head : HeadRight s at t
@@ -121,11 +123,11 @@ pub record ChainRight (s : List ℕ) (at : ℕ) (t : Table) : Type 0 where
   pub tasks : (i : ℕ) → i < tasksAt s at → TaskRight s (firstTask s at + 8 * i)
   pub there : at + lengthAt s at ≤ length s
 
-pub chain-right : (s : List ℕ) (at : ℕ) (t : Table) → chainFault s at t ≡ 0 → ChainRight s at t
+pub chain-right : (s : List ℕ) (at : ℕ) (t : Table) → chainFault s at t ≡ Accepted → ChainRight s at t
 unfolding chainFault
 chain-right s at t e =
-    let e1 = then-zero _ _ e in
-    let e2 = then-zero _ _ (e1 .1) in
+    let e1 = then-none _ _ e in
+    let e2 = then-none _ _ (e1 .1) in
     let head = head-right s at t (e1 .0) in
     let tasks = tasks-right s (tasksAt s at) (firstTask s at) (e2 .1) in
     let last = tasks (tasksAt s at - 1) (omega (arith, head .tasks .0)) in

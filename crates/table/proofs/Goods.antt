@@ -12,13 +12,14 @@ use borrow.Author.Tests.{ltb-false, ne-eqb}
 use Rattle.search.proofs.Choice.{lt-or-le}
 use Rattle.table.specs.Limits.{maxDistances, maxTasks, maxDistance, maxCost, maxPriority}
 use Rattle.table.specs.Bytes.{word, Bytes}
-use Rattle.table.specs.Record.{gapAt, listedAt, tasksAt, firstTask, priorityAt, costAt, distancesAt, prioritiesAt, costsAt, pad, rowAt, distances}
-use Rattle.table.specs.Fault.{outside, falls, gapShort, distancesFault, gapFault, chainFault}
+use Rattle.table.specs.Record.{gapPlace, gapAt, listedAt, tasksAt, listPlace, firstTask, priorityAt, costAt, distancesAt, prioritiesAt, costsAt, pad, rowAt, distances}
+use Rattle.table.specs.Fault.{fallFault, lastFault, gapShort, gapFault, chainFault}
 use Rattle.table.specs.code.Good.{GoodDistances, GoodTasks, GoodRow}
 use Rattle.table.specs.declared.Table.{Table}
+use Rattle.table.specs.declared.Verdict.the-variants.{Accepted}
 use Rattle.table.proofs.Words.{word-below}
 use Rattle.table.proofs.Lists.{length-spaced, spaced-at}
-use Rattle.table.proofs.Firsts.{none-or, when-zero}
+use Rattle.table.proofs.Firsts.{none-or, when-none}
 use Rattle.table.proofs.Faultless.{inside, not-zero, ChainRight, chain-right}
 
 -- the 0s past a count change nothing that is read
@@ -41,22 +42,22 @@ each P l z f i = ⊎-elim (λ h. f i h) (λ h. rw (List·getD-eq-default l 0 {n 
 
 -- the list
 module _ where
-  rises : (before : ℕ) (ds : List ℕ) → falls before ds ≡ false → (j : ℕ) → j + 1 < length ds → getD ds j 0 ≤ getD ds (j + 1) 0
-  unfolding falls
-  rises before [] e j h = absurd (omega arith)
-  rises before (d ∷ []) e j h = absurd (omega arith)
-  rises before (d ∷ f ∷ ds) e zero h =
-      let g = none-or (outside before maxDistance d) _ e in
-      inside d maxDistance f (none-or (outside d maxDistance f) _ (g .1) .0) .0
-  rises before (d ∷ f ∷ ds) e (suc j) h =
+  rises : (before : ℕ) (ds : List ℕ) (at : ℕ) → fallFault before ds at ≡ Accepted → (j : ℕ) → j + 1 < length ds → getD ds j 0 ≤ getD ds (j + 1) 0
+  unfolding fallFault
+  rises before [] at e j h = absurd (omega arith)
+  rises before (d ∷ []) at e j h = absurd (omega arith)
+  rises before (d ∷ f ∷ ds) at e zero h =
+      let g = when-none _ _ _ _ e in
+      inside d maxDistance f (when-none _ _ _ _ (g .1) .0) .0
+  rises before (d ∷ f ∷ ds) at e (suc j) h =
       let g : suc j + 1 ≡ suc (j + 1) = omega arith in
-      rw g (rises d (f ∷ ds) (none-or (outside before maxDistance d) _ e .1) j (omega arith))
+      rw g (rises d (f ∷ ds) (at + 4) (when-none _ _ _ _ e .1) j (omega arith))
 
-  near : (before : ℕ) (ds : List ℕ) → falls before ds ≡ false → (j : ℕ) → getD ds j 0 ≤ maxDistance
-  unfolding falls
-  near before [] e j = omega arith
-  near before (d ∷ ds) e zero = inside before maxDistance d (none-or (outside before maxDistance d) _ e .0) .1
-  near before (d ∷ ds) e (suc j) = near d ds (none-or (outside before maxDistance d) _ e .1) j
+  near : (before : ℕ) (ds : List ℕ) (at : ℕ) → fallFault before ds at ≡ Accepted → (j : ℕ) → getD ds j 0 ≤ maxDistance
+  unfolding fallFault
+  near before [] at e j = omega arith
+  near before (d ∷ ds) at e zero = inside before maxDistance d (when-none _ _ _ _ e .0) .1
+  near before (d ∷ ds) at e (suc j) = near d ds (at + 4) (when-none _ _ _ _ e .1) j
 
   gaps : (gap n : ℕ) (ds : List ℕ) → gapShort gap n ds ≡ false → (j : ℕ) → j < length ds → getD ds j 0 ≤ gap * (n + j)
   unfolding gapShort
@@ -71,17 +72,15 @@ module _ where
   known : (b : Bool) (c : Bool) → b ≡ false → (not b && c) ≡ false → c ≡ false
   known b c e f = rw e at f
 
-  pub distances-good : (ds : List ℕ) → 1 ≤ length ds → length ds ≤ maxDistances → distancesFault ds ≡ 0 → GoodDistances ds
-  unfolding distancesFault
-  distances-good ds some few e =
-      let e1 = when-zero 7 _ _ e in
-      let e2 = when-zero 7 _ _ (e1 .1) in
-      record { some = some; few = few; rises = rises 0 ds (e1 .0); near = near 0 ds (e1 .0); ends = not-zero _ (e2 .0) }
+  pub distances-good : (ds : List ℕ) (at : ℕ) → 1 ≤ length ds → length ds ≤ maxDistances → fallFault 0 ds at ≡ Accepted → lastFault ds at ≡ Accepted → GoodDistances ds
+  unfolding lastFault
+  distances-good ds at some few e29 e30 =
+      record { some = some; few = few; rises = rises 0 ds at e29; near = near 0 ds at e29; ends = not-zero _ (when-none _ _ _ _ e30 .0) }
 
-  pub gap-good : (gap : ℕ) (ds : List ℕ) → gapFault gap ds ≡ 0 → 0 < gap → (j : ℕ) → j < length ds → getD ds j 0 ≤ gap * (j + 1)
+  pub gap-good : (gap : ℕ) (ds : List ℕ) (place : ℕ) → gapFault gap ds place ≡ Accepted → 0 < gap → (j : ℕ) → j < length ds → getD ds j 0 ≤ gap * (j + 1)
   unfolding gapFault
-  gap-good gap ds e g j h =
-      let f = gaps gap 1 ds (known (eqb gap 0) (gapShort gap 1 ds) (ne-eqb gap 0 (λ z. omega arith)) (when-zero 7 _ _ e .0)) j h in
+  gap-good gap ds place e g j h =
+      let f = gaps gap 1 ds (known (eqb gap 0) (gapShort gap 1 ds) (ne-eqb gap 0 (λ z. omega arith)) (when-none _ _ _ _ e .0)) j h in
       omega (arith, f)
 
 -- the tasks
@@ -123,7 +122,7 @@ distances-read s at =
     let n = length-spaced (word 4 s) 4 (listedAt s at) (at + 16) in
     ap (λ m. take m (pad maxDistances (distancesAt s at))) (sym n) ∙ take-append-seam (distancesAt s at) _
 
-pub row-good : (s : List ℕ) (at : ℕ) (t : Table) → Bytes s → chainFault s at t ≡ 0 → GoodRow (rowAt s at)
+pub row-good : (s : List ℕ) (at : ℕ) (t : Table) → Bytes s → chainFault s at t ≡ Accepted → GoodRow (rowAt s at)
 unfolding rowAt
 row-good s at t bytes e =
     let r = chain-right s at t e in
@@ -136,9 +135,9 @@ row-good s at t bytes e =
       deadline = r .head .deadline .0;
       deadline-max = r .head .deadline .1;
       gap-max = r .head .gap;
-      list = rw read (distances-good (distancesAt s at) (omega (arith, r .head .listed .0, n)) (omega (arith, r .head .listed .1, n)) (r .list .distances));
+      list = rw read (distances-good (distancesAt s at) (listPlace at) (omega (arith, r .head .listed .0, n)) (omega (arith, r .head .listed .1, n)) (r .list .rises) (r .list .ends));
       listed = rw read n;
       list-past = λ j h. rw pad-at (List·getD-eq-default (distancesAt s at) 0 (omega (arith, n)));
-      gaps = λ g j h. rw read (gap-good (gapAt s at) (distancesAt s at) (r .list .gap) g j (omega (arith, n)));
+      gaps = λ g j h. rw read (gap-good (gapAt s at) (distancesAt s at) (gapPlace at) (r .list .gap) g j (omega (arith, n)));
       tasks = tasks-good s at t bytes r;
     }

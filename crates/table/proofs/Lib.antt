@@ -5,6 +5,7 @@ pub mod Earlier
 pub mod Faultless
 pub mod Goods
 pub mod Steps
+pub mod Fields
 pub mod Standing
 pub mod Accepted
 pub mod Stands

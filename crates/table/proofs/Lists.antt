@@ -9,9 +9,11 @@ use lib.ListN.{length, getD, set, replicate, length-append}
 use lib.Seq.{set-at}
 use mathlib.Core.Bool.{true, false}
 use borrow.Author.Tests.{lt-ltb, le-ltb}
+use Rattle.search.specs.Choice.{_when_else_}
 use Rattle.table.specs.Limits.{maxDistance}
-use Rattle.table.specs.Fault.{_then_, outside, falls, gapShort, taskFault, tasksFault}
+use Rattle.table.specs.Fault.{_then_, outside, fallFault, gapShort, taskFault, tasksFault}
 use Rattle.table.specs.Record.{spaced, pad}
+use Rattle.table.specs.declared.Verdict.the-variants.{Accepted, Refused}
 
 module _ (f : ℕ → ℕ) (step : ℕ) where
   next : (at i : ℕ) → at + step * i + step ≡ at + step * (i + 1)
@@ -74,14 +76,14 @@ module _ (f : ℕ → ℕ) (step : ℕ) where
   spaced-last n at h = rw (length-spaced n at) (spaced-at n (n - 1) at (omega arith))
 
 -- the list judged, one distance at a time
-module _ (before d : ℕ) (ds : List ℕ) where
-  pub falls-yes : outside before maxDistance d ≡ true → falls before (d ∷ ds) ≡ true
-  unfolding falls
-  falls-yes e = rw e
+module _ (before d : ℕ) (ds : List ℕ) (at : ℕ) where
+  pub fall-here : outside before maxDistance d ≡ true → fallFault before (d ∷ ds) at ≡ Refused 29 at
+  unfolding fallFault _when_else_
+  fall-here e = rw e
 
-  pub falls-no : outside before maxDistance d ≡ false → falls before (d ∷ ds) ≡ falls d ds
-  unfolding falls
-  falls-no e = rw e
+  pub fall-on : outside before maxDistance d ≡ false → fallFault before (d ∷ ds) at ≡ fallFault d ds (at + 4)
+  unfolding fallFault _when_else_
+  fall-on e = rw e
 
 module _ (gap n d : ℕ) (ds : List ℕ) where
   pub gap-yes : gap * n < d → gapShort gap n (d ∷ ds) ≡ true
@@ -92,9 +94,9 @@ module _ (gap n d : ℕ) (ds : List ℕ) where
   unfolding gapShort
   gap-no h = rw (le-ltb _ _ h)
 
-pub falls-end : (before : ℕ) → falls before [] ≡ false
-unfolding falls
-falls-end before = refl
+pub fall-end : (before at : ℕ) → fallFault before [] at ≡ Accepted
+unfolding fallFault
+fall-end before at = refl
 
 pub gap-end : (gap n : ℕ) → gapShort gap n [] ≡ false
 unfolding gapShort
@@ -109,6 +111,6 @@ tasks-on s n i at h =
     let f : at + 8 * i + 8 ≡ at + 8 * (i + 1) = omega arith in
     rw (e, ← f)
 
-pub tasks-end : (s : List ℕ) (n i at : ℕ) → n ≤ i → tasksFault s (n - i) at ≡ 0
+pub tasks-end : (s : List ℕ) (n i at : ℕ) → n ≤ i → tasksFault s (n - i) at ≡ Accepted
 unfolding tasksFault
 tasks-end s n i at h = let e : n - i ≡ 0 = omega arith in rw e

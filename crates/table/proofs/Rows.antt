@@ -23,9 +23,11 @@ use Rattle.table.specs.code.Good.{GoodTable}
 use Rattle.table.specs.declared.Row.{Row}
 use Rattle.table.specs.declared.Table.{Table}
 use Rattle.table.specs.declared.Mark.{Mark}
-use Rattle.table.specs.declared.Mark.the-variants.{Chain, Task, End, Refused as Unknown}
-use Rattle.table.specs.declared.Verdict.the-variants.{Refused}
+use Rattle.table.specs.declared.Mark.the-variants.{Chain, Task, End, Unknown}
+use Rattle.table.specs.declared.Verdict.{Verdict}
+use Rattle.table.specs.declared.Verdict.the-variants.{Accepted, Refused}
 use Rattle.table.specs.declared.Reading.{Reading}
+use Rattle.table.proofs.Firsts.{not-accepted}
 
 -- t has the first rows of all, and blank ones after them
 pub record Decoded (all t : Table) : Type 0 where
@@ -76,35 +78,35 @@ module _ {all : Table} (good : GoodTable all) where
         ap (λ n. record { count = n; tasks = t .tasks; row = t .row }) e ∙ ap₂ (λ n l. record { count = all .count; tasks = n; row = l }) tasks rows
 
 -- what a reading can be: the empty table with a refusal, or a table that is accepted
-module _ (P : Reading → Type 0) (faulty : (n : ℕ) → P (refusal n)) (right : (t : Table) → P (accepted t)) where
-  unless-is : (n : ℕ) (r : Reading) → P r → P (unless refusal n r)
+module _ (P : Reading → Type 0) (faulty : (n place : ℕ) → P (refusal n place)) (right : (t : Table) → P (accepted t)) where
+  unless-is : (v : Verdict) (r : Reading) → P r → P (unless refusal v r)
   unfolding unless
-  unless-is zero r p = p
-  unless-is (suc n) r p = faulty (suc n)
+  unless-is Accepted r p = p
+  unless-is (Refused n place) r p = faulty n place
 
-  mark-is : (m : Mark) (chain end : Reading) → P chain → P end → P (byMark m chain end)
-  mark-is Chain chain end p q = p
-  mark-is Task chain end p q = faulty 3
-  mark-is End chain end p q = q
-  mark-is (Unknown n) chain end p q = faulty n
+  mark-is : (at : ℕ) (m : Mark) (chain end : Reading) → P chain → P end → P (byMark at m chain end)
+  mark-is at Chain chain end p q = p
+  mark-is at Task chain end p q = faulty 3 at
+  mark-is at End chain end p q = q
+  mark-is at Unknown chain end p q = faulty 3 at
 
   start-is : (s : List ℕ) (at : ℕ) (t : Table) (chain : Reading) → P chain → P (start s at t chain)
   unfolding start
   start-is s at t chain p =
-      when-cases P (ltb (length s) (at + 2)) (λ e. faulty 2)
-      (λ e. mark-is (markOf (word 2 s at)) chain (unless refusal (endFault s at t) (accepted t)) p (unless-is (endFault s at t) (accepted t) (right t)))
+      when-cases P (ltb (length s) (at + 2)) (λ e. faulty 2 (length s))
+      (λ e. mark-is at (markOf (word 2 s at)) chain (unless refusal (endFault s at t) (accepted t)) p (unless-is (endFault s at t) (accepted t) (right t)))
 
   records-is : (left : ℕ) (s : List ℕ) (at : ℕ) (t : Table) → P (records left s at t)
   unfolding records
-  records-is zero s at t = start-is s at t (refusal 11) (faulty 11)
+  records-is zero s at t = start-is s at t (refusal 11 at) (faulty 11 at)
   records-is (suc left) s at t =
       start-is s at t _ (unless-is (chainFault s at t) _ (records-is left s (at + lengthAt s at) (plus t (rowAt s at))))
 
   pub reading-is : (s : List ℕ) → P (readTable s)
   unfolding readTable
-  reading-is s = when-cases P (eqb (length s) 0 || ltb maxBytes (length s)) (λ e. faulty 1) (λ e. records-is maxChains s 0 empty)
+  reading-is s = when-cases P (eqb (length s) 0 || ltb maxBytes (length s)) (λ e. faulty 1 0) (λ e. records-is maxChains s 0 empty)
 
-pub refused-reading : (s : List ℕ) (n : ℕ) → readTable s .verdict ≡ Refused n → readTable s ≡ refusal n
-refused-reading s n =
-    reading-is (λ r. r .verdict ≡ Refused n → r ≡ refusal n) (λ m e. let same : m ≡ n = cc in ap refusal same)
-    (λ t e. absurd (let z : _≡_ {A = ℕ} 0 1 = cc in omega arith)) s
+pub refused-reading : (s : List ℕ) (n place : ℕ) → readTable s .verdict ≡ Refused n place → readTable s ≡ refusal n place
+refused-reading s n place =
+    reading-is (λ r. r .verdict ≡ Refused n place → r ≡ refusal n place) (λ m at e. ap (λ (v : Verdict). record { verdict = v; table = empty }) e)
+    (λ t e. absurd (not-accepted (sym e))) s

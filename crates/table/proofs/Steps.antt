@@ -8,7 +8,6 @@ use lib.ListN.{length}
 use lib.Dec.{ltb, eqb}
 use borrow.Author.Tests.{lt-ltb, le-ltb}
 use Rattle.search.specs.Choice.{_when_else_}
-use Rattle.search.proofs.Choice.{when-cases}
 use Rattle.table.specs.Limits.{maxChains, maxBytes}
 use Rattle.table.specs.Bytes.{word}
 use Rattle.table.specs.Record.{rowAt, lengthAt}
@@ -16,16 +15,10 @@ use Rattle.table.specs.Fault.{markOf, chainFault, endFault}
 use Rattle.table.specs.Read.{empty, plus, refusal, accepted, unless, byMark, start, records, readTable}
 use Rattle.table.specs.declared.Table.{Table}
 use Rattle.table.specs.declared.Mark.{Mark}
-use Rattle.table.specs.declared.Mark.the-variants.{Chain, Task, End, Refused as Unknown}
-
--- what holds of each mark, and of refusal 3, holds of any two bytes
-pub mark-cases : (P : Mark → Type 0) → P Chain → P Task → P End → P (Unknown 3) → (m : ℕ) → P (markOf m)
-unfolding markOf
-mark-cases P chain task end unknown m =
-    when-cases P (eqb m 18499) (λ e. chain) (λ e. when-cases P (eqb m 19284) (λ e. task) (λ e. when-cases P (eqb m 20037) (λ e. end) (λ e. unknown)))
+use Rattle.table.specs.declared.Mark.the-variants.{Chain, Task, End, Unknown}
 
 -- the length is judged first
-pub read-long : (s : List ℕ) → (eqb (length s) 0 || ltb maxBytes (length s)) ≡ true → readTable s ≡ refusal 1
+pub read-long : (s : List ℕ) → (eqb (length s) 0 || ltb maxBytes (length s)) ≡ true → readTable s ≡ refusal 1 0
 unfolding readTable _when_else_
 read-long s e = rw e
 
@@ -34,7 +27,7 @@ unfolding readTable _when_else_
 read-on s e = rw e
 
 module _ (s : List ℕ) (at : ℕ) (t : Table) where
-  pub records-short : (left : ℕ) → length s < at + 2 → records left s at t ≡ refusal 2
+  pub records-short : (left : ℕ) → length s < at + 2 → records left s at t ≡ refusal 2 (length s)
   unfolding records start _when_else_
   records-short zero h = rw (lt-ltb _ _ h)
   records-short (suc left) h = rw (lt-ltb _ _ h)
@@ -42,18 +35,18 @@ module _ (s : List ℕ) (at : ℕ) (t : Table) where
   module _ (there : at + 2 ≤ length s) where
     -- where the mark leads does not depend on the room, but for a chain
     pub records-mark : (left : ℕ) (m : Mark) → markOf (word 2 s at) ≡ m → (m ≡ Chain → ⊥)
-        → records left s at t ≡ byMark m (refusal 11) (unless refusal (endFault s at t) (accepted t))
+        → records left s at t ≡ byMark at m (refusal 11 at) (unless refusal (endFault s at t) (accepted t))
     unfolding records start _when_else_
     records-mark left Chain e h = absurd (h refl)
     records-mark zero Task e h = rw (le-ltb _ _ there, e)
     records-mark (suc left) Task e h = rw (le-ltb _ _ there, e)
     records-mark zero End e h = rw (le-ltb _ _ there, e)
     records-mark (suc left) End e h = rw (le-ltb _ _ there, e)
-    records-mark zero (Unknown n) e h = rw (le-ltb _ _ there, e)
-    records-mark (suc left) (Unknown n) e h = rw (le-ltb _ _ there, e)
+    records-mark zero Unknown e h = rw (le-ltb _ _ there, e)
+    records-mark (suc left) Unknown e h = rw (le-ltb _ _ there, e)
 
     module _ (chain : markOf (word 2 s at) ≡ Chain) where
-      pub records-full : t .count ≡ maxChains → records (maxChains - t .count) s at t ≡ refusal 11
+      pub records-full : t .count ≡ maxChains → records (maxChains - t .count) s at t ≡ refusal 11 at
       unfolding records start _when_else_
       records-full e = rw (e, le-ltb _ _ there, chain)
 

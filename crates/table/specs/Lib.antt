@@ -4,5 +4,6 @@ pub mod Record
 pub mod Find
 pub mod Fault
 pub mod Read
+pub mod Field
 pub mod Place
 pub mod code

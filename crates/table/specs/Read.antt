@@ -1,4 +1,4 @@
--- A stored table, read from the first byte; the first fault decides (01, 'Stored table').
+-- A stored table, read from the first byte; the first fault decides, its number and its place (01, 'Stored table').
 use Prim.Native.Nat.{ℕ, zero, suc, _+_}
 use mathlib.Core.List.{List}
 use mathlib.Core.Bool.{_||_}
@@ -12,7 +12,7 @@ use Rattle.table.specs.Fault.{markOf, chainFault, endFault}
 use Rattle.table.specs.declared.Row.{Row}
 use Rattle.table.specs.declared.Table.{Table}
 use Rattle.table.specs.declared.Mark.{Mark}
-use Rattle.table.specs.declared.Mark.the-variants.{Chain, Task, End, Refused as Unknown}
+use Rattle.table.specs.declared.Mark.the-variants.{Chain, Task, End, Unknown}
 use Rattle.table.specs.declared.Verdict.{Verdict}
 use Rattle.table.specs.declared.Verdict.the-variants.{Accepted, Refused}
 use Rattle.table.specs.declared.Reading.{Reading}
@@ -25,50 +25,54 @@ empty = record { count = 0; tasks = 0; row = replicate maxChains blank }
 abbrev pub plus : Table → Row → Table
 plus t r = record { count = t .count + 1; tasks = t .tasks + r .tasks; row = set (t .row) (t .count) r }
 
--- document 01's number for each verdict: 0 for an accepted table, else the refusal
+-- the number of each verdict, 0 for an accepted table, and the place of the fault, 0 where there is none
 abbrev pub numberOf : Verdict → ℕ
 numberOf Accepted = 0
-numberOf (Refused n) = n
+numberOf (Refused n place) = n
 
--- a refused table refuses every query, each in its own way; an accepted one is asked
+abbrev pub faultPlace : Verdict → ℕ
+faultPlace Accepted = 0
+faultPlace (Refused n place) = place
+
+-- a fault refuses, each answer in its own way; where there is none, what follows
+unfoldable pub unless : {A : Type 0} → (ℕ → ℕ → A) → Verdict → A → A
+unless refuse Accepted rest = rest
+unless refuse (Refused n place) rest = refuse n place
+
+-- a refused table refuses every query with the number alone, each in its own way; an accepted one is asked
 abbrev pub byVerdict : {A : Type 0} → (ℕ → A) → Verdict → A → A
 byVerdict refuse Accepted answer = answer
-byVerdict refuse (Refused n) answer = refuse n
+byVerdict refuse (Refused n place) answer = refuse n
 
 -- a refusal carries the empty table
-abbrev pub refusal : ℕ → Reading
-refusal n = record { verdict = Refused n; table = empty }
+abbrev pub refusal : ℕ → ℕ → Reading
+refusal n place = record { verdict = Refused n place; table = empty }
 
 abbrev pub accepted : Table → Reading
 accepted t = record { verdict = Accepted; table = t }
 
--- a fault refuses, each answer in its own way; where there is none, what follows
-unfoldable pub unless : {A : Type 0} → (ℕ → A) → ℕ → A → A
-unless refuse zero rest = rest
-unless refuse (suc n) rest = refuse (suc n)
-
--- what a mark at a record's start leads to; a task is not known there
-abbrev pub byMark : Mark → Reading → Reading → Reading
-byMark Chain chain end = chain
-byMark End chain end = end
-byMark Task chain end = refusal 3
-byMark (Unknown n) chain end = refusal n
+-- what a mark at a record's start, `at`, leads to; a task is not known there
+abbrev pub byMark : ℕ → Mark → Reading → Reading → Reading
+byMark at Chain chain end = chain
+byMark at End chain end = end
+byMark at Task chain end = refusal 3 at
+byMark at Unknown chain end = refusal 3 at
 
 -- the record that starts at `at`, after the rows of t, where `chain` is what a chain leads to
 unfoldable pub start : List ℕ → ℕ → Table → Reading → Reading
 start s at t chain =
-    refusal 2 when ltb (length s) (at + 2) else
-    byMark (markOf (word 2 s at)) chain (unless refusal (endFault s at t) (accepted t))
+    refusal 2 (length s) when ltb (length s) (at + 2) else
+    byMark at (markOf (word 2 s at)) chain (unless refusal (endFault s at t) (accepted t))
 
 -- the records from `at` on, after the rows of t, with room for `left` chains more
 unfoldable pub records : ℕ → List ℕ → ℕ → Table → Reading
-records zero s at t = start s at t (refusal 11)
+records zero s at t = start s at t (refusal 11 at)
 records (suc left) s at t =
     start s at t (unless refusal (chainFault s at t) (records left s (at + lengthAt s at) (plus t (rowAt s at))))
 
 -- 1 where there is no byte or are too many; else the records from the first byte on
 unfoldable pub readTable : List ℕ → Reading
-readTable s = refusal 1 when eqb (length s) 0 || ltb maxBytes (length s) else records maxChains s 0 empty
+readTable s = refusal 1 0 when eqb (length s) 0 || ltb maxBytes (length s) else records maxChains s 0 empty
 
 -- the table that the bytes hold
 abbrev pub tableOf : List ℕ → Table

@@ -1,4 +1,4 @@
--- A chain record and its tasks (01, 'Stored table'): the fields by their offsets, and the row that they make.
+-- The records (01, 'Stored table'): the fields by their places, and the row that a chain record makes.
 use Prim.Native.Nat.{ℕ, zero, suc, _+_, _*_, _-_}
 use mathlib.Core.List.{List, [], _∷_, _++_}
 use lib.ListN.{length, getD, take, replicate}
@@ -6,30 +6,54 @@ use Rattle.table.specs.Limits.{maxDistances, maxTasks}
 use Rattle.table.specs.Bytes.{word}
 use Rattle.table.specs.declared.Row.{Row}
 
--- The fixed part of the chain record at `at`: 16 bytes, the mark first
+-- The fixed part of the chain record at `at`, 16 bytes, the mark first: where each field stands, and what it holds
+
+abbrev pub idPlace : ℕ → ℕ
+idPlace at = at + 2
 
 abbrev pub idAt : List ℕ → ℕ → ℕ
-idAt s at = word 2 s (at + 2)
+idAt s at = word 2 s (idPlace at)
+
+abbrev pub kindPlace : ℕ → ℕ
+kindPlace at = at + 4
 
 abbrev pub kindAt : List ℕ → ℕ → ℕ
-kindAt s at = getD s (at + 4) 0
+kindAt s at = getD s (kindPlace at) 0
+
+abbrev pub overloadPlace : ℕ → ℕ
+overloadPlace at = at + 5
 
 abbrev pub overloadAt : List ℕ → ℕ → ℕ
-overloadAt s at = getD s (at + 5) 0
+overloadAt s at = getD s (overloadPlace at) 0
+
+abbrev pub deadlinePlace : ℕ → ℕ
+deadlinePlace at = at + 6
 
 abbrev pub deadlineAt : List ℕ → ℕ → ℕ
-deadlineAt s at = word 4 s (at + 6)
+deadlineAt s at = word 4 s (deadlinePlace at)
+
+abbrev pub gapPlace : ℕ → ℕ
+gapPlace at = at + 10
 
 abbrev pub gapAt : List ℕ → ℕ → ℕ
-gapAt s at = word 4 s (at + 10)
+gapAt s at = word 4 s (gapPlace at)
+
+abbrev pub listedPlace : ℕ → ℕ
+listedPlace at = at + 14
 
 abbrev pub listedAt : List ℕ → ℕ → ℕ
-listedAt s at = getD s (at + 14) 0
+listedAt s at = getD s (listedPlace at) 0
+
+abbrev pub tasksPlace : ℕ → ℕ
+tasksPlace at = at + 15
 
 abbrev pub tasksAt : List ℕ → ℕ → ℕ
-tasksAt s at = getD s (at + 15) 0
+tasksAt s at = getD s (tasksPlace at) 0
 
 -- After it the distances, 4 bytes each, then the tasks, 8 bytes each
+
+abbrev pub listPlace : ℕ → ℕ
+listPlace at = at + 16
 
 -- where the tasks of a record at `at` start, after so many distances, and how long a record is
 abbrev pub afterList : ℕ → ℕ → ℕ
@@ -47,11 +71,29 @@ lengthAt s at = recordLength (listedAt s at) (tasksAt s at)
 
 -- A task record at `at`, the mark first
 
+abbrev pub priorityPlace : ℕ → ℕ
+priorityPlace at = at + 2
+
 abbrev pub priorityAt : List ℕ → ℕ → ℕ
-priorityAt s at = word 2 s (at + 2)
+priorityAt s at = word 2 s (priorityPlace at)
+
+abbrev pub costPlace : ℕ → ℕ
+costPlace at = at + 4
 
 abbrev pub costAt : List ℕ → ℕ → ℕ
-costAt s at = word 4 s (at + 4)
+costAt s at = word 4 s (costPlace at)
+
+-- The end record at `at`, the mark first: how many chains there are
+
+abbrev pub countPlace : ℕ → ℕ
+countPlace at = at + 2
+
+abbrev pub countAt : List ℕ → ℕ → ℕ
+countAt s at = word 2 s (countPlace at)
+
+-- what follows it
+abbrev pub afterEnd : ℕ → ℕ
+afterEnd at = at + 4
 
 -- n numbers from `at` on, one every `step` bytes
 unfoldable pub spaced : (ℕ → ℕ) → ℕ → ℕ → ℕ → List ℕ
@@ -59,7 +101,7 @@ spaced f step zero at = []
 spaced f step (suc n) at = f at ∷ spaced f step n (at + step)
 
 abbrev pub distancesAt : List ℕ → ℕ → List ℕ
-distancesAt s at = spaced (word 4 s) 4 (listedAt s at) (at + 16)
+distancesAt s at = spaced (word 4 s) 4 (listedAt s at) (listPlace at)
 
 abbrev pub prioritiesAt : List ℕ → ℕ → List ℕ
 prioritiesAt s at = spaced (priorityAt s) 8 (tasksAt s at) (firstTask s at)

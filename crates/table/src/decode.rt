@@ -115,7 +115,7 @@ pub fn read(s: &[u8]) -> Reading
             verdict,
             table: rows(s),
         },
-        Verdict::Refused(_) => Reading {
+        Verdict::Refused(_, _) => Reading {
             verdict,
             table: Table::empty(),
         },

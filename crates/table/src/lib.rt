@@ -61,9 +61,10 @@ pub struct Table {
     pub row: [Row; Table::CHAINS],
 }
 
+// Accepted, or the first fault: its number, and the offset of the first byte of the field at fault.
 pub enum Verdict {
     Accepted,
-    Refused(u32),
+    Refused(u32, usize),
 }
 
 // The table beside its verdict; a refusal carries the empty table.
@@ -91,12 +92,12 @@ pub struct Limits {
     pub bytes: usize,
 }
 
-// What the two bytes of a mark, as a number, stand for; any other number is refused.
+// What the two bytes of a mark, as a number, stand for.
 pub enum Mark {
     Chain,
     Task,
     End,
-    Refused(u32),
+    Unknown,
 }
 
 impl Row {

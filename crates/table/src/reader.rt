@@ -11,29 +11,14 @@ use crate::record::id_at;
 use crate::record::record_length;
 use crate::record::tasks_at;
 ghost use mathlib.Core.Path.{_≡_};
-ghost use Prim.Native.Nat.{_+_, _≤_};
-ghost use lib.ListN.{length};
-ghost use Rattle.table.specs.Fault.{endFault};
-ghost use Rattle.table.specs.Read.{accepted, refusal, unless, readTable};
-ghost use Rattle.table.specs.declared.Table.{Table};
-
-// The verdict of the end record at `at`, its mark known, after so many chains.
-fn ended(s: &[u8], at: usize, count: usize) -> Verdict
-    requires { ⌜ at + 2 ≤ length (now s) ⌝ }
-    ensures { λ r. ⌜ ((t : Table) → t .count ≡ count → r ≡ unless refusal (endFault (now (s .entry)) at t) (accepted t) .verdict) ⌝ }
-{
-    match end_fault(s, at, count) {
-        0 => Verdict::Accepted,
-        fault => Verdict::Refused(fault),
-    }
-}
+ghost use Rattle.table.specs.Read.{readTable};
 
 // Judges a stored table. No byte past the slice is looked at.
 pub fn judge(s: &[u8]) -> Verdict
     ensures { λ r. ⌜ r ≡ readTable (now (s .entry)) .verdict ⌝ }
 {
     if s.len() == 0 || Table::BYTES < s.len() {
-        return Verdict::Refused(1);
+        return Verdict::Refused(1, 0);
     }
     let mut ids = [0u16; Table::CHAINS];
     let mut before = Before { count: 0, tasks: 0 };
@@ -42,31 +27,32 @@ pub fn judge(s: &[u8]) -> Verdict
         match mark_of(u16_at(s, at)) {
             Mark::Chain => {
                 if before.count == Table::CHAINS {
-                    return Verdict::Refused(11);
+                    return Verdict::Refused(11, at);
                 }
-                match chain_fault(s, at, &ids, before) {
-                    0 => {
+                let chain = chain_fault(s, at, &ids, before);
+                match chain {
+                    Verdict::Accepted => {
                         let count = before.count;
                         ids[count] = id_at(s, at);
                         before.count = count + 1;
                         before.tasks = before.tasks + tasks_at(s, at);
                         at = at + record_length(s, at);
                     }
-                    fault => {
-                        return Verdict::Refused(fault);
+                    Verdict::Refused(_, _) => {
+                        return chain;
                     }
                 }
             }
             Mark::End => {
-                return ended(s, at, before.count);
+                return end_fault(s, at, before.count);
             }
             Mark::Task => {
-                return Verdict::Refused(3);
+                return Verdict::Refused(3, at);
             }
-            Mark::Refused(fault) => {
-                return Verdict::Refused(fault);
+            Mark::Unknown => {
+                return Verdict::Refused(3, at);
             }
         }
     }
-    Verdict::Refused(2)
+    Verdict::Refused(2, s.len())
 }

@@ -53,11 +53,11 @@ fn case_of(head: &[u8; 28]) -> Case {
     }
 }
 
-// The verdict on the table.
+// The verdict on the table, and the place of its fault, `values[0]`.
 fn verdict_right(s: &[u8], c: Case) -> bool {
     match table::judge(s) {
         Verdict::Accepted => c.number == 0,
-        Verdict::Refused(n) => n == c.number,
+        Verdict::Refused(n, at) => n == c.number && at == c.values[0] as usize,
     }
 }
 

@@ -31,9 +31,9 @@ module _ (t : Table) (id : ℕ) where
   chain-found h = when-no _ _ (ne-eqb _ _ h)
 
 module _ (s : List ℕ) (id : ℕ) where
-  pub latency-refused : (n : ℕ) → readTable s .verdict ≡ Faulty n → latencyOf s id ≡ Refused n
+  pub latency-refused : {n place : ℕ} → readTable s .verdict ≡ Faulty n place → latencyOf s id ≡ Refused n
   unfolding latencyOf
-  latency-refused n e = ap (λ v. byVerdict Refused v (latencyIn (readTable s .table) id)) e
+  latency-refused e = ap (λ v. byVerdict Refused v (latencyIn (readTable s .table) id)) e
 
   pub latency-accepted : readTable s .verdict ≡ Accepted → latencyOf s id ≡ latencyIn (readTable s .table) id
   unfolding latencyOf

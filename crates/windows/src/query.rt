@@ -44,6 +44,6 @@ pub fn latency(table: &[u8], id: u32) -> Answer
 {
     match judge(table) {
         Verdict::Accepted => latency_in(table, id),
-        Verdict::Refused(n) => Answer::Refused(n),
+        Verdict::Refused(n, _) => Answer::Refused(n),
     }
 }

@@ -1,8 +1,10 @@
 -- By the verdict.
+use native.Mathlib.Omega.{arith}
 use mathlib.Core.Path.{_≡_, sym, _∙_}
 use Rattle.table.specs.Read.{readTable}
 use Rattle.table.specs.declared.Verdict.the-variants.{Accepted}
 use Rattle.table.proofs.Accepted.{taken}
+use Rattle.table.proofs.Fields.{small-place}
 use Rattle.report_text.proofs.Answers.{report-accepted, report-refused, wrote-report}
 use borrow.Author.Needs.{needs}
 use Rattle.report_text.proofs.report.Statement.{statement}
@@ -24,6 +26,10 @@ put-lines-requires c κs =
 enum-known-n : tie.Need-enum-known-n
 enum-known-n c = search needs
 
+-- the place of the fault fits in the number that is printed
+cast-put-refused : tie.Need-cast-put-refused
+cast-put-refused c = omega (arith, small-place (c .before .before .before .before .before .before .args .table .now) (sym (c .before .before .before .before .judge .ensures) ∙ c .before .before .n .given .1))
+
 put-refused-requires : tie.Need-put-refused-requires
 put-refused-requires c κs = search needs
 
@@ -35,7 +41,7 @@ returns c =
 returns-2 : tie.Need-returns-2
 returns-2 c =
     let s = c .before .before .before .before .before .before .before .args .table .now in
-    wrote-report s (report-refused s (c .before .before .before .n .given .0 .0) (sym (c .before .before .before .before .before .judge .ensures) ∙ c .before .before .before .n .given .1)) (search needs) (c .put-refused .ensures)
+    wrote-report s (report-refused s (sym (c .before .before .before .before .before .judge .ensures) ∙ c .before .before .before .n .given .1)) (search needs) (c .put-refused .ensures)
 
 pub report-spec : {M : Type 1} → statement M
 report-spec =
@@ -45,6 +51,7 @@ report-spec =
     enum-told
     put-lines-requires
     enum-known-n
+    cast-put-refused
     put-refused-requires
     returns
     returns-2)

@@ -34,7 +34,7 @@ returns-2 : tie.Need-returns-2
 returns-2 c =
     let a = c .before .before .before .before .before .args in
     let g = c .before .n .given in
-    sym (misses-refused (now (a .table)) (a .id) (a .k) (g .0 .0) (sym (c .before .before .before .judge .ensures) ∙ g .1))
+    sym (misses-refused (now (a .table)) (a .id) (a .k) (sym (c .before .before .before .judge .ensures) ∙ g .1))
 
 pub misses-spec : {M : Type 1} → statement M
 misses-spec =

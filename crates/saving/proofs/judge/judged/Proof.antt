@@ -31,7 +31,7 @@ returns-2 : tie.Need-returns-2
 returns-2 c =
     let a = c .before .before .before .before .before .before .before .args in
     let e = sym (c .before .before .before .judge .ensures) ∙ c .before .fault .given .1 in
-    let some = refused-some (now (a .s)) _ e in
+    let some = refused-some (now (a .s)) e in
     record {
       faulty = sym (change-unread (a .room) (now (a .s)) (now (a .old)) (now (a .new)) some ∙ ap numberOf e);
       begins = λ z. absurd (some (ap numberOf e ∙ z));

@@ -32,7 +32,7 @@ returns c = ap₂ (λ v t. record { verdict = v; table = t }) (c .before .before
 returns-2 : tie.Need-returns-2
 returns-2 c =
     let s = now (c .before .before .before .before .before .args .s) in
-    let e = refused-reading s (c .before .enum-told2 .given .0 .0) (sym (c .before .before .before .judge .ensures) ∙ c .before .enum-told2 .given .1) in
+    let e = refused-reading s (c .before .enum-told2 .given .0 .0) (c .before .enum-told2 .given .0 .1 .0) (sym (c .before .before .before .judge .ensures) ∙ c .before .enum-told2 .given .1) in
     ap₂ (λ v t. record { verdict = v; table = t }) (c .before .before .before .judge .ensures) (c .empty .ensures ∙ ap (λ (r : Reading). r .table) (sym e))
 
 pub read-spec : {M : Type 1} → statement M

@@ -20,6 +20,9 @@ u32-from-u8-requires c κs = search needs
 outside-requires : tie.Need-outside-requires
 outside-requires c κs = search needs
 
+add-t10 : tie.Need-add-t10
+add-t10 c = search needs
+
 returns : tie.Need-returns
 unfolding countsFault _when_else_
 returns c = rw (← c .before .before .u32-from-u8 .ensures .0, ← c .before .outside .ensures, c .if1 .taken)
@@ -32,6 +35,9 @@ shared-slice-read-tasks-wrong c = search needs
 
 tasks-wrong-requires : tie.Need-tasks-wrong-requires
 tasks-wrong-requires c κs = search needs
+
+add-t13 : tie.Need-add-t13
+add-t13 c = search needs
 
 returns-2 : tie.Need-returns-2
 unfolding countsFault _when_else_
@@ -50,9 +56,11 @@ counts-fault-spec =
     shared-slice-read-u32-from-u8
     u32-from-u8-requires
     outside-requires
+    add-t10
     returns
     add-tasks-wrong
     shared-slice-read-tasks-wrong
     tasks-wrong-requires
+    add-t13
     returns-2
     returns-3)

@@ -1,53 +1,53 @@
--- At each return the tests so far, in order, are what the calls gave.
-use native.Mathlib.Omega.{arith}
-use denote.Ref.{now}
-use borrow.Author.Tests.{eq-eqb, ne-eqb}
-use Rattle.search.specs.Choice.{_when_else_}
-use Rattle.table.specs.Bytes.{word}
-use Rattle.table.specs.Fault.{distancesFault}
-use Rattle.table.proofs.Lists.{spaced-last}
+-- The first of the three that is a fault.
+use Rattle.table.specs.Fault.{_then_, distancesFault}
 use borrow.Author.Needs.{needs}
 use Rattle.table.proofs.fault.distances_fault.Statement.{statement}
 use Rattle.table.proofs.fault.distances_fault.Tie as tie
 
-falls-requires : tie.Need-falls-requires
-falls-requires c κs = search needs
+fall-fault-requires : tie.Need-fall-fault-requires
+fall-fault-requires c κs = search needs
+
+enum-told : tie.Need-enum-told
+enum-told c = search needs
+
+last-fault-requires : tie.Need-last-fault-requires
+last-fault-requires c κs = search needs
+
+enum-told-2 : tie.Need-enum-told-2
+enum-told-2 c = search needs
+
+gap-fault-requires : tie.Need-gap-fault-requires
+gap-fault-requires c κs = search needs
+
+enum-told-3 : tie.Need-enum-told-3
+enum-told-3 c = search needs
+
+enum-told-4 : tie.Need-enum-told-4
+enum-told-4 c = search needs
 
 returns : tie.Need-returns
-unfolding distancesFault _when_else_
-returns c = rw (← c .before .falls .ensures, c .if1 .taken)
-
-sub-u32-at : tie.Need-sub-u32-at
-sub-u32-at c = search needs
-
-mul-u32-at : tie.Need-mul-u32-at
-mul-u32-at c = search needs
-
-add-u32-at : tie.Need-add-u32-at
-add-u32-at c = search needs
-
-u32-at-requires : tie.Need-u32-at-requires
-u32-at-requires c κs = search needs
+unfolding distancesFault _then_
+returns c = rw (← c .before .before .before .before .before .before .fall-fault .ensures, c .before .before .before .before .enum-told .given .1, ← c .before .before .before .last-fault .ensures, c .before .enum-told2 .given .1, ← c .gap-fault .ensures)
 
 returns-2 : tie.Need-returns-2
-unfolding distancesFault _when_else_
-returns-2 c = let a = c .before .before .before .before .before .args in
-    rw (← c .before .before .before .falls .ensures, c .before .before .if1 .left, spaced-last (word 4 (now (a .s))) 4 (a .n) (a .at) (omega arith), ← c .before .u32-at .ensures, eq-eqb _ _ (c .if2 .taken))
+unfolding distancesFault _then_
+returns-2 c = rw (← c .before .before .before .before .before .fall-fault .ensures, c .before .before .before .enum-told .given .1, ← c .before .before .last-fault .ensures, c .enum-told3 .given .1)
 
 returns-3 : tie.Need-returns-3
-unfolding distancesFault _when_else_
-returns-3 c = let a = c .before .before .before .before .before .args in
-    rw (← c .before .before .before .falls .ensures, c .before .before .if1 .left, spaced-last (word 4 (now (a .s))) 4 (a .n) (a .at) (omega arith), ← c .before .u32-at .ensures, ne-eqb _ _ (c .if2 .left))
+unfolding distancesFault _then_
+returns-3 c = rw (← c .before .before .fall-fault .ensures, c .enum-told4 .given .1)
 
 pub distances-fault-spec : {M : Type 1} → statement M
 distances-fault-spec =
     tie.close
     (tie.spec
-    falls-requires
+    fall-fault-requires
+    enum-told
+    last-fault-requires
+    enum-told-2
+    gap-fault-requires
+    enum-told-3
+    enum-told-4
     returns
-    sub-u32-at
-    mul-u32-at
-    add-u32-at
-    u32-at-requires
     returns-2
     returns-3)

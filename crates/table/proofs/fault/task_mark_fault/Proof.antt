@@ -28,8 +28,8 @@ enum-told-2 c = search needs
 enum-told-3 : tie.Need-enum-told-3
 enum-told-3 c = search needs
 
-enum-known-fault : tie.Need-enum-known-fault
-enum-known-fault c = search needs
+enum-told-4 : tie.Need-enum-told-4
+enum-told-4 c = search needs
 
 returns-2 : tie.Need-returns-2
 unfolding taskMarkFault _when_else_
@@ -45,7 +45,7 @@ returns-4 c = rw (le-ltb _ _ (c .before .before .before .before .if1 .left), ←
 
 returns-5 : tie.Need-returns-5
 unfolding taskMarkFault _when_else_
-returns-5 c = rw (le-ltb _ _ (c .before .before .before .before .before .if1 .left), ← c .before .before .before .before .u16-at .ensures, ← c .before .before .before .mark-of .ensures, c .before .fault .given .1)
+returns-5 c = rw (le-ltb _ _ (c .before .before .before .before .if1 .left), ← c .before .before .before .u16-at .ensures, ← c .before .before .mark-of .ensures, c .enum-told4 .given .1)
 
 pub task-mark-fault-spec : {M : Type 1} → statement M
 task-mark-fault-spec =
@@ -58,7 +58,7 @@ task-mark-fault-spec =
     enum-told
     enum-told-2
     enum-told-3
-    enum-known-fault
+    enum-told-4
     returns-2
     returns-3
     returns-4

@@ -5,6 +5,7 @@ use native.Mathlib.Omega.{arith}
 use mathlib.Core.Path.{_≡_, sym, _∙_}
 use denote.Ref.{now}
 use lib.ListN.{length}
+use borrow.Author.Needs.{needs}
 use Rattle.table.specs.Fault.{tasksFault}
 use Rattle.table.proofs.Firsts.{then-stop, then-go}
 use Rattle.table.proofs.Lists.{tasks-on, tasks-end}
@@ -30,6 +31,9 @@ add-task-fault c = omega arith
 task-fault-requires : tie.Need-task-fault-requires Inv-loop μ-loop
 task-fault-requires c κs = omega arith
 
+enum-told : tie.Need-enum-told Inv-loop μ-loop
+enum-told c = search needs
+
 add-i : tie.Need-add-i Inv-loop μ-loop
 add-i c = omega arith
 
@@ -37,15 +41,19 @@ loop-less : tie.Need-loop-less Inv-loop μ-loop
 loop-less c = omega arith
 
 loop-again : tie.Need-loop-again Inv-loop μ-loop
-loop-again c = let a = c .before .before .before .before .before .args in
-    let i = c .before .before .before .loop .i in
-    let there = task-right _ _ (sym (c .before .task-fault .ensures) ∙ c .match .keys1) .there in
-    (omega arith, omega (arith, there), cc (tasks-on (now (a .s)) (a .n) i (a .at) (omega arith), then-go (c .before .task-fault .result) (tasksFault (now (a .s)) (a .n - (i + 1)) (a .at + 8 * (i + 1))) (c .match .keys1)))
+loop-again c = let a = c .before .before .before .before .before .before .args in
+    let i = c .before .before .before .before .loop .i in
+    let f = c .before .before .task-fault in
+    let there = task-right _ _ (sym (f .ensures) ∙ c .enum-told .given .1) .there in
+    (omega arith, omega (arith, there), cc (tasks-on (now (a .s)) (a .n) i (a .at) (omega arith), then-go (f .result) (tasksFault (now (a .s)) (a .n - (i + 1)) (a .at + 8 * (i + 1))) (c .enum-told .given .1)))
+
+enum-told-2 : tie.Need-enum-told-2 Inv-loop μ-loop
+enum-told-2 c = search needs
 
 returns : tie.Need-returns Inv-loop μ-loop
-returns c = let a = c .before .before .before .before .before .args in
-    let i = c .before .before .before .loop .i in
-    cc (tasks-on (now (a .s)) (a .n) i (a .at) (omega arith), then-stop (c .before .task-fault .result) (tasksFault (now (a .s)) (a .n - (i + 1)) (a .at + 8 * (i + 1))) (c .match .rest .1))
+returns c = let a = c .before .before .before .before .before .before .args in
+    let i = c .before .before .before .before .loop .i in
+    cc (tasks-on (now (a .s)) (a .n) i (a .at) (omega arith), then-stop (c .before .before .task-fault .result) (tasksFault (now (a .s)) (a .n - (i + 1)) (a .at + 8 * (i + 1))) (c .enum-told2 .given .1))
 
 returns-2 : tie.Need-returns-2 Inv-loop μ-loop
 returns-2 c = let a = c .before .before .before .args in
@@ -61,8 +69,10 @@ tasks-fault-spec =
     mul-task-fault
     add-task-fault
     task-fault-requires
+    enum-told
     add-i
     loop-less
     loop-again
+    enum-told-2
     returns
     returns-2)

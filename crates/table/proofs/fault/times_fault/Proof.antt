@@ -12,12 +12,18 @@ deadline-at-requires c κs = search needs
 outside-requires : tie.Need-outside-requires
 outside-requires c κs = search needs
 
+add-t5 : tie.Need-add-t5
+add-t5 c = search needs
+
 returns : tie.Need-returns
 unfolding timesFault _when_else_
 returns c = rw (← c .before .before .deadline-at .ensures, ← c .before .outside .ensures, c .if1 .taken)
 
 gap-at-requires : tie.Need-gap-at-requires
 gap-at-requires c κs = search needs
+
+add-t7 : tie.Need-add-t7
+add-t7 c = search needs
 
 returns-2 : tie.Need-returns-2
 unfolding timesFault _when_else_
@@ -30,4 +36,12 @@ returns-3 c = rw (← c .before .before .before .before .deadline-at .ensures, �
 pub times-fault-spec : {M : Type 1} → statement M
 times-fault-spec =
     tie.close
-    (tie.spec deadline-at-requires outside-requires returns gap-at-requires returns-2 returns-3)
+    (tie.spec
+    deadline-at-requires
+    outside-requires
+    add-t5
+    returns
+    gap-at-requires
+    add-t7
+    returns-2
+    returns-3)

@@ -18,10 +18,10 @@ use Rattle.table.specs.code.Before.{Keeps}
 use Rattle.table.specs.declared.Table.{Table}
 use Rattle.table.specs.declared.Reading.{Reading}
 use Rattle.table.specs.declared.Mark.{Mark}
-use Rattle.table.specs.declared.Mark.the-variants.{Chain, Task, End, Refused as Unknown}
+use Rattle.table.specs.declared.Mark.the-variants.{Chain, Task, End, Unknown}
 use Rattle.table.specs.declared.before.Before.{Before}
 use Rattle.table.proofs.Earlier.{before-more}
-use Rattle.table.proofs.Firsts.{or-left, or-right, or-none, unless-fault, unless-none}
+use Rattle.table.proofs.Firsts.{or-left, or-right, or-none, unless-fault, unless-none, ends-verdict}
 use Rattle.table.proofs.Faultless.{ChainRight, chain-right}
 use Rattle.table.proofs.Steps.{read-long, read-on, records-short, records-mark, records-full, records-chain}
 use borrow.Author.Needs.{needs}
@@ -75,7 +75,7 @@ module _ (c : tie.After-mark-of Inv-loop μ-loop) where
   mark : markOf (word 2 (bytes l) (l .loop .at)) ≡ c .mark-of .result
   mark = ap markOf (sym (c .before .u16-at .ensures)) ∙ sym (c .mark-of .ensures)
 
-  full : c .mark-of .result ≡ Chain → sofar l .count ≡ maxChains → readTable (bytes l) ≡ refusal 11
+  full : c .mark-of .result ≡ Chain → sofar l .count ≡ maxChains → readTable (bytes l) ≡ refusal 11 (l .loop .at)
   full e n = whole l ∙ records-full (bytes l) (l .loop .at) (sofar l) (c .before .before .loop-test .taken) (mark ∙ e) n
 
   -- what a chain without a fault leads to
@@ -86,7 +86,7 @@ module _ (c : tie.After-mark-of Inv-loop μ-loop) where
   chain e n = whole l ∙ records-chain (bytes l) (l .loop .at) (sofar l) (c .before .before .loop-test .taken) (mark ∙ e) n
 
   other : (m : Mark) → c .mark-of .result ≡ m → (m ≡ Chain → ⊥)
-      → readTable (bytes l) ≡ byMark m (refusal 11) (unless refusal (endFault (bytes l) (l .loop .at) (sofar l)) (accepted (sofar l)))
+      → readTable (bytes l) ≡ byMark (l .loop .at) m (refusal 11 (l .loop .at)) (unless refusal (endFault (bytes l) (l .loop .at) (sofar l)) (accepted (sofar l)))
   other m e h = whole l ∙ records-mark (bytes l) (l .loop .at) (sofar l) (c .before .before .loop-test .taken) (maxChains - sofar l .count) m (mark ∙ e) h
 
 -- there is room for a chain more
@@ -96,12 +96,12 @@ room c =
     omega (arith, counts l, l .loop .inv .1 .few, c .if3 .left)
 
 -- no fault: the record is right
-module _ (c : tie.At-match2-keys1 Inv-loop μ-loop) where
+module _ (c : tie.After-enum-told2 Inv-loop μ-loop) where
   abbrev before : tie.At-loop Inv-loop μ-loop
-  before = c .before .before .before .before .before .before .before .before .before .before
+  before = c .before .before .before .before .before .before .before .before .before .before .before
 
   right : ChainRight (bytes before) (before .loop .at) (sofar before)
-  right = chain-right _ _ _ (sym (c .before .chain-fault .ensures _ (before .loop .inv .1 .known)) ∙ c .match2 .keys1)
+  right = chain-right _ _ _ (sym (c .before .before .chain-fault .ensures _ (before .loop .inv .1 .known)) ∙ c .enum-told2 .given .1)
 
 returns : tie.Need-returns Inv-loop μ-loop
 returns c = sym (verdict (read-long (now (c .before .before .args .s)) (long c)))
@@ -119,7 +119,7 @@ mark-of-requires : tie.Need-mark-of-requires Inv-loop μ-loop
 mark-of-requires c κs = search needs
 
 enum-told : tie.Need-enum-told Inv-loop μ-loop
-enum-told c = c .match .keys1
+enum-told c = search needs
 
 returns-2 : tie.Need-returns-2 Inv-loop μ-loop
 returns-2 c = sym (verdict (full (c .before .before .before .before) (c .before .before .enum-told .given .1) (counts (c .before .before .before .before .before .before .before) ∙ c .if3 .taken)))
@@ -127,23 +127,26 @@ returns-2 c = sym (verdict (full (c .before .before .before .before) (c .before 
 chain-fault-requires : tie.Need-chain-fault-requires Inv-loop μ-loop
 chain-fault-requires c κs = let i = c .before .before .before .before .before .before .before .before .loop .inv .1 in (c .before .before .before .before .before .before .before .loop-test .taken, i .few, i .all)
 
+enum-told-2 : tie.Need-enum-told-2 Inv-loop μ-loop
+enum-told-2 c = search needs
+
 id-at-requires : tie.Need-id-at-requires Inv-loop μ-loop
 id-at-requires c κs = right c .head .there
 
 mul-ids : tie.Need-mul-ids Inv-loop μ-loop
-mul-ids c = omega (arith, c .before .before .before .before .before .before .before .before .before .before .before .loop .inv .1 .few)
+mul-ids c = omega (arith, c .before .before .before .before .before .before .before .before .before .before .before .before .loop .inv .1 .few)
 
 array-write-ids : tie.Need-array-write-ids Inv-loop μ-loop
-array-write-ids c = let i = c .before .before .before .before .before .before .before .before .before .before .before .loop .inv .1 in omega (arith, i .few, i .size, c .before .before .before .before .if3 .left)
+array-write-ids c = let i = c .before .before .before .before .before .before .before .before .before .before .before .before .loop .inv .1 in omega (arith, i .few, i .size, c .before .before .before .before .before .if3 .left)
 
 add-before : tie.Need-add-before Inv-loop μ-loop
-add-before c = omega (arith, c .before .before .before .before .before .before .before .before .before .before .before .loop .inv .1 .few)
+add-before c = omega (arith, c .before .before .before .before .before .before .before .before .before .before .before .before .loop .inv .1 .few)
 
 tasks-at-requires : tie.Need-tasks-at-requires Inv-loop μ-loop
 tasks-at-requires c κs = right (c .before) .head .there
 
 add-before-2 : tie.Need-add-before-2 Inv-loop μ-loop
-add-before-2 c = omega (arith, c .before .before .before .before .before .before .before .before .before .before .before .before .before .loop .inv .1 .all, c .before .tasks-at .ensures .1)
+add-before-2 c = omega (arith, c .before .before .before .before .before .before .before .before .before .before .before .before .before .before .loop .inv .1 .all, c .before .tasks-at .ensures .1)
 
 record-length-requires : tie.Need-record-length-requires Inv-loop μ-loop
 record-length-requires c κs = right (c .before .before .before) .head .there
@@ -152,23 +155,23 @@ add-at : tie.Need-add-at Inv-loop μ-loop
 add-at c = omega (arith, right (c .before .before .before .before) .there, c .record-length .ensures)
 
 loop-less : tie.Need-loop-less Inv-loop μ-loop
-loop-less c = omega (arith, c .before .before .before .before .before .before .before .before .before .before .before .before .before .before .loop .inv .1 .few, c .before .before .before .before .before .before .before .if3 .left)
+loop-less c = omega (arith, c .before .before .before .before .before .before .before .before .before .before .before .before .before .before .before .loop .inv .1 .few, c .before .before .before .before .before .before .before .before .if3 .left)
 
 loop-again : tie.Need-loop-again Inv-loop μ-loop
 unfolding rowAt
-loop-again c = let l = c .before .before .before .before .before .before .before .before .before .before .before .before .before .before in
+loop-again c = let l = c .before .before .before .before .before .before .before .before .before .before .before .before .before .before .before in
     let t = sofar l in
     let at = l .loop .at in
     let i = l .loop .inv .1 in
     let r = right (c .before .before .before .before) in
-    let f = c .before .before .before .before .before .chain-fault in
+    let f = c .before .before .before .before .before .before .chain-fault in
     let n : at + c .record-length .result ≡ at + lengthAt (bytes l) at = ap (λ (m : ℕ). at + m) (c .record-length .ensures) in
-    let none = unless-none refusal (chainFault (bytes l) at t) (rest (c .before .before .before .before .before .before .before .before .before .before .before)) (sym (f .ensures t (i .known)) ∙ c .before .before .before .before .match2 .keys1) in
-    let whole-is = chain (c .before .before .before .before .before .before .before .before .before .before .before) (c .before .before .before .before .before .before .before .before .before .enum-told .given .1) (room (c .before .before .before .before .before .before .before)) in
+    let none = unless-none refusal (chainFault (bytes l) at t) (rest (c .before .before .before .before .before .before .before .before .before .before .before .before)) (sym (f .ensures t (i .known)) ∙ c .before .before .before .before .enum-told2 .given .1) in
+    let whole-is = chain (c .before .before .before .before .before .before .before .before .before .before .before .before) (c .before .before .before .before .before .before .before .before .before .before .enum-told .given .1) (room (c .before .before .before .before .before .before .before .before)) in
     rw (c .before .before .before .id-at .ensures, c .before .before .tasks-at .ensures .0, n) (
       plus t (rowAt (bytes l) at),
       record {
-        few = omega (arith, i .few, c .before .before .before .before .before .before .before .if3 .left);
+        few = omega (arith, i .few, c .before .before .before .before .before .before .before .before .if3 .left);
         all = omega (arith, r .head .all, totals l);
         inside = r .there;
         left = sym none ∙ sym whole-is ∙ whole l ∙ i .left;
@@ -177,35 +180,37 @@ loop-again c = let l = c .before .before .before .before .before .before .before
       },
     )
 
+enum-told-3 : tie.Need-enum-told-3 Inv-loop μ-loop
+enum-told-3 c = search needs
+
 returns-3 : tie.Need-returns-3 Inv-loop μ-loop
-returns-3 c = let f = c .before .chain-fault in
-    let l = c .before .before .before .before .before .before .before .before .before .before in
-    let next = rest (c .before .before .before .before .before .before .before) in
-    let e = ap (λ (n : ℕ). unless refusal n next) (sym (f .ensures (sofar l) (l .loop .inv .1 .known))) in
-    sym (verdict (chain (c .before .before .before .before .before .before .before) (c .before .before .before .before .before .enum-told .given .1) (room (c .before .before .before)) ∙ e ∙ unless-fault refusal (f .result) next (c .match2 .rest .1)))
+returns-3 c = let f = c .before .before .chain-fault in
+    let l = c .before .before .before .before .before .before .before .before .before .before .before in
+    let told = c .enum-told3 .given .1 in
+    told ∙ sym (verdict (chain (c .before .before .before .before .before .before .before .before) (c .before .before .before .before .before .before .enum-told .given .1) (room (c .before .before .before .before)) ∙ unless-fault refusal (chainFault (bytes l) (l .loop .at) (sofar l)) (rest (c .before .before .before .before .before .before .before .before)) (sym (f .ensures (sofar l) (l .loop .inv .1 .known)) ∙ told)))
 
-enum-told-2 : tie.Need-enum-told-2 Inv-loop μ-loop
-enum-told-2 c = c .match .keys2
+enum-told-4 : tie.Need-enum-told-4 Inv-loop μ-loop
+enum-told-4 c = search needs
 
-ended-requires : tie.Need-ended-requires Inv-loop μ-loop
-ended-requires c κs = search needs
+end-fault-requires : tie.Need-end-fault-requires Inv-loop μ-loop
+end-fault-requires c κs = search needs
 
 returns-4 : tie.Need-returns-4 Inv-loop μ-loop
-returns-4 c =
-    c .ended .ensures (sofar (c .before .before .before .before .before .before)) (counts (c .before .before .before .before .before .before))
-    ∙ sym (verdict (other (c .before .before .before) End (c .before .enum-told2 .given .1) (λ e. let z : _≡_ {A = ℕ} 0 1 = cc in omega arith)))
+returns-4 c = let l = c .before .before .before .before .before .before in
+    c .end-fault .ensures (sofar l) (counts l)
+    ∙ sym (verdict (other (c .before .before .before) End (c .before .enum-told4 .given .1) (λ e. let z : _≡_ {A = ℕ} 0 1 = cc in omega arith)) ∙ ends-verdict (endFault (bytes l) (l .loop .at) (sofar l)) (sofar l))
 
-enum-told-3 : tie.Need-enum-told-3 Inv-loop μ-loop
-enum-told-3 c = c .match .keys3
+enum-told-5 : tie.Need-enum-told-5 Inv-loop μ-loop
+enum-told-5 c = search needs
 
 returns-5 : tie.Need-returns-5 Inv-loop μ-loop
-returns-5 c = sym (verdict (other (c .before .before) Task (c .enum-told3 .given .1) (λ e. let z : _≡_ {A = ℕ} 0 1 = cc in omega arith)))
+returns-5 c = sym (verdict (other (c .before .before) Task (c .enum-told5 .given .1) (λ e. let z : _≡_ {A = ℕ} 0 1 = cc in omega arith)))
 
-enum-known-fault : tie.Need-enum-known-fault Inv-loop μ-loop
-enum-known-fault c = search needs
+enum-told-6 : tie.Need-enum-told-6 Inv-loop μ-loop
+enum-told-6 c = search needs
 
 returns-6 : tie.Need-returns-6 Inv-loop μ-loop
-returns-6 c = sym (verdict (other (c .before .before .before) (Unknown _) (c .before .fault .given .1) (λ e. let z : _≡_ {A = ℕ} 0 1 = cc in omega arith)))
+returns-6 c = sym (verdict (other (c .before .before) Unknown (c .enum-told6 .given .1) (λ e. let z : _≡_ {A = ℕ} 0 1 = cc in omega arith)))
 
 returns-7 : tie.Need-returns-7 Inv-loop μ-loop
 returns-7 c = let l = c .before in
@@ -225,6 +230,7 @@ judge-spec =
     enum-told
     returns-2
     chain-fault-requires
+    enum-told-2
     id-at-requires
     mul-ids
     array-write-ids
@@ -235,12 +241,13 @@ judge-spec =
     add-at
     loop-less
     loop-again
-    returns-3
-    enum-told-2
-    ended-requires
-    returns-4
     enum-told-3
+    returns-3
+    enum-told-4
+    end-fault-requires
+    returns-4
+    enum-told-5
     returns-5
-    enum-known-fault
+    enum-told-6
     returns-6
     returns-7)

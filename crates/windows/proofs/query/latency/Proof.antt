@@ -30,7 +30,7 @@ returns c = let a = c .before .before .before .before .before .args in c .latenc
 returns-2 : tie.Need-returns-2
 returns-2 c =
     let a = c .before .before .before .before .before .args in
-    sym (latency-refused (a .table .now) (a .id) (c .before .n .given .0 .0) (sym (c .before .before .before .judge .ensures) ∙ c .before .n .given .1))
+    sym (latency-refused (a .table .now) (a .id) (sym (c .before .before .before .judge .ensures) ∙ c .before .n .given .1))
 
 pub latency-spec : {M : Type 1} → statement M
 latency-spec =
