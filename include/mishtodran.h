@@ -140,7 +140,6 @@ enum {
     MISHTODRAN_LATENCY_BYTES = 16,
     MISHTODRAN_MISSES_BYTES = 4,
     MISHTODRAN_SEGMENT_BYTES = 8,
-    MISHTODRAN_CHECK_BYTES = 8,
     MISHTODRAN_SAVE_BYTES = 4,
     MISHTODRAN_REPORT_BYTES = 4
 };
@@ -178,12 +177,6 @@ uint32_t mishtodran_misses(const uint8_t *table, size_t table_len, uint32_t id, 
  * Refuses with 27, then a table's number, 12 for either id, 25, 26. */
 uint32_t mishtodran_segment(const uint8_t *table, size_t table_len, uint32_t id, uint32_t against, uint32_t number,
                             uint8_t *answer, size_t answer_len);
-
-/* What the reader says of a table: 8 bytes of answer, four for each: the number of the table's refusal, or 0 where it is
- * accepted, and the offset of the field at fault, or 0 then.
- * Refuses with 27. */
-uint32_t mishtodran_check(const uint8_t *table, size_t table_len,
-                          uint8_t *answer, size_t answer_len);
 
 /* Puts a new record in the place of an old one, in the table that stands in the first `used` bytes of a buffer: 4 bytes
  * of answer, the new used length. The old record is given as it was last seen, whole, so that a change made meanwhile

@@ -30,7 +30,7 @@ fn put_refused(s: &[u8], number: u32, at: usize) -> bool {
 fn put_verdict(s: &[u8]) -> bool {
     match table::judge(s) {
         Verdict::Accepted => put_accepted(table::count(s)),
-        Verdict::Refused { number, at } => put_refused(s, number, at),
+        Verdict::Refused(number, at) => put_refused(s, number, at),
     }
 }
 
