@@ -80,7 +80,7 @@ static uint32_t number_in(const char *text, uint32_t most)
 
 /* ---- What the user sees ---- */
 
-/* Ends the program where the table is refused or has no such chain. */
+/* Ends the program where the table has no such chain. */
 static void show_figures(const struct document *document, uint32_t id)
 {
     uint8_t answer[MISHTODRAN_LATENCY_BYTES];
@@ -175,6 +175,20 @@ static char *name_beside(const char *path, const char *ending)
     return strcat(strcpy(name, path), ending);
 }
 
+/* Ends the program where the table is refused, and says at which byte it broke. */
+static void check_table(const struct document *document, const char *path)
+{
+    uint8_t answer[MISHTODRAN_CHECK_BYTES];
+    uint32_t refusal = mishtodran_check(document->bytes, document->used, answer, sizeof answer);
+    if (refusal)
+        refuse("check", refusal);
+    if (get(answer, 4) == 0)
+        return;
+    fprintf(stderr, "editor: %s: refused, %lu at byte %lu\n", path, (unsigned long)get(answer, 4),
+            (unsigned long)get(answer + 4, 4));
+    exit(REFUSED);
+}
+
 static void read_table(struct document *document, const char *path)
 {
     struct stat status;
@@ -186,6 +200,7 @@ static void read_table(struct document *document, const char *path)
     if (ferror(file))
         fail(path, strerror(errno));
     fclose(file);
+    check_table(document, path);
 }
 
 /* Waits until no other editor saves this table, and keeps others from it until the lock is closed. The lock is on a

@@ -10,7 +10,7 @@ The text has a line for each chain, then a line for each of its tasks, in order;
     task PRIORITY COST
 
 Numbers are decimal digits, as large as their bytes hold. Each chain has a distance and a task. Nothing else is judged here:
-`mishtodran report` does that. The text of a table gives the same bytes again.
+`mishtodran check` does that. The text of a table gives the same bytes again.
 
 A mistake in a text is told as FILE:LINE: WHAT, one in a table as FILE: offset N: WHAT, on standard error. The exit status is
 then 2 and the target stays as it was; else it is 0.

@@ -14,10 +14,10 @@
  *
  * Stack: a call takes less than MISHTODRAN_STACK_BYTES. This is measured, not proved.
  *
- * Duration: every call ends; how soon is measured, not proved. On an x86-64 machine of 2 GHz, a segment or a save takes
- * about a microsecond at most, and any call on an ordinary table less than a millisecond. The slowest tables that we
- * know have full lists whose last distance is 1, before windows of almost 10,000,000 ticks: there a latency or misses
- * take 3 seconds, and a report 50. An editor that must not stand still makes these calls in a thread of its own.
+ * Duration: every call ends; how soon is measured, not proved. On an x86-64 machine of 2 GHz, a check, a segment or a
+ * save takes about a microsecond at most, and any call on an ordinary table less than a millisecond. The slowest tables
+ * that we know have full lists whose last distance is 1, before windows of almost 10,000,000 ticks: there a latency or
+ * misses take 3 seconds, and a report 50. An editor that must not stand still makes these calls in a thread of its own.
  */
 #ifndef MISHTODRAN_H
 #define MISHTODRAN_H
@@ -31,7 +31,7 @@ extern "C" {
 
 /* The version of this header; mishtodran_version gives that of the library. An editor compares them at its start: where
  * they differ, an answer, a refusal or an entry may. CHANGELOG.md says which. */
-#define MISHTODRAN_VERSION 1
+#define MISHTODRAN_VERSION 2
 
 /* The limits. A table beyond one of them is refused, and so is a k. */
 enum {
@@ -94,21 +94,24 @@ enum {
     MISHTODRAN_END_RECORD_BYTES = 4
 };
 
-/* Why an entry refuses. */
+/* Why an entry refuses. The numbers of the first group, 1 to 7, 9 to 11 and 28 to 31, are what a table is refused with:
+ * in what follows, a table's number. 8 is no longer given. */
 enum mishtodran_refusal {
     /* The table */
-    MISHTODRAN_TABLE_LENGTH = 1,       /* its length is 0, above 1,284 or above its buffer */
+    MISHTODRAN_TABLE_LENGTH = 1,       /* the table's length is 0, above 1,284 or above its buffer */
     MISHTODRAN_CUT_SHORT = 2,          /* bytes run out inside a record or before the end record */
     MISHTODRAN_MARK = 3,               /* a mark is not one allowed there */
     MISHTODRAN_ID = 4,                 /* an id is 0 or used earlier */
     MISHTODRAN_KIND = 5,               /* a kind or overload byte is above 1 */
     MISHTODRAN_DEADLINE = 6,           /* a deadline is not 1 to 10,000,000 */
     MISHTODRAN_GAP = 7,                /* a gap is above 10,000,000 */
-    MISHTODRAN_LIST = 8,               /* a list is not 1 to 8 long, falls, exceeds 10,000,000, ends in 0, or is above
-                                          what the gap allows */
     MISHTODRAN_TASK_COUNT = 9,         /* a task count is not 1 to 16, or there are over 64 tasks so far */
     MISHTODRAN_TASK = 10,              /* a priority is 0, or a cost is not 1 to 1,000,000 */
     MISHTODRAN_END = 11,               /* a 17th chain, no chain, a wrong end count, or bytes after the end */
+    MISHTODRAN_LIST_LENGTH = 28,       /* a list length is not 1 to 8 */
+    MISHTODRAN_DISTANCE = 29,          /* a distance falls or exceeds 10,000,000 */
+    MISHTODRAN_LAST_DISTANCE = 30,     /* the last distance is 0 */
+    MISHTODRAN_GAP_TOO_SMALL = 31,     /* a gap other than 0 is too small for the distances */
     /* A chain's figures; 12 in any query */
     MISHTODRAN_UNKNOWN_ID = 12,        /* the id is not in the table */
     MISHTODRAN_RUN_LENGTH = 13,        /* k is not 1 to 1,000 */
@@ -133,10 +136,10 @@ enum mishtodran_refusal {
 
 /* Bytes that an answer buffer needs. */
 enum {
+    MISHTODRAN_CHECK_BYTES = 8,
     MISHTODRAN_LATENCY_BYTES = 16,
     MISHTODRAN_MISSES_BYTES = 4,
     MISHTODRAN_SEGMENT_BYTES = 8,
-    MISHTODRAN_CHECK_BYTES = 8,
     MISHTODRAN_SAVE_BYTES = 4,
     MISHTODRAN_REPORT_BYTES = 4
 };
@@ -147,34 +150,38 @@ enum { MISHTODRAN_LONGEST_REPORT = 1123 };
 /* Bytes of stack that every call fits into. */
 enum { MISHTODRAN_STACK_BYTES = 16384 };
 
+/* What the reader says of a table: 8 bytes of answer, four for each: a table's number, and the offset from the table's
+ * first byte of the field at fault; both are 0 for an accepted table. The offset is where that field begins:
+ * - 1: 0. 2: the table's length. 3: the mark. 4, 6, 7, 9 and 28: the id, deadline, gap, task count or list length;
+ * - 5: the kind where that is above 1, else the overload byte. 10: the priority where that is 0, else the cost;
+ * - 29: the first distance that is below the one before it or too large. 30: the last distance. 31: the gap;
+ * - 11: a 17th chain's mark; the end record's count; the first byte after the end record.
+ * Refuses with 27. */
+uint32_t mishtodran_check(const uint8_t *table, size_t table_len,
+                          uint8_t *answer, size_t answer_len);
+
 /* The latency of chain `id`: 16 bytes of answer, four for each figure: K (how many activations were looked at), the
  * latency, how many of the K are late, and the margin (deadline minus latency, two's complement).
- * Refuses with 27, then 1 to 11, 12, 16 or 17. */
+ * Refuses with 27, then a table's number, 12, 16 or 17. */
 uint32_t mishtodran_latency(const uint8_t *table, size_t table_len, uint32_t id,
                             uint8_t *answer, size_t answer_len);
 
 /* A bound on the deadline misses of chain `id` among any `k` activations in a row: 4 bytes of answer. The bound may
  * exceed k.
- * Refuses with 27, then 1 to 11, 12, 13, 14, 15, 16 or 17, 18, 19, 20, 21. */
+ * Refuses with 27, then a table's number, 12, 13, 14, 15, 16 or 17, 18, 19, 20, 21. */
 uint32_t mishtodran_misses(const uint8_t *table, size_t table_len, uint32_t id, uint32_t k,
                            uint8_t *answer, size_t answer_len);
 
 /* Where active segment `number` (from 1) of chain `id` against chain `against` stands in the table: 8 bytes of
  * answer, its offset from the table's first byte and its length in bytes.
- * Refuses with 27, then 1 to 11, 12 for either id, 25, 26. */
+ * Refuses with 27, then a table's number, 12 for either id, 25, 26. */
 uint32_t mishtodran_segment(const uint8_t *table, size_t table_len, uint32_t id, uint32_t against, uint32_t number,
                             uint8_t *answer, size_t answer_len);
-
-/* What the reader says of a table: 8 bytes of answer, four for each: the number of the table's refusal, or 0 where it is
- * accepted, and the offset of the field at fault, or 0 then.
- * Refuses with 27. */
-uint32_t mishtodran_check(const uint8_t *table, size_t table_len,
-                          uint8_t *answer, size_t answer_len);
 
 /* Puts a new record in the place of an old one, in the table that stands in the first `used` bytes of a buffer: 4 bytes
  * of answer, the new used length. The old record is given as it was last seen, whole, so that a change made meanwhile
  * is never lost. Bytes between a shorter end and the former end become 0; bytes past both ends stay.
- * Refuses with 27, then 1 to 11 for the table, 22, 23, 24, 1 to 11 for the result; the buffer then stays as it was. */
+ * Refuses with 27, then the table's number, 22, 23, 24, the result's number; the buffer then stays as it was. */
 uint32_t mishtodran_save(uint8_t *buffer, size_t buffer_len, uint64_t used,
                          const uint8_t *old_record, size_t old_len,
                          const uint8_t *new_record, size_t new_len,
@@ -182,7 +189,7 @@ uint32_t mishtodran_save(uint8_t *buffer, size_t buffer_len, uint64_t used,
 
 /* The report of a table, as text: 4 bytes of answer, the text's length in bytes. The text is what `mishtodran report`
  * prints, a header and a line for each chain; it stands at the start of the text buffer, and no byte of 0 ends it. A
- * refused table has its text too, `refused` and the number.
+ * refused table has its text too, `refused`, its number and the offset of the field at fault.
  * Refuses with 27, then 24. */
 uint32_t mishtodran_report(const uint8_t *table, size_t table_len,
                            uint8_t *text, size_t text_len,

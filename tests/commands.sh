@@ -46,19 +46,38 @@ help_and_links() {
     expect 0 "a report" "*built the report program in*" "*rt check report" "$room/links/two" report examples/sample.table
 }
 
-# says SCRIPT: what the report program does.
+# says SCRIPT: what the programs of report and check do.
 says() {
     echo "$1" >"$room/says"
+}
+
+checks() {
+    says 'echo accepted, 4 chains'
+    expect 0 "accepted, 4 chains" "*built the verdict program in*" "*rt check table_check" ./mishtodran check examples/sample.table
+    expect 0 "accepted, 4 chains" "" "" ./mishtodran check examples/sample.table
+    says 'wc -c'
+    expect 0 "140" "" "" ./mishtodran check examples/sample.table
+    says 'echo refused 2 at byte 0 && echo a note >&2'
+    expect 1 "refused 2 at byte 0" "a note" "" ./mishtodran check
+    says 'echo it cannot read >&2'
+    expect 2 "" $'it cannot read\nmishtodran: there is no verdict' "" ./mishtodran check
+    says 'echo half && exit 3'
+    expect 2 "" "mishtodran: there is no verdict" "" ./mishtodran check
+    says 'echo accepted, 4 chains'
+    expect 2 "" "mishtodran: standard output cannot be written" "" sh -c './mishtodran check >/dev/full'
+    echo more >"$copy/crates/input/src/lib.rt"
+    expect 0 "accepted, 4 chains" "*" "*rt check table_check" ./mishtodran check
+    says 'echo a report'
 }
 
 reports() {
     expect 0 "a report" "" "" ./mishtodran report examples/sample.table
     says 'wc -c && echo a note >&2'
     expect 0 "140" "a note" "" ./mishtodran report examples/sample.table
-    says 'echo refused 2'
-    expect 1 "refused 2" "" "" ./mishtodran report
-    says 'echo refused 2 && echo a note >&2'
-    expect 1 "refused 2" "a note" "" ./mishtodran report
+    says 'echo refused 2 28'
+    expect 1 "refused 2 28" "" "" ./mishtodran report
+    says 'echo refused 2 28 && echo a note >&2'
+    expect 1 "refused 2 28" "a note" "" ./mishtodran report
     says 'echo it cannot read >&2'
     expect 2 "" $'it cannot read\nmishtodran: there is no report' "" ./mishtodran report
     says 'echo half && exit 3'
@@ -111,6 +130,7 @@ builds_that_go_wrong() {
     mv "$tools/rt" "$room/rt"
     expect 2 "" "mishtodran: the Rattle toolchain's rt is not on the PATH" "" ./mishtodran lib
     expect 2 "" "mishtodran: the Rattle toolchain's rt is not on the PATH" "" ./mishtodran report
+    expect 2 "" "mishtodran: the Rattle toolchain's rt is not on the PATH" "" ./mishtodran check
     mv "$room/rt" "$tools/rt"
 }
 
@@ -248,7 +268,7 @@ glpk() {
 
 # The gate over checks that are stood in for: it locks while it proves, ends with a check's status, and its last line is rt's.
 gate() {
-    local checks=("$copy"/{tests/{wrong_uses,commands,report_command,run_c}.sh,compare/{sanitized,run,run_report}.sh}) one
+    local checks=("$copy"/{tests/{wrong_uses,commands,table_commands,run_c}.sh,compare/{sanitized,run,run_report}.sh}) one
     mkdir -p "$copy/crates/sample" "$copy/crates/report"
     cp "$copy/examples/sample.table" "$copy/crates/sample/stdin"
     cp "$copy/examples/sample.table" "$copy/crates/report/stdin"
@@ -294,6 +314,7 @@ gate() {
 
 help_and_links
 reports
+checks
 builds
 builds_that_go_wrong
 two_at_once

@@ -24,7 +24,7 @@ enum {
     SAME = 65535 /* the packed length of bytes that do not change */
 };
 
-enum { LATENCY, MISSES, SEGMENT, SAVE, REPORT };
+enum { LATENCY, MISSES, SEGMENT, SAVE, REPORT, CHECK };
 enum { TABLE, OLD, NEW, TEXT, ANSWER, SLICES };
 
 /* Bytes to lend, and what they must be afterwards. */
@@ -227,6 +227,8 @@ static uint32_t call(const struct entry_case *given, bool at_end)
                                   answer, answer_len);
     case REPORT:
         return mishtodran_report(table, table_len, lent(given, TEXT, at_end), slice[TEXT].length, answer, answer_len);
+    case CHECK:
+        return mishtodran_check(table, table_len, answer, answer_len);
     default:
         return mishtodran_save(table, table_len, number[0], lent(given, OLD, at_end), slice[OLD].length,
                                lent(given, NEW, at_end), slice[NEW].length, answer, answer_len);

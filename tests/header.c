@@ -1,6 +1,6 @@
-/* Holds the constants of mishtodran.h against the library: the version, the fields of the records, the limits and the
-   lengths of the answers. Tables are made by the constants alone, and what the library says of each shows whether they
-   are right.
+/* Holds the constants of mishtodran.h against the library: the version, the fields of the records, the limits, a table's
+   numbers and the lengths of the answers. Tables are made by the constants alone, and what the library says of each
+   shows whether they are right.
    Usage: header */
 #include "mishtodran.h"
 
@@ -98,6 +98,27 @@ static bool is_refused(const char *what, const uint8_t *table, size_t length, ui
     return is_same(what, mishtodran_misses(table, length, 1, k, answer, sizeof answer), refusal);
 }
 
+/* Whether it is a table's number: the others leave the table accepted. */
+static bool is_of_table(uint32_t refusal)
+{
+    return (refusal >= MISHTODRAN_TABLE_LENGTH && refusal <= MISHTODRAN_END) ||
+           (refusal >= MISHTODRAN_LIST_LENGTH && refusal <= MISHTODRAN_GAP_TOO_SMALL);
+}
+
+static uint32_t get(const uint8_t *at)
+{
+    return at[0] | (uint32_t)at[1] << 8 | (uint32_t)at[2] << 16 | (uint32_t)at[3] << 24;
+}
+
+/* Whether a check gives this number and this offset; 0 and 0 where the number is not a table's. */
+static bool is_placed(const char *what, const uint8_t *table, size_t length, uint32_t refusal, size_t at)
+{
+    uint8_t answer[MISHTODRAN_CHECK_BYTES];
+    bool refused = is_of_table(refusal);
+    return is_same(what, mishtodran_check(table, length, answer, sizeof answer), 0) &&
+           is_same(what, get(answer), refused ? refusal : 0) && is_same(what, get(answer + 4), refused ? at : 0);
+}
+
 /* A value for a field in the shortest table. */
 struct field_case {
     const char *what;
@@ -124,13 +145,14 @@ static const struct field_case field_cases[] = {
     {CHAIN(DEADLINE), 0, MISHTODRAN_DEADLINE},
     {CHAIN(DEADLINE), MISHTODRAN_MOST_TIME + 1, MISHTODRAN_DEADLINE},
     {CHAIN(GAP), MISHTODRAN_MOST_TIME, 0},
+    {CHAIN(GAP), MISHTODRAN_MOST_TIME - 1, MISHTODRAN_GAP_TOO_SMALL},
     {CHAIN(GAP), MISHTODRAN_MOST_TIME + 1, MISHTODRAN_GAP},
-    {CHAIN(LISTED), 0, MISHTODRAN_LIST},
-    {CHAIN(LISTED), MISHTODRAN_MOST_DISTANCES + 1, MISHTODRAN_LIST},
+    {CHAIN(LISTED), 0, MISHTODRAN_LIST_LENGTH},
+    {CHAIN(LISTED), MISHTODRAN_MOST_DISTANCES + 1, MISHTODRAN_LIST_LENGTH},
     {CHAIN(TASKS), 0, MISHTODRAN_TASK_COUNT},
     {CHAIN(TASKS), MISHTODRAN_MOST_TASKS + 1, MISHTODRAN_TASK_COUNT},
-    {DISTANCE, 0, MISHTODRAN_LIST},
-    {DISTANCE, MISHTODRAN_MOST_TIME + 1, MISHTODRAN_LIST},
+    {DISTANCE, 0, MISHTODRAN_LAST_DISTANCE},
+    {DISTANCE, MISHTODRAN_MOST_TIME + 1, MISHTODRAN_DISTANCE},
     {TASK(MARK), 0, MISHTODRAN_MARK},
     {TASK(PRIORITY), 0, MISHTODRAN_TASK},
     {TASK(COST), 0, MISHTODRAN_TASK},
@@ -148,6 +170,7 @@ static bool fields_hold(void)
         size_t length = put_table(table, 1, 1, 1);
         put(table + field->at, field->bytes, field->value);
         right &= is_refused(field->what, table, length, 1, field->refusal);
+        right &= is_placed(field->what, table, length, field->refusal, field->at);
     }
     return right;
 }
@@ -207,7 +230,8 @@ static bool answers_hold(void)
     uint8_t answer[MISHTODRAN_LATENCY_BYTES], text[MISHTODRAN_LONGEST_REPORT];
     size_t used = put_table(table, 1, 1, 1), length;
     put_chain(old, 1, 1, 1);
-    return FITS(LATENCY, mishtodran_latency(table, used, 1, answer, length)) &&
+    return FITS(CHECK, mishtodran_check(table, used, answer, length)) &&
+           FITS(LATENCY, mishtodran_latency(table, used, 1, answer, length)) &&
            FITS(MISSES, mishtodran_misses(table, used, 1, 1, answer, length)) &&
            FITS(SEGMENT, mishtodran_segment(table, used, 1, 1, 1, answer, length)) &&
            FITS(SAVE, mishtodran_save(table, sizeof table, used, old, sizeof old, old, sizeof old, answer, length)) &&
@@ -220,6 +244,6 @@ int main(void)
     bool fields = fields_hold(), limits = limits_hold(), answers = answers_hold();
     if (!version || !fields || !limits || !answers)
         return 1;
-    puts("the header's version, fields, limits and answers are the library's");
+    puts("the header's version, fields, limits, table's numbers and answers are the library's");
     return 0;
 }

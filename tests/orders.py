@@ -1,24 +1,27 @@
 """Cases that only an order decides.
 
-For every two neighbours in document 01's orders of faults and refusals that can both hold at once, and for some further
+For every two neighbours in the documents' orders of faults and refusals that can both hold at once, and for some further
 apart, a case with both: the first decides. Beside it stands the same case with the first mended, where the second decides;
-so both do hold. Swapping the two in an order changes the answer of the first case.
+so both do hold. Swapping the two in an order changes the answer of the first case. Of a table number and offset are told, so
+that two faults with one number are told apart by their places.
 
-Not told apart, since the number is the same: the parts of 4, 5, 6, 8, 9, 10, 11 and 23 among each other.
+Not told apart, since number and place are the same: the two parts of 4, of 6 and of 9, no chain and a wrong end count, and
+the parts of 23.
 Never both: a mark that is not whole and its value (2, 3; here one byte that begins no mark), 2 and a length above 1,284 (no
-chain record accepted so far ends past byte 1,280), 16 and 17 of one window, no late activation and 20 (windows without
-overload are never longer), 4, 2 or 11 in the result of a save (the new record is whole and has the id of the old one), 24
-and a new record under 16 bytes (the result is shorter than the table).
+chain record accepted so far ends past byte 1,280), 30 and 31 where no distance falls (all of them are 0), 7 and 31 where no
+distance is too large, 16 and 17 of one window, no late activation and 20 (windows without overload are never longer), 4, 2
+or 11 in the result of a save (the new record is whole and has the id of the old one), 24 and a new record under 16 bytes
+(the result is shorter than the table).
 
 Run as a program it lists the pairs.
 """
 from collections import namedtuple
 
-from stored import LONGEST, TIME, save_verdict, verdict
-from table import DISTANCE, FIXED, TASK, chain, end, fixed_part, stored
+from stored import AT, COST_AT, COUNT_AT, LONGEST, NUMBERS, PRIORITY_AT, TIME, Verdict, save_verdict, verdict
+from table import DISTANCE, END, FIXED, TASK, chain, end, fixed_part, stored
 
-# Two numbers, what both are about, the case in which both hold, and the one in which only the second does. In a query 0
-# is the answer 0.
+# What is told of the first and of the second, what both are about, the case in which both hold, and the one in which only
+# the second does. Told are number and offset of a table, and the number of a call; in a query 0 is the answer 0.
 Pair = namedtuple("Pair", "first second what both later")
 
 
@@ -68,154 +71,275 @@ def padded(made, length):
     return made + bytes(length - len(made))
 
 
+# A fault: its number, its offset in the record, what it is, and the fields that have it.
+Fault = namedtuple("Fault", "number at what fields")
+
+
+def in_record(fault, before=GOOD):
+    """What is told of a fault in the record after these bytes."""
+    return Verdict(fault.number, len(before) + fault.at)
+
+
+def in_second(number, at):
+    """What is told of a fault at this offset in the record after a good one."""
+    return Verdict(number, len(GOOD) + at)
+
+
+RUN_OUT = Verdict(2, None)  # at the table's length
+
+
+def reading(first, second, what, both, later):
+    """A pair of tables."""
+    return Pair(first if first != RUN_OUT else Verdict(2, len(both)), second if second != RUN_OUT else Verdict(2, len(later)),
+                what, both, later)
+
+
 # Every fault of a chain's fixed part, in the order of its fields.
 FIXED_FAULTS = [
-    (4, "id 0", {"id": 0}), (4, "id used", {"id": 1}),
-    (5, "kind 2", {"kind": 2}), (5, "overload 2", {"overload": 2}),
-    (6, "deadline 0", {"deadline": 0}), (6, "deadline too large", {"deadline": TIME + 1}),
-    (7, "gap too large", {"gap": TIME + 1}),
-    (8, "list length 0", {"listed": 0}), (8, "list length 9", {"listed": 9}),
-    (9, "task count 0", {"count": 0}), (9, "task count 17", {"count": 17}),
+    Fault(4, AT.id, "id 0", {"id": 0}), Fault(4, AT.id, "id used", {"id": 1}),
+    Fault(5, AT.kind, "kind 2", {"kind": 2}), Fault(5, AT.overload, "overload 2", {"overload": 2}),
+    Fault(6, AT.deadline, "deadline 0", {"deadline": 0}), Fault(6, AT.deadline, "deadline too large", {"deadline": TIME + 1}),
+    Fault(7, AT.gap, "gap too large", {"gap": TIME + 1}),
+    Fault(28, AT.listed, "list length 0", {"listed": 0}), Fault(28, AT.listed, "list length 9", {"listed": 9}),
+    Fault(9, AT.tasks, "task count 0", {"count": 0}), Fault(9, AT.tasks, "task count 17", {"count": 17}),
 ]
+
+
+def distance_at(turn):
+    return FIXED.size + DISTANCE.size * (turn - 1)
+
 
 # Every fault of a list of two distances; a cut one loses its last byte, which is 0.
 LISTS = [
-    ("a distance falls", {"distances": (100, 50)}),
-    ("a distance too large", {"distances": (TIME + 1, TIME + 2), "gap": 0}),
-    ("below what the gap allows", {"distances": (101, 150)}),
+    Fault(29, distance_at(2), "a distance falls", {"distances": (100, 50)}),
+    Fault(29, distance_at(2), "the last distance too large", {"distances": (100, TIME + 1), "gap": 0}),
+    Fault(29, distance_at(1), "a distance too large", {"distances": (TIME + 1, TIME + 2), "gap": 0}),
+    Fault(30, distance_at(2), "the last distance is 0", {"distances": (0, 0)}),
+    Fault(31, AT.gap, "below what the gap allows", {"distances": (101, 150)}),
+    Fault(31, AT.gap, "the last one below what the gap allows", {"distances": (100, 201)}),
 ]
-LAST_0 = ("the last distance is 0", {"distances": (0, 0)})
 
 
 def fixed_parts():
     """Every two faults of the fixed part, and each with its cut."""
-    pairs = [Pair(a, b, f"{one}, {other}", second(**{**first, **later}), second(**later))
-             for i, (a, one, first) in enumerate(FIXED_FAULTS) for b, other, later in FIXED_FAULTS[i + 1:] if a != b]
-    pairs += [Pair(2, a, f"the fixed part is cut, {one}", cut(FIXED.size - 1, **first), second(**first))
-              for a, one, first in FIXED_FAULTS if "count" not in first]
-    pairs += [Pair(a, 9, f"{one}, 65 tasks so far", over_64(**{**first, "id": 11} if one == "id used" else first), over_64())
-              for a, one, first in FIXED_FAULTS if a != 9]
+    pairs = [Pair(in_record(one), in_record(other), f"{one.what}, {other.what}", second(**{**one.fields, **other.fields}),
+                  second(**other.fields))
+             for i, one in enumerate(FIXED_FAULTS) for other in FIXED_FAULTS[i + 1:] if one.at != other.at]
+    pairs += [reading(RUN_OUT, in_record(one), f"the fixed part is cut, {one.what}", cut(FIXED.size - 1, **one.fields),
+                      second(**one.fields))
+              for one in FIXED_FAULTS if "count" not in one.fields]
+    before = b"".join(SIXTY_FOUR)
+    pairs += [Pair(in_record(one, before), Verdict(9, len(before) + AT.tasks), f"{one.what}, 65 tasks so far",
+                   over_64(**{**one.fields, "id": 11} if one.what == "id used" else one.fields), over_64())
+              for one in FIXED_FAULTS if one.number != 9]
     return pairs
+
+
+# Lists with several faults, the first a 29: which distance has it, what the list does, its distances; then number and offset
+# of the next fault, and distances that have it alone.
+SEVERAL = [
+    (2, "falls, then falls again", (100, 50, 20), 29, distance_at(3), (10, 50, 20)),
+    (2, "falls, then gets too large", (100, 50, TIME + 1), 29, distance_at(3), (100, 150, TIME + 1)),
+    (1, "is too large, then falls", (TIME + 1, 50, 60), 29, distance_at(2), (100, 50, 60)),
+    (1, "is too large, then larger", (TIME + 1, TIME + 2), 29, distance_at(2), (100, TIME + 2)),
+    (2, "falls to 0 at its end", (100, 0), 30, distance_at(2), (0, 0)),
+    (1, "is too large, then 0 at its end", (TIME + 1, 0), 30, distance_at(2), (0, 0)),
+    (3, "rises from 0 and falls to 0", (0, 10, 0), 30, distance_at(3), (0, 0, 0)),
+    (2, "is above the gap, then falls", (101, 50), 31, AT.gap, (101, 150)),
+    (3, "is above the gap, rises, then falls", (101, 150, 120), 31, AT.gap, (101, 150, 150)),
+    (3, "gets above the gap, then falls", (50, 201, 200), 31, AT.gap, (50, 201, 201)),
+    (2, "is above the gap, then 0 at its end", (101, 0), 31, AT.gap, (101, 101)),
+    (2, "is above the gap, then too large", (101, TIME + 1), 31, AT.gap, (101, TIME)),
+]
 
 
 def lists():
     whole = FIXED.size + 2 * DISTANCE.size
-    pairs = [Pair(2, 8, f"the list is cut, {what}", cut(whole - 1, **fields), second(**fields)) for what, fields in LISTS]
-    for what, fields in LISTS + [LAST_0]:
+    priority_0 = Fault(10, FIRST_TASK + PRIORITY_AT, "priority 0", {"tasks": [(0, 1)]})
+    two = cut(whole, distances=(100, 200))
+    pairs = []
+    for fault in LISTS:
+        what, fields, there = fault.what, fault.fields, in_record(fault)
         pairs += [
-            Pair(8, 2, f"{what}, no byte of a task", cut(whole, **fields), cut(whole, distances=(100, 200))),
-            Pair(8, 3, f"{what}, another mark than TK", cut(whole, **fields) + b"CH", cut(whole, distances=(100, 200)) + b"CH"),
-            Pair(8, 10, f"{what}, priority 0", second(**fields, tasks=[(0, 1)]), second(tasks=[(0, 1)])),
-            Pair(9, 8, f"task count 0, {what}", second(**fields, count=0), second(**fields)),
-            Pair(6, 8, f"deadline 0, {what}", second(**fields, deadline=0), second(**fields)),
+            reading(RUN_OUT, there, f"the list is cut, {what}", cut(whole - 1, **fields), second(**fields)),
+            reading(there, RUN_OUT, f"{what}, no byte of a task", cut(whole, **fields), two),
+            reading(there, Verdict(3, len(two)), f"{what}, another mark than TK", cut(whole, **fields) + b"CH", two + b"CH"),
+            reading(there, in_record(priority_0), f"{what}, priority 0", second(**fields, **priority_0.fields),
+                    second(**priority_0.fields)),
         ]
-    return pairs + [
-        Pair(8, 2, "list length 9, the list is cut", cut(FIRST_TASK, listed=9), cut(FIRST_TASK, listed=8)),
-        Pair(8, 2, "list length 0, no byte of a task", cut(FIXED.size, listed=0), cut(FIXED.size, listed=1)),
-        Pair(9, 2, "task count 0, the list is cut", cut(FIRST_TASK - 1, count=0), cut(FIRST_TASK - 1)),
-        Pair(9, 2, "task count 17, the list is cut", cut(FIRST_TASK - 1, count=17), cut(FIRST_TASK - 1)),
-        Pair(9, 2, "65 tasks so far, the list is cut", b"".join(SIXTY_FOUR) + record()[:FIRST_TASK - 1], cut(FIRST_TASK - 1)),
-        Pair(9, 8, "65 tasks so far, a distance falls", over_64(distances=(100, 50)), second(distances=(100, 50))),
-        Pair(9, 10, "65 tasks so far, priority 0", over_64(tasks=[(0, 10)]), second(tasks=[(0, 10)])),
-        Pair(7, 8, "gap too large, a distance falls", second(gap=TIME + 1, distances=(100, 50)), second(distances=(100, 50))),
+        pairs += [Pair(in_record(one), there, f"{one.what}, {what}", second(**{**fields, **one.fields}), second(**fields))
+                  for one in FIXED_FAULTS if one.number != 28 and (one.number, fault.number) != (7, 31)]
+    pairs += [Pair(in_second(29, distance_at(turn)), in_second(number, at), f"the list {what}",
+                   second(distances=both), second(distances=later))
+              for turn, what, both, number, at, later in SEVERAL]
+    return pairs + counted_lists()
+
+
+def counted_lists():
+    """A list length or a task count that is wrong, and the list."""
+    length, count = in_second(28, AT.listed), in_second(9, AT.tasks)
+    before = b"".join(SIXTY_FOUR)
+    so_far = Verdict(9, len(before) + AT.tasks)
+    falls = in_second(29, distance_at(2))
+    return [
+        reading(length, RUN_OUT, "list length 9, the list is cut", cut(FIRST_TASK, listed=9), cut(FIRST_TASK, listed=8)),
+        reading(length, RUN_OUT, "list length 0, no byte of a task", cut(FIXED.size, listed=0), cut(FIXED.size, listed=1)),
+        reading(length, falls, "list length 9, a distance falls", second(distances=[100, 50] + [100] * 7),
+                second(distances=[100, 50] + [100] * 6)),
+        reading(count, RUN_OUT, "task count 0, the list is cut", cut(FIRST_TASK - 1, count=0), cut(FIRST_TASK - 1)),
+        reading(count, RUN_OUT, "task count 17, the list is cut", cut(FIRST_TASK - 1, count=17), cut(FIRST_TASK - 1)),
+        reading(so_far, RUN_OUT, "65 tasks so far, the list is cut", before + record()[:FIRST_TASK - 1], cut(FIRST_TASK - 1)),
+        reading(so_far, falls, "65 tasks so far, a distance falls", over_64(distances=(100, 50)), second(distances=(100, 50))),
+        reading(so_far, in_second(10, FIRST_TASK + PRIORITY_AT), "65 tasks so far, priority 0",
+                over_64(tasks=[(0, 10)]), second(tasks=[(0, 10)])),
     ]
 
 
-BAD_TASKS = [("priority 0", (0, 10)), ("cost 0", (5, 0)), ("cost too large", (5, 1_000_001))]
+# What is wrong with a task, where in it, and its priority and cost.
+BAD_TASKS = [("priority 0", PRIORITY_AT, (0, 10)), ("cost 0", COST_AT, (5, 0)), ("cost too large", COST_AT, (5, 1_000_001))]
+
+
+def task_marks():
+    """A task's mark, and the rest of it."""
+    task = len(GOOD) + FIRST_TASK
+    mark, priority, cost = Verdict(3, task), Verdict(10, task + PRIORITY_AT), Verdict(10, task + COST_AT)
+    return [
+        reading(RUN_OUT, mark, "one byte of a task's mark, not T", marked(b"X?", 0, FIRST_TASK + 1),
+                marked(b"X?", 0, FIRST_TASK + 2)),
+        reading(RUN_OUT, mark, "T, and then nothing", marked(b"TX", 0, FIRST_TASK + 1), marked(b"TX", 0, FIRST_TASK + 2)),
+        reading(mark, RUN_OUT, "another mark than TK, and nothing after it", marked(b"EN", 0, FIRST_TASK + 2),
+                cut(FIRST_TASK + 2)),
+        reading(mark, RUN_OUT, "another mark than TK, and a byte too few", marked(b"CH", 0, SECOND_TASK - 1),
+                cut(SECOND_TASK - 1)),
+        reading(mark, priority, "another mark than TK, priority 0", marked(b"XX", tasks=[(0, 10)]), second(tasks=[(0, 10)])),
+        reading(mark, cost, "another mark than TK, cost 0", marked(b"XX", tasks=[(5, 0)]), second(tasks=[(5, 0)])),
+        reading(mark, Verdict(3, task + TASK.size), "two other marks than TK", marked(b"XX")[:task + TASK.size] + b"XX",
+                cut(SECOND_TASK) + b"XX"),
+        reading(RUN_OUT, priority, "priority 0, no cost", cut(FIRST_TASK + 4, tasks=[(0, 10)]), second(tasks=[(0, 10)])),
+        reading(RUN_OUT, cost, "cost 0, its last byte missing", cut(SECOND_TASK - 1, tasks=[(5, 0)]), second(tasks=[(5, 0)])),
+        reading(mark, Verdict(10, task + TASK.size + PRIORITY_AT), "task 1 has another mark, task 2 priority 0",
+                marked(b"XX", tasks=[(5, 10), (0, 10)]), second(tasks=[(5, 10), (0, 10)])),
+        reading(priority, cost, "priority 0, cost 0", second(tasks=[(0, 0)]), second(tasks=[(5, 0)])),
+        reading(priority, cost, "priority 0, cost too large", second(tasks=[(0, 1_000_001)]), second(tasks=[(5, 1_000_001)])),
+    ]
 
 
 def tasks():
-    pairs = [
-        Pair(2, 3, "one byte of a task's mark, not T", marked(b"X?", 0, FIRST_TASK + 1), marked(b"X?", 0, FIRST_TASK + 2)),
-        Pair(2, 3, "T, and then nothing", marked(b"TX", 0, FIRST_TASK + 1), marked(b"TX", 0, FIRST_TASK + 2)),
-        Pair(3, 2, "another mark than TK, and nothing after it", marked(b"EN", 0, FIRST_TASK + 2), cut(FIRST_TASK + 2)),
-        Pair(3, 2, "another mark than TK, and a byte too few", marked(b"CH", 0, SECOND_TASK - 1), cut(SECOND_TASK - 1)),
-        Pair(3, 10, "another mark than TK, priority 0", marked(b"XX", tasks=[(0, 10)]), second(tasks=[(0, 10)])),
-        Pair(2, 10, "priority 0, no cost", cut(FIRST_TASK + 4, tasks=[(0, 10)]), second(tasks=[(0, 10)])),
-        Pair(2, 10, "cost 0, its last byte missing", cut(SECOND_TASK - 1, tasks=[(5, 0)]), second(tasks=[(5, 0)])),
-        Pair(3, 10, "task 1 has another mark, task 2 priority 0", marked(b"XX", tasks=[(5, 10), (0, 10)]),
-             second(tasks=[(5, 10), (0, 10)])),
-    ]
-    for what, bad in BAD_TASKS:
-        two = [bad, (3, 10)]
-        last = GOOD[:-TASK.size] + record(tasks=[bad])[-TASK.size:]
+    pairs = task_marks()
+    task, first = len(GOOD) + FIRST_TASK, len(GOOD) - TASK.size
+    for what, at, bad in BAD_TASKS:
+        two, there, in_last = [bad, (3, 10)], Verdict(10, task + at), Verdict(10, first + at)
+        last = GOOD[:first] + record(tasks=[bad])[-TASK.size:]
         pairs += [
-            Pair(10, 2, f"task 1 has {what}, task 2 is missing", cut(SECOND_TASK, tasks=two), cut(SECOND_TASK)),
-            Pair(10, 2, f"task 1 has {what}, task 2 is cut", cut(SECOND_TASK + 4, tasks=two), cut(SECOND_TASK + 4)),
-            Pair(10, 3, f"task 1 has {what}, task 2 another mark", marked(b"XX", 1, tasks=two), marked(b"XX", 1)),
-            Pair(10, 2, f"the last task has {what}, nothing follows", last, GOOD),
-            Pair(10, 3, f"the last task has {what}, an unknown mark", last + b"XX", GOOD + b"XX"),
-            Pair(10, 11, f"the last task has {what}, a wrong end count", last + end(2), GOOD + end(2)),
-            Pair(10, 4, f"task 1 has {what}, id 0 in the next chain", stored(record(tasks=two), record(id=0)),
-                 stored(record(), record(id=0))),
+            reading(there, RUN_OUT, f"task 1 has {what}, task 2 is missing", cut(SECOND_TASK, tasks=two), cut(SECOND_TASK)),
+            reading(there, RUN_OUT, f"task 1 has {what}, task 2 is cut", cut(SECOND_TASK + 4, tasks=two), cut(SECOND_TASK + 4)),
+            reading(there, Verdict(3, task + TASK.size), f"task 1 has {what}, task 2 another mark", marked(b"XX", 1, tasks=two),
+                    marked(b"XX", 1)),
+            reading(in_last, RUN_OUT, f"the last task has {what}, nothing follows", last, GOOD),
+            reading(in_last, Verdict(3, len(GOOD)), f"the last task has {what}, an unknown mark", last + b"XX", GOOD + b"XX"),
+            reading(in_last, in_second(11, COUNT_AT), f"the last task has {what}, a wrong end count", last + end(2),
+                    GOOD + end(2)),
+            reading(Verdict(10, FIRST_TASK + at), in_second(4, AT.id), f"task 1 has {what}, id 0 in the next chain",
+                    stored(record(tasks=two), record(id=0)), stored(record(), record(id=0))),
         ]
+        pairs += [reading(there, Verdict(10, task + TASK.size + of_other), f"task 1 has {what}, task 2 has {other}",
+                          second(tasks=[bad, bad_too]), second(tasks=[(5, 10), bad_too]))
+                  for other, of_other, bad_too in BAD_TASKS]
     return pairs
 
 
 def marks():
-    """A record's mark, a 17th chain, and the fixed part there."""
+    """A record's mark, and what follows it."""
+    first, mark = Verdict(3, 0), Verdict(3, len(GOOD))
     return [
-        Pair(2, 3, "one byte, which begins no mark", b"X", b"XX"),
-        Pair(2, 3, "one byte after a chain, which begins no mark", GOOD + b"X", GOOD + b"XX"),
-        Pair(2, 3, "C, and then nothing", GOOD + b"C", GOOD + b"CX"),
-        Pair(2, 3, "E, and then nothing", GOOD + b"E", GOOD + b"EX"),
-        Pair(3, 2, "an unknown mark, and nothing after it", b"XX", b"CH"),
-        Pair(3, 2, "an unknown mark after a chain, and nothing after it", GOOD + b"XX", GOOD + b"CH"),
-        Pair(3, 2, "TK where a record begins, and nothing after it", GOOD + b"TK", GOOD + b"CH"),
-        Pair(3, 4, "an unknown mark, id 0", GOOD + b"XX" + record(id=0)[2:] + end(2), second(id=0)),
-        Pair(3, 11, "an unknown mark, no chain", b"XX\0\0", b"EN\0\0"),
-        Pair(3, 11, "16 chains, then an unknown mark", SIXTEEN + b"XX", SIXTEEN + b"CH"),
-        Pair(3, 11, "16 chains, then TK", SIXTEEN + b"TK" + record()[2:] + end(17), SIXTEEN + SEVENTEENTH),
-        Pair(2, 11, "16 chains, then nothing", SIXTEEN, SIXTEEN + b"CH"),
-        Pair(2, 11, "16 chains, then C", SIXTEEN + b"C", SIXTEEN + b"CH"),
-        Pair(11, 2, "a 17th chain, its mark alone", SIXTEEN + b"CH", FIFTEEN + b"CH"),
-        Pair(11, 2, "a 17th chain, its fixed part cut", SIXTEEN + record(id=17)[:FIXED.size - 1],
-             FIFTEEN + record(id=17)[:FIXED.size - 1]),
-        Pair(11, 2, "a 17th chain, cut in its tasks", SIXTEEN + record(id=17)[:-1], FIFTEEN + record(id=17)[:-1]),
-        Pair(11, 4, "a 17th chain, id 0", SIXTEEN + record(id=0) + end(17), FIFTEEN + record(id=0) + end(16)),
-        Pair(11, 5, "a 17th chain, kind 2", SIXTEEN + record(id=17, kind=2) + end(17), FIFTEEN + record(id=17, kind=2) + end(16)),
-        Pair(10, 11, "a priority 0 in the 16th chain, a 17th", FIFTEEN + record(id=16, tasks=[(0, 1)]) + SEVENTEENTH,
-             SIXTEEN + SEVENTEENTH),
+        reading(RUN_OUT, first, "one byte, which begins no mark", b"X", b"XX"),
+        reading(RUN_OUT, mark, "one byte after a chain, which begins no mark", GOOD + b"X", GOOD + b"XX"),
+        reading(RUN_OUT, mark, "C, and then nothing", GOOD + b"C", GOOD + b"CX"),
+        reading(RUN_OUT, mark, "E, and then nothing", GOOD + b"E", GOOD + b"EX"),
+        reading(first, RUN_OUT, "an unknown mark, and nothing after it", b"XX", b"CH"),
+        reading(mark, RUN_OUT, "an unknown mark after a chain, and nothing after it", GOOD + b"XX", GOOD + b"CH"),
+        reading(mark, RUN_OUT, "TK where a record begins, and nothing after it", GOOD + b"TK", GOOD + b"CH"),
+        reading(mark, in_second(4, AT.id), "an unknown mark, id 0", GOOD + b"XX" + record(id=0)[2:] + end(2), second(id=0)),
+        reading(first, Verdict(11, COUNT_AT), "an unknown mark, no chain", b"XX\0\0", b"EN\0\0"),
+        reading(first, mark, "an unknown mark, and one after a chain", b"XX" + GOOD[2:] + b"XX", GOOD + b"XX"),
+    ]
+
+
+def seventeenth():
+    """A 17th chain, its mark and its fixed part, and the end after it."""
+    chain_17, in_16 = Verdict(11, len(SIXTEEN)), len(FIFTEEN)
+    return [
+        reading(Verdict(3, len(SIXTEEN)), chain_17, "16 chains, then an unknown mark", SIXTEEN + b"XX", SIXTEEN + b"CH"),
+        reading(Verdict(3, len(SIXTEEN)), chain_17, "16 chains, then TK", SIXTEEN + b"TK" + record()[2:] + end(17),
+                SIXTEEN + SEVENTEENTH),
+        reading(RUN_OUT, chain_17, "16 chains, then nothing", SIXTEEN, SIXTEEN + b"CH"),
+        reading(RUN_OUT, chain_17, "16 chains, then C", SIXTEEN + b"C", SIXTEEN + b"CH"),
+        reading(chain_17, RUN_OUT, "a 17th chain, its mark alone", SIXTEEN + b"CH", FIFTEEN + b"CH"),
+        reading(chain_17, RUN_OUT, "a 17th chain, its fixed part cut", SIXTEEN + record(id=17)[:FIXED.size - 1],
+                FIFTEEN + record(id=17)[:FIXED.size - 1]),
+        reading(chain_17, RUN_OUT, "a 17th chain, cut in its tasks", SIXTEEN + record(id=17)[:-1],
+                FIFTEEN + record(id=17)[:-1]),
+        reading(chain_17, Verdict(4, in_16 + AT.id), "a 17th chain, id 0", SIXTEEN + record(id=0) + end(17),
+                FIFTEEN + record(id=0) + end(16)),
+        reading(chain_17, Verdict(5, in_16 + AT.kind), "a 17th chain, kind 2", SIXTEEN + record(id=17, kind=2) + end(17),
+                FIFTEEN + record(id=17, kind=2) + end(16)),
+        reading(chain_17, Verdict(11, len(SIXTEEN) + COUNT_AT), "a 17th chain, a wrong end count",
+                SIXTEEN + record(id=17) + end(16), SIXTEEN + end(17)),
+        reading(chain_17, Verdict(11, len(SIXTEEN) + END.size), "a 17th chain, bytes after the end",
+                SIXTEEN + SEVENTEENTH + b"X", SIXTEEN + end(16) + b"X"),
+        reading(Verdict(10, in_16 + FIRST_TASK + PRIORITY_AT), chain_17, "a priority 0 in the 16th chain, a 17th",
+                FIFTEEN + record(id=16, tasks=[(0, 1)]) + SEVENTEENTH, SIXTEEN + SEVENTEENTH),
     ]
 
 
 def records():
-    """A fault of one chain, and one of the next that is looked at earlier in a chain."""
-    return [Pair(a, b, f"{one} in a chain, {other} in the next", stored(GOOD, record(**first), record(**{"id": 3, **later})),
-                 stored(GOOD, record(), record(**{"id": 3, **later})))
-            for a, one, first in FIXED_FAULTS[1:] + [(8, what, fields) for what, fields in LISTS]
-            for b, other, later in (FIXED_FAULTS[0], FIXED_FAULTS[2], FIXED_FAULTS[6]) if a > b]
+    """A fault of one chain, and one of the next that is looked at as early in a chain, or earlier."""
+    before = GOOD + record()
+    return [Pair(in_record(one), in_record(other, before), f"{one.what} in a chain, {other.what} in the next",
+                 stored(GOOD, record(**one.fields), record(**{"id": 3, **other.fields})),
+                 stored(GOOD, record(), record(**{"id": 3, **other.fields})))
+            for one in FIXED_FAULTS + LISTS for other in (FIXED_FAULTS[0], FIXED_FAULTS[2], FIXED_FAULTS[6])
+            if one.number >= other.number]
 
 
 def ends():
+    count, after = in_second(11, COUNT_AT), in_second(11, END.size)
     return [
-        Pair(2, 11, "EN cut, no chain", b"EN", b"EN\0\0"),
-        Pair(2, 11, "EN and one byte, no chain", b"EN\0", b"EN\0\0"),
-        Pair(2, 11, "EN cut, a wrong count", GOOD + b"EN", GOOD + b"EN\2\0"),
-        Pair(2, 11, "EN and one byte, a wrong count", GOOD + b"EN\2", GOOD + b"EN\2\0"),
-        Pair(11, 2, "one byte after the end", stored(GOOD) + b"C", GOOD + b"C"),
-        Pair(11, 3, "an unknown mark after the end", stored(GOOD) + b"XX", GOOD + b"XX"),
-        Pair(11, 4, "a chain after the end, id 0", stored(GOOD) + record(id=0) + end(2), second(id=0)),
-        Pair(11, 2, "a wrong count, and a chain cut after the end", GOOD + end(2) + record()[:5], GOOD + record()[:5]),
+        reading(RUN_OUT, Verdict(11, COUNT_AT), "EN cut, no chain", b"EN", b"EN\0\0"),
+        reading(RUN_OUT, Verdict(11, COUNT_AT), "EN and one byte, no chain", b"EN\0", b"EN\0\0"),
+        reading(RUN_OUT, count, "EN cut, a wrong count", GOOD + b"EN", GOOD + b"EN\2\0"),
+        reading(RUN_OUT, count, "EN and one byte, a wrong count", GOOD + b"EN\2", GOOD + b"EN\2\0"),
+        reading(count, after, "a wrong count, bytes after the end", GOOD + end(2) + b"X", stored(GOOD) + b"X"),
+        reading(count, after, "a count of 0, bytes after the end", GOOD + end(0) + b"X", stored(GOOD) + b"X"),
+        reading(Verdict(11, COUNT_AT), after, "no chain, bytes after the end", end(0) + b"X", stored(GOOD) + b"X"),
+        reading(Verdict(11, COUNT_AT), after, "no chain, a count of 1, bytes after the end", end(1) + b"X", stored(GOOD) + b"X"),
+        reading(after, RUN_OUT, "one byte after the end", stored(GOOD) + b"C", GOOD + b"C"),
+        reading(after, Verdict(3, len(GOOD)), "an unknown mark after the end", stored(GOOD) + b"XX", GOOD + b"XX"),
+        reading(after, in_second(4, AT.id), "a chain after the end, id 0", stored(GOOD) + record(id=0) + end(2),
+                second(id=0)),
+        reading(count, RUN_OUT, "a wrong count, and a chain cut after the end", GOOD + end(2) + record()[:5],
+                GOOD + record()[:5]),
     ]
 
 
 def lengths():
     """A length of 0 or above 1,284, and what the bytes there have."""
-    faults = [(3, "an unknown mark", b"XX"), (11, "bytes after the end", stored(GOOD)), (11, "no chain", b"EN\0\0")]
-    faults += [(a, one, second(**first)) for a, one, first in FIXED_FAULTS]
-    faults += [(8, what, second(**fields)) for what, fields in LISTS]
-    faults += [(10, what, second(tasks=[bad])) for what, bad in BAD_TASKS]
-    return [Pair(1, 2, "no byte", b"", b"C")] + [
-        Pair(1, a, f"1,285 bytes, {what}", padded(made, LONGEST + 1), padded(made, LONGEST)) for a, what, made in faults]
+    faults = [(Verdict(3, 0), "an unknown mark", b"XX"), (Verdict(11, len(stored(GOOD))), "bytes after the end", stored(GOOD)),
+              (Verdict(11, COUNT_AT), "no chain", b"EN\0\0")]
+    faults += [(in_record(fault), fault.what, second(**fault.fields)) for fault in FIXED_FAULTS + LISTS]
+    faults += [(in_second(10, FIRST_TASK + at), what, second(tasks=[bad])) for what, at, bad in BAD_TASKS]
+    return [reading(Verdict(1, 0), RUN_OUT, "no byte", b"", b"C")] + [
+        reading(Verdict(1, 0), there, f"1,285 bytes, {what}", padded(made, LONGEST + 1), padded(made, LONGEST))
+        for there, what, made in faults]
 
 
-READING = lengths() + marks() + fixed_parts() + lists() + tasks() + records() + ends()
+READING = lengths() + marks() + seventeenth() + fixed_parts() + lists() + tasks() + records() + ends()
 
 # A table for each number, with nothing else wrong.
 REFUSED = {
     1: b"", 2: GOOD, 3: b"XX", 4: second(id=0), 5: second(kind=2), 6: second(deadline=0), 7: second(gap=TIME + 1),
-    8: second(listed=0), 9: second(count=0), 10: second(tasks=[(0, 1)]), 11: b"EN\0\0",
+    9: second(count=0), 10: second(tasks=[(0, 1)]), 11: b"EN\0\0",
+    28: second(listed=0), 29: second(distances=(100, 50)), 30: second(distances=(0, 0)), 31: second(distances=(101, 150)),
 }
 
 
@@ -337,9 +461,10 @@ LONGER_FORMLESS = [
 UNREADABLE = [
     (3, "another mark than TK", record(tasks=LONGER)[:FIRST_TASK] + b"XX" + record(tasks=LONGER)[FIRST_TASK + 2:]),
     (5, "kind 2", record(kind=2, tasks=LONGER)), (6, "deadline 0", record(deadline=0, tasks=LONGER)),
-    (7, "gap too large", record(gap=TIME + 1, tasks=LONGER)), (8, "list length 9", record(distances=[100] * 9, gap=0)),
-    (8, "a distance falls", record(distances=(100, 50))), (9, "task count 17", record(tasks=[(5, 10)] * 17)),
-    (10, "priority 0", record(tasks=[(0, 1)] * 3)),
+    (7, "gap too large", record(gap=TIME + 1, tasks=LONGER)), (28, "list length 9", record(distances=[100] * 9, gap=0)),
+    (29, "a distance falls", record(distances=(100, 50))), (30, "the last distance is 0", record(distances=(0, 0))),
+    (31, "below what the gap allows", record(distances=(101, 150))),
+    (9, "task count 17", record(tasks=[(5, 10)] * 17)), (10, "priority 0", record(tasks=[(0, 1)] * 3)),
 ]
 
 
@@ -367,7 +492,7 @@ def saves():
         Pair(1, 22, "used above the buffer, no such record", above(TWO, STALE, record()), tight(TWO, STALE, record())),
         Pair(22, 24, "no such record, no room", tight(TWO, STALE, longer), tight(TWO, record(), longer)),
         Pair(24, 1, "no room, 1,288 bytes", tight(FULL, first, NINE), roomy(FULL, first, NINE)),
-        Pair(1, 8, "1,288 bytes, list length 9", roomy(FULL, first, NINE), roomy(TWO, GOOD, NINE)),
+        Pair(1, 28, "1,288 bytes, list length 9", roomy(FULL, first, NINE), roomy(TWO, GOOD, NINE)),
         Pair(23, 1, "another id, 1,288 bytes", roomy(FULL, CHAINS[1], NINE), roomy(FULL, first, NINE)),
     ]
     pairs += [Pair(22, 23, f"no such record, {what}", roomy(TWO, STALE, new), roomy(TWO, record(), new))
@@ -387,30 +512,36 @@ def saves():
 SAVE = saves()
 
 
-# ---- All calls, their numbers held against the reader written from document 01 ----
+# ---- All calls, what is told of them held against the reader written from the documents ----
 
-def told_by_reader(call, number):
-    """The number as far as document 01's reader tells it: of a table, of a query's table, or of a save."""
+def told_by_reader(call, told):
+    """What that reader tells: of a table, of a query's table, or of a save."""
     if isinstance(call, bytes):
         return verdict(call)
     if isinstance(call[1], int) and isinstance(call[-1], bytes):
         return save_verdict(*call)
-    return verdict(call[0]) or (number if number > 11 else 0)
+    return verdict(call[0]).number or (told if told not in NUMBERS else 0)
+
+
+def shown(told):
+    return f"{told.number} at {told.at}" if isinstance(told, Verdict) else str(told)
 
 
 def calls(pairs):
-    """Every call of these pairs once: its name, itself and its number."""
+    """Every call of these pairs once: its name, itself and what is told of it."""
     found = {}
     for pair in pairs:
-        for label, call, number in ((f"{pair.first} before {pair.second}: {pair.what}", pair.both, pair.first),
-                                    (f"{pair.second} alone: {pair.what}", pair.later, pair.second)):
-            if told_by_reader(call, number) != number:
-                raise SystemExit(f"{label}: document 01 gives {told_by_reader(call, number)}")
-            if found.setdefault(call, (label, number))[1] != number:
+        if pair.first == pair.second:
+            raise SystemExit(f"{pair.what}: nothing is told apart")
+        for label, call, told in ((f"{shown(pair.first)} before {shown(pair.second)}: {pair.what}", pair.both, pair.first),
+                                  (f"{shown(pair.second)} alone: {pair.what}", pair.later, pair.second)):
+            if told_by_reader(call, told) != told:
+                raise SystemExit(f"{label}: the documents give {told_by_reader(call, told)}")
+            if found.setdefault(call, (label, told))[1] != told:
                 raise SystemExit(f"{label}: another case expects {found[call]}")
-    return [(label, call, number) for call, (label, number) in found.items()]
+    return [(label, call, told) for call, (label, told) in found.items()]
 
 
 if __name__ == "__main__":
     for orders, pairs in (("table", READING), ("latency", LATENCY), ("misses", MISSES), ("segment", SEGMENT), ("save", SAVE)):
-        print(*(f"{orders}: {pair.first} before {pair.second}: {pair.what}" for pair in pairs), sep="\n")
+        print(*(f"{orders}: {shown(pair.first)} before {shown(pair.second)}: {pair.what}" for pair in pairs), sep="\n")

@@ -3,16 +3,16 @@
 A packed case is 28 bytes and a table: kind (1 byte), the number to be given back (1 byte), six numbers (4 bytes each,
 little-endian), the table's length (2 bytes), the table. The kinds and their six numbers, 0 where one is not named:
 
-  0 reading   none; the number is 0 for an accepted table, else its refusal
+  0 reading   offset of the field at fault; the number is 0 for an accepted table, else the table's
   1 segment   chain, against, number, offset, length
   2 latency   id, K, latency, late, margin + 10,000,000
   3 misses    id, k, misses
   4 report    length of the text, which follows the table
 
-Each different table of any file of tests/cases gives a case of kind 0. Its verdict is worked out by a reader written from
-document 01 (stored.py), and held against what the case says. Cases of refusal 27 speak of the answer buffer, which these
-queries do not have. After the cases of the files come those that only an order decides (orders.py), those that document 01
-and the published case study tell, and some at the edges, held here.
+Each different table of any file of tests/cases gives a case of kind 0. Its verdict is worked out by a reader written from the
+documents (stored.py), and held against what the case says. Cases of refusal 27 speak of the answer buffer, which these
+queries do not have. After the cases of the files come those that only an order decides (orders.py), every start of the
+sample, those that document 01 and the published case study tell, and some at the edges, held here.
 """
 import json
 import struct
@@ -20,18 +20,20 @@ import sys
 
 import orders
 from orders import backlog, edge, edge_of_second
-from stored import TIME, TOP, verdict
+from stored import ACCEPTED, NUMBERS, TIME, TOP, Verdict, records, verdict
 from table import chain, stored, table_of
 
 CASES = TOP / "tests" / "cases"
 QUERY = {"tag", "table", "answer", "rc", "after"}
-KEYS = {  # of the cases of each file; tests/cases/README.md has their meaning
-    "latency": QUERY | {"id"},
-    "misses": QUERY | {"id", "k"},
-    "segment": QUERY | {"a", "b", "n"},
-    "save": {"tag", "buffer", "used", "old", "new", "answer", "rc", "after", "buffer_after"},
-    "report": {"tag", "table", "text"},
-    "faults": {"table", "rc", "detail"},
+REFUSED = {"table", "rc", "detail"}
+KEYS = {  # of the cases of each file, one set of these; tests/cases/README.md has their meaning
+    "latency": [QUERY | {"id"}],
+    "misses": [QUERY | {"id", "k"}],
+    "segment": [QUERY | {"a", "b", "n"}],
+    "save": [{"tag", "buffer", "used", "old", "new", "answer", "rc", "after", "buffer_after"}],
+    "report": [{"tag", "table", "text"}],
+    "read": [REFUSED, {"table", "rc", "chains"}],
+    "faults": [REFUSED],
 }
 
 # The sample table of document 01, and the published case study.
@@ -78,17 +80,14 @@ LATENCIES = [
 
 
 def told(case):
-    """What a case says of its table: a verdict, or None where it says nothing of it. The numbers 28 to 31 of faults.jsonl
-    are parts of 8, told apart by a later request."""
+    """What a case says of its table: number and offset, each None where it says nothing of it."""
     if "text" in case:
         words = case["text"].split()
-        return int(words[1]) if words[0] == "refused" else 0
+        return Verdict(int(words[1]), int(words[2])) if words[0] == "refused" else ACCEPTED
     rc = case["rc"]
-    if rc == 27 or "buffer" in case and 1 <= rc <= 11:
-        return None
-    if 28 <= rc <= 31:
-        return 8
-    return rc if 1 <= rc <= 11 else 0
+    if rc == 27 or "buffer" in case and rc in NUMBERS:  # a save's number may be that of its result
+        return Verdict(None, None)
+    return Verdict(rc, case.get("detail")) if rc in NUMBERS else ACCEPTED
 
 
 def packed(kind, number, values, table):
@@ -105,35 +104,50 @@ def cases(name):
                 found.append(json.loads(line))
             except ValueError as error:
                 raise ValueError(f"{name}.jsonl:{turn}: {error}") from None
-            if set(found[-1]) != KEYS[name]:
-                raise ValueError(f"{name}.jsonl:{turn}: other keys than {', '.join(sorted(KEYS[name]))}")
+            if set(found[-1]) not in KEYS[name]:
+                due = " or ".join(", ".join(sorted(keys)) for keys in KEYS[name])
+                raise ValueError(f"{name}.jsonl:{turn}: other keys than {due}")
     if not found:
         raise ValueError(f"{name}.jsonl: no case")
     return found
 
 
-def tables():
-    """Each different table of any file, with its verdict."""
+def table_in(case):
+    """The table of a case, or None where a save's used length is above its buffer."""
+    if "buffer" not in case:
+        return bytes.fromhex(case["table"])
+    buffer = bytes.fromhex(case["buffer"])
+    return buffer[:case["used"]] if case["used"] <= len(buffer) else None
+
+
+def must_agree(name, case, table, found):
+    """Ends the program where a case says something else of its table than was found."""
+    said = told(case)
+    if said.number not in (None, found.number) or said.at not in (None, found.at):
+        sys.exit(f"{name}: the case says {tuple(said)} of its table, the documents {tuple(found)}")
+    if "chains" in case and case["chains"] != len([*records(table)]):
+        sys.exit(f"{name}: the case says {case['chains']} chains of its table")
+
+
+def of_files():
+    """Each different table of any file with its verdict, named after the first case that has it."""
     found = {}
-    for name in ("latency", "misses", "report", "save", "segment", "faults"):  # the order of the packed cases
-        for line, case in enumerate(cases(name), 1):
-            if "buffer" in case:
-                buffer = bytes.fromhex(case["buffer"])
-                if case["used"] > len(buffer):
-                    continue
-                table = buffer[:case["used"]]
-            else:
-                table = bytes.fromhex(case["table"])
-            found[table] = verdict(table)
-            if told(case) not in (None, found[table]):
-                sys.exit(f"{name}.jsonl:{line}: the case says {told(case)} of its table, document 01 {found[table]}")
-    return found
+    for file in ("latency", "misses", "report", "save", "segment", "read", "faults"):  # the order of the packed cases
+        for turn, case in enumerate(cases(file), 1):
+            name, table = f"{file}.jsonl:{turn}", table_in(case)
+            if table is not None:
+                must_agree(name, case, table, found.setdefault(table, (name, verdict(table)))[1])
+    return [(name, table, told) for table, (name, told) in found.items()]
+
+
+def tables():
+    """Those tables, then those that only an order decides, and every start of the sample; with names and verdicts."""
+    starts = [(f"the sample's first {at} bytes", SAMPLE[:at], Verdict(2, at)) for at in range(1, len(SAMPLE))]
+    return of_files() + orders.calls(orders.READING) + starts
 
 
 def readings():
-    """Those tables, and then those that only an order decides."""
-    found = {**tables(), **{table: number for _, table, number in orders.calls(orders.READING)}}
-    return [packed(0, number, [], table) for table, number in found.items()]
+    return [packed(0, told.number, [told.at], table) for _, table, told in tables()]
 
 
 def after(case):
@@ -182,12 +196,15 @@ REPORTS = [
     (backlog(1024, 0, 100), HEADER + "1 1024 1034 934 -934 r15\n2 1 1024 1 -924 r14\n"),
     (backlog(1025, 0, 100), HEADER + "1 r17\n2 1 1025 1 -925 r14\n"),
     (STUDY, HEADER + "4 1 175 0 25 0\n3 2 331 1 -131 5\n2 1 111 0 889 r14\n1 1 137 0 863 r14\n"),
-    (b"", "refused 1\n"),
-    (SAMPLE[:1], "refused 2\n"),
-    (SAMPLE[:-1], "refused 2\n"),
-    (SAMPLE + b"E", "refused 11\n"),
-    (bytes(1284), "refused 3\n"),
-    (bytes(1285), "refused 1\n"),
+    (b"", "refused 1 0\n"),
+    (SAMPLE[:1], "refused 2 1\n"),
+    (SAMPLE[:-1], "refused 2 139\n"),
+    (SAMPLE + b"E", "refused 11 140\n"),
+    (orders.FULL[:-1], "refused 2 1283\n"),
+    (orders.FULL[:-1] + b"\1", "refused 11 1282\n"),
+    (orders.REFUSED[29], "refused 29 56\n"),
+    (bytes(1284), "refused 3 0\n"),
+    (bytes(1285), "refused 1 0\n"),
 ]
 
 

@@ -2,21 +2,22 @@
 
 A report of tests/cases has a table and its text alone: its buffers are made here, as long as the text, longer, or too short.
 After the cases of the files come those that document 01 tells (pack.py), those that only an order decides (orders.py), and
-answer buffers too short for each of them.
+answer buffers too short for each of them. Every table of all these is checked too.
 
-Packed, little-endian: for each case the entry (1 byte: 0 latency, 1 misses, 2 segment, 3 save, 4 report); its name (1 byte
-of length, text); three numbers (8 bytes each: id; id, k; a, b, n; used; none); what it returns (4 bytes); then, before the
-call, the table or buffer, the old record, the new record, the text and the answer, and after it the table or buffer, the
-text and the answer: 2 bytes of length, then the bytes, or the length 65,535 alone for no change.
+Packed, little-endian: for each case the entry (1 byte: 0 latency, 1 misses, 2 segment, 3 save, 4 report, 5 check); its name
+(1 byte of length, text); three numbers (8 bytes each: id; id, k; a, b, n; used; none; none); what it returns (4 bytes); then,
+before the call, the table or buffer, the old record, the new record, the text and the answer, and after it the table or
+buffer, the text and the answer: 2 bytes of length, then the bytes, or the length 65,535 alone for no change.
 """
 import struct
 
 import orders
 import pack
+from stored import NUMBERS
 
 SAME = 65535
-ENTRIES = ("latency", "misses", "segment", "save", "report")
-ANSWER_BYTES = {"latency": 16, "misses": 4, "segment": 8, "save": 4, "report": 4}
+ENTRIES = ("latency", "misses", "segment", "save", "report", "check")
+ANSWER_BYTES = {"latency": 16, "misses": 4, "segment": 8, "save": 4, "report": 4, "check": 8}
 
 
 def slice_of(data):
@@ -112,8 +113,8 @@ def documented():
 
 def ordered():
     """Every call of orders.py: its entry, name, numbers, table, old and new record, and what it returns."""
-    for name, table, rc in orders.calls(orders.READING):
-        yield "latency", name, (1,), table, b"", b"", rc
+    for name, table, told in orders.calls(orders.READING):
+        yield "latency", name, (1,), table, b"", b"", told.number
     for entry, pairs in (("latency", orders.LATENCY), ("misses", orders.MISSES), ("segment", orders.SEGMENT)):
         for name, (table, *numbers), rc in orders.calls(pairs):
             yield entry, name, numbers, table, b"", b"", rc
@@ -131,20 +132,33 @@ def two_refusals():
 def short_answers():
     """27 before each other number: an answer buffer one byte too short, or none."""
     for turn, (entry, name, numbers, table, old, new, rc) in enumerate(ordered()):
-        if entry != "latency" or rc > 11:
+        if entry != "latency" or rc not in NUMBERS:
             answer = lent(0 if turn % 5 == 0 else ANSWER_BYTES[entry] - 1)
             yield packed(entry, f"27 before {name}", numbers, 27, table, answer, old=old, new=new)
     for number, table in orders.REFUSED.items():
-        for entry, numbers in (("latency", (1,)), ("misses", (1, 10)), ("segment", (1, 2, 1)), ("save", (len(table),))):
+        for entry, numbers in (("latency", (1,)), ("misses", (1, 10)), ("segment", (1, 2, 1)), ("save", (len(table),)),
+                               ("check", ())):
             yield packed(entry, f"27 before {number}", numbers, 27, table, lent(ANSWER_BYTES[entry] - 1))
         yield packed("report", f"27 before 24, a table refused {number}", (), 27, table, lent(3), text=lent(9))
 
 
+# ---- Every table, checked ----
+
+def checks():
+    """The answer in a buffer that it just fits or a longer one, by turns; and every fourth time one that is too short."""
+    for turn, (name, table, told) in enumerate(pack.tables()):
+        answer = lent(ANSWER_BYTES["check"] + (0, 1, 0, 5)[turn % 4])
+        yield packed("check", f"check, {name}", (), 0, table, answer, written(struct.pack("<II", *told), answer))
+        if turn % 4 == 0:
+            short = lent((7, 0, 4, 1)[turn // 4 % 4])
+            yield packed("check", f"check, {name}, {len(short)} bytes of answer", (), 27, table, short)
+
+
 def of_files():
-    for name in ENTRIES:
+    for name in ("latency", "misses", "segment", "save", "report"):
         for turn, case in enumerate(pack.cases(name), 1):
             yield from of_file(name, turn, case)
 
 
 def everything():
-    return [*of_files(), *documented(), *two_refusals(), *short_answers()]
+    return [*of_files(), *documented(), *two_refusals(), *short_answers(), *checks()]

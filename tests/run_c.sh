@@ -87,8 +87,9 @@ for typed in 0 10000001 4294967360 -64 64x "6 4" " " 000000000000000000000000000
 done
 ends 2 "editor: $room/none: No such file or directory" 64 "$room/none" 1
 ends 2 "editor: /: Is a directory" 64 / 1
-head -c 139 "$sample" >"$room/cut"
-ends 1 "editor: latency refused, 2" 64 "$room/cut" 1
+cut=${table%/*}/cut
+head -c 139 "$sample" >"$cut"
+ends 1 "editor: $cut: refused, 2 at byte 139" 64 "$cut" 1
 ends 1 "editor: latency refused, 12" 64 "$table" 7
 mkdir "$table.new"
 ends 2 "editor: $table.new: File exists" 64 "$table" 1

@@ -1,86 +1,118 @@
-"""Stored tables for the cases: a reader written from document 01, on records as examples/table.py lays them out."""
+"""Stored tables for the cases: a reader written from document 01 and document 02, request 1, on records as examples/table.py
+lays them out."""
 import sys
+from collections import namedtuple
 from pathlib import Path
 
 TOP = Path(__file__).resolve().parent.parent
 sys.path.insert(0, str(TOP / "examples"))
 
-from table import CHAIN_MARK, DISTANCE, END, END_MARK, FIXED, TASK, TASK_MARK, fixed_part, record_length
+from table import CHAIN_MARK, DISTANCE, END, END_MARK, FIXED, TASK, TASK_MARK, Fixed, fixed_part, record_length
 
 MARK = len(CHAIN_MARK)
 TIME = 10_000_000
 LONGEST = 1284
 
+# Where each field of a fixed part begins, and those of a task and of the end record after their marks.
+AT = Fixed(mark=0, id=2, kind=4, overload=5, deadline=6, gap=10, listed=14, tasks=15)
+PRIORITY_AT, COST_AT, COUNT_AT = 2, 4, 2
 
-def fixed_fault(fixed, ids, total):
-    """The fault of a fixed part after these ids and so many tasks, or 0."""
+# What is said of a table: its number and the offset of the field at fault.
+Verdict = namedtuple("Verdict", "number at")
+ACCEPTED = Verdict(0, 0)
+NUMBERS = {*range(1, 8), *range(9, 12), *range(28, 32)}  # those that a table is refused with
+
+
+# ---- Each of these gives the first fault of a part, or None ----
+
+def fixed_fault(fixed, at, ids, total):
+    """Of the fixed part that begins here, after these ids and so many tasks."""
     if fixed.id == 0 or fixed.id in ids:
-        return 4
-    if fixed.kind > 1 or fixed.overload > 1:
-        return 5
+        return Verdict(4, at + AT.id)
+    if fixed.kind > 1:
+        return Verdict(5, at + AT.kind)
+    if fixed.overload > 1:
+        return Verdict(5, at + AT.overload)
     if not 1 <= fixed.deadline <= TIME:
-        return 6
+        return Verdict(6, at + AT.deadline)
     if fixed.gap > TIME:
-        return 7
+        return Verdict(7, at + AT.gap)
     if not 1 <= fixed.listed <= 8:
-        return 8
-    return 0 if 1 <= fixed.tasks <= 16 and total + fixed.tasks <= 64 else 9
+        return Verdict(28, at + AT.listed)
+    return None if 1 <= fixed.tasks <= 16 and total + fixed.tasks <= 64 else Verdict(9, at + AT.tasks)
 
 
 def list_fault(s, at, fixed):
-    if len(s) < at + DISTANCE.size * fixed.listed:
-        return 2
-    distances = [0] + [DISTANCE.unpack_from(s, at + DISTANCE.size * k)[0] for k in range(fixed.listed)]
-    if distances != sorted(distances) or not 0 < distances[-1] <= TIME:
-        return 8
-    return 8 if fixed.gap and any(fixed.gap * n < d for n, d in enumerate(distances)) else 0
+    """Of the list of the record that begins here."""
+    places = range(at + FIXED.size, at + FIXED.size + DISTANCE.size * fixed.listed, DISTANCE.size)
+    if len(s) < places[-1] + DISTANCE.size:
+        return Verdict(2, len(s))
+    distances = [DISTANCE.unpack_from(s, place)[0] for place in places]
+    for place, distance, before in zip(places, distances, [0] + distances):
+        if distance < before or distance > TIME:
+            return Verdict(29, place)
+    if distances[-1] == 0:
+        return Verdict(30, places[-1])
+    below = any(fixed.gap * steps < distance for steps, distance in enumerate(distances, 1))
+    return Verdict(31, at + AT.gap) if fixed.gap and below else None
 
 
-def tasks_fault(s, at, tasks):
-    for _ in range(tasks):
-        if len(s) < at + MARK:
-            return 2
-        if not s.startswith(TASK_MARK, at):
-            return 3
-        if len(s) < at + TASK.size:
-            return 2
-        _, priority, cost = TASK.unpack_from(s, at)
-        if priority == 0 or not 1 <= cost <= 1_000_000:
-            return 10
-        at += TASK.size
-    return 0
+def task_fault(s, at):
+    """Of the task that begins here."""
+    if len(s) < at + MARK:
+        return Verdict(2, len(s))
+    if not s.startswith(TASK_MARK, at):
+        return Verdict(3, at)
+    if len(s) < at + TASK.size:
+        return Verdict(2, len(s))
+    _, priority, cost = TASK.unpack_from(s, at)
+    if priority == 0:
+        return Verdict(10, at + PRIORITY_AT)
+    return None if 1 <= cost <= 1_000_000 else Verdict(10, at + COST_AT)
+
+
+def chain_fault(s, at, ids, total):
+    """Of the chain record that begins here with its mark, after these ids and so many tasks."""
+    if len(ids) == 16:
+        return Verdict(11, at)
+    if len(s) < at + FIXED.size:
+        return Verdict(2, len(s))
+    fixed = fixed_part(s, at)
+    fault = fixed_fault(fixed, at, ids, total) or list_fault(s, at, fixed)
+    task = at + FIXED.size + DISTANCE.size * fixed.listed
+    for k in range(fixed.tasks):
+        fault = fault or task_fault(s, task + TASK.size * k)
+    return fault
 
 
 def end_fault(s, at, chains):
+    """Of the end record that begins here, after so many chains."""
     if len(s) < at + END.size:
-        return 2
+        return Verdict(2, len(s))
     _, count = END.unpack_from(s, at)
-    return 0 if chains and count == chains and len(s) == at + END.size else 11
+    if chains == 0 or count != chains:
+        return Verdict(11, at + COUNT_AT)
+    return Verdict(11, at + END.size) if len(s) > at + END.size else None
 
+
+# ---- Tables ----
 
 def verdict(s):
-    """0, or the first fault of document 01, 'Stored table'."""
+    """The first fault of document 01, 'Stored table', at its offset, or ACCEPTED."""
     if not 1 <= len(s) <= LONGEST:
-        return 1
+        return Verdict(1, 0)
     at, ids, total = 0, [], 0
     while True:
         if len(s) < at + MARK:
-            return 2
+            return Verdict(2, len(s))
         if s.startswith(END_MARK, at):
-            return end_fault(s, at, len(ids))
+            return end_fault(s, at, len(ids)) or ACCEPTED
         if not s.startswith(CHAIN_MARK, at):
-            return 3
-        if len(ids) == 16:
-            return 11
-        if len(s) < at + FIXED.size:
-            return 2
-        fixed = fixed_part(s, at)
-        first_distance = at + FIXED.size
-        first_task = first_distance + DISTANCE.size * fixed.listed
-        fault = (fixed_fault(fixed, ids, total) or list_fault(s, first_distance, fixed)
-                 or tasks_fault(s, first_task, fixed.tasks))
+            return Verdict(3, at)
+        fault = chain_fault(s, at, ids, total)
         if fault:
             return fault
+        fixed = fixed_part(s, at)
         at += record_length(fixed)
         ids.append(fixed.id)
         total += fixed.tasks
@@ -104,12 +136,12 @@ def has_form(new, ident):
 
 
 def save_verdict(buffer, used, old, new):
-    """0, or the refusal of document 01, 'Saving one record', without 27."""
+    """0, or the number of document 01, 'Saving one record', without 27."""
     if used > len(buffer):
         return 1
     table = buffer[:used]
-    if verdict(table):
-        return verdict(table)
+    if verdict(table) != ACCEPTED:
+        return verdict(table).number
     places = [(at, after) for at, after in records(table) if table[at:after] == old]
     if not places:
         return 22
@@ -117,4 +149,4 @@ def save_verdict(buffer, used, old, new):
         return 23
     at, after = places[0]
     result = table[:at] + new + table[after:]
-    return 24 if len(result) > len(buffer) else verdict(result)
+    return 24 if len(result) > len(buffer) else verdict(result).number

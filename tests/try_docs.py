@@ -1,5 +1,6 @@
 #!/usr/bin/env python3
-"""Holds docs/ against what it speaks of: the refusals of the header, and the bytes of the sample.
+"""Holds the docs, and the sentences of `./mishtodran check`, against what they speak of: the header's refusals, fields, entries
+and version, the bytes of the sample, and the line for a damaged table.
 
 Usage: try_docs.py
 
@@ -8,16 +9,24 @@ Usage: try_docs.py
 import re
 import sys
 
-from stored import TOP, records
+from stored import NUMBERS, TOP, records
 from table import end
+
+HEADER = (TOP / "include" / "mishtodran.h").read_text("utf8")
+CONSTANTS = {name: int(value) for name, value in re.findall(r"MISHTODRAN_(\w+)(?: =)? (\d+)", HEADER)}
+# Name, number and sentence of each refusal.
+REFUSALS = re.findall(r"MISHTODRAN_(\w+) = (\d+),? +/\* (.*) \*/\n",
+                      HEADER.partition("enum mishtodran_refusal {")[2].partition("};")[0])
+
+
+def text_of(name):
+    return (TOP / name).read_text("utf8")
 
 
 def refusals():
     """Lines for the numbers and names that docs/REFUSALS.md and the header do not have alike."""
-    header = (TOP / "include" / "mishtodran.h").read_text("utf8")
-    listed = re.search(r"enum mishtodran_refusal \{(.*?)\n\};", header, re.S)
-    due = re.findall(r"MISHTODRAN_(\w+) = (\d+)", listed.group(1)) if listed else []
-    rows = re.findall(r"^\| (\d+) \| `(\w+)` \|", (TOP / "docs" / "REFUSALS.md").read_text("utf8"), re.M)
+    due = [(name, number) for name, number, _ in REFUSALS]
+    rows = re.findall(r"^\| (\d+) \| `(\w+)` \|", text_of("docs/REFUSALS.md"), re.M)
     there = [(name, number) for number, name in rows]
     if not due:
         return ["mishtodran.h: no refusals in the form that this program reads"]
@@ -27,11 +36,63 @@ def refusals():
     return lines
 
 
+# The fields of docs/TABLE.md, in its order, each with its name in the header.
+FIELDS = [("mark", "CHAIN_MARK"), ("id", "CHAIN_ID"), ("kind", "CHAIN_KIND"), ("overload", "CHAIN_OVERLOAD"),
+          ("deadline", "CHAIN_DEADLINE"), ("largest gap", "CHAIN_GAP"), ("list length", "CHAIN_LISTED"),
+          ("task count", "CHAIN_TASKS"), ("distances", "CHAIN_DISTANCES"),
+          ("mark", "TASK_MARK"), ("priority", "TASK_PRIORITY"), ("cost", "TASK_COST"),
+          ("mark", "END_MARK"), ("number of chains", "END_CHAINS")]
+
+
+def fields():
+    """Lines for the fields and the numbers of docs/TABLE.md that are not the header's."""
+    text = text_of("docs/TABLE.md")
+    rows = re.findall(r"^\| (\d+) \| (\d+)( L)? \| ([a-z ]+) \| .* \| ([\d, ]+) \|$", text, re.M)
+    due = [(name, CONSTANTS[f"{field}_AT"], CONSTANTS.get(f"{field}_BYTES", CONSTANTS["DISTANCE_BYTES"]))
+           for name, field in FIELDS]
+    there = [(name, int(at), int(length)) for at, length, _, name, _ in rows]
+    lines = [f"TABLE.md has {row}, the header {wanted}" for row, wanted in zip(there, due) if row != wanted]
+    if len(there) != len(due):
+        lines.append(f"TABLE.md has {len(there)} fields, the header {len(due)}")
+    at_fields = {int(number) for *_, numbers in rows for number in numbers.split(", ")}
+    order = text.partition("## The order of the checks")[2].partition("\n## ")[0]
+    checked = {int(number) for number in re.findall(r"\((\d+)\)", order)}
+    for what, numbers in (("at its fields", at_fields | {1, 2}), ("in its order of the checks", checked)):
+        if numbers != NUMBERS:
+            lines.append(f"TABLE.md has other numbers {what} than a table's: {sorted(numbers ^ NUMBERS)}")
+    return lines
+
+
+def entries():
+    """Lines for the entries and the version that README.md and CHANGELOG.md have otherwise than the header."""
+    lines = []
+    due = re.findall(r"^\w+ (mishtodran_\w+)\(", HEADER, re.M)
+    rows = re.findall(r"^\| `(mishtodran_\w+)` \|", text_of("README.md"), re.M)
+    if rows != due or not due:
+        lines.append(f"README.md has the entries {', '.join(rows)}, the header {', '.join(due)}")
+    newest = re.search(r"^## (\d+)$", text_of("CHANGELOG.md"), re.M)
+    if not newest or int(newest.group(1)) != CONSTANTS["VERSION"]:
+        lines.append(f"CHANGELOG.md does not begin with version {CONSTANTS['VERSION']}")
+    return lines
+
+
+def sentences():
+    """Lines for the sentences of `./mishtodran check` that are not the header's, and for docs that show another line."""
+    said = re.findall(r'^ +(\d+) => put\(b"(.*)"\),$', text_of("crates/table_check/src/sentence.rt"), re.M)
+    due = [(number, what) for _, number, what in REFUSALS if int(number) in NUMBERS]
+    lines = [f"sentence.rt has not the header's {number}: {what}" for number, what in due if (number, what) not in said]
+    if len(said) != len(NUMBERS):
+        lines.append(f"sentence.rt has {len(said)} sentences, and a table {len(NUMBERS)} numbers")
+    shown = f"    {text_of('crates/table_check/stdout')}"
+    return lines + [f"{name} does not show the line for the damaged table" for name in ("README.md", "docs/REFUSALS.md")
+                    if shown not in text_of(name)]
+
+
 def drawing():
     """Lines for the bytes that docs/TABLE.md draws otherwise than the sample has them."""
     sample = (TOP / "examples" / "sample.table").read_bytes()
     first, *_, last = records(sample)
-    text = (TOP / "docs" / "TABLE.md").read_text("utf8")
+    text = text_of("docs/TABLE.md")
     drawn = bytes.fromhex("".join(re.findall(r"^    bytes ([0-9a-f ]+)$", text, re.M)))
     lines = []
     if drawn != sample[slice(*first)]:
@@ -45,7 +106,7 @@ def main(words):
     if words:
         print("try_docs.py: usage: try_docs.py", file=sys.stderr)
         return 2
-    wrong = refusals() + drawing()
+    wrong = refusals() + fields() + entries() + sentences() + drawing()
     for line in wrong or ["as it should be"]:
         print(f"try_docs: {line}")
     return 1 if wrong else 0

@@ -31,13 +31,15 @@ wrong 2 "mishtodran: there is no command ''; ./mishtodran help lists them" ./mis
 wrong 2 "mishtodran: there is no command '-x'; ./mishtodran help lists them" ./mishtodran -x
 wrong 2 "mishtodran: usage: ./mishtodran help" ./mishtodran help report
 wrong 2 "mishtodran: usage: ./mishtodran help" ./mishtodran --help report
-wrong 2 "mishtodran: usage: ./mishtodran report [FILE]" ./mishtodran report examples/sample.table examples/sample.table
-wrong 2 "mishtodran: there is no file none" ./mishtodran report none
-wrong 2 "mishtodran: there is no file " ./mishtodran report ""
-wrong 2 "mishtodran: examples is a folder" ./mishtodran report examples
-wrong 2 "mishtodran: standard input is a folder" bash -c './mishtodran report <examples'
-wrong 2 "mishtodran: standard input is closed" bash -c './mishtodran report <&-'
-wrong 2 "mishtodran: standard output is closed" bash -c './mishtodran report examples/sample.table >&-'
+for command in report check; do
+    wrong 2 "mishtodran: usage: ./mishtodran $command [FILE]" ./mishtodran "$command" examples/sample.table examples/sample.table
+    wrong 2 "mishtodran: there is no file none" ./mishtodran "$command" none
+    wrong 2 "mishtodran: there is no file " ./mishtodran "$command" ""
+    wrong 2 "mishtodran: examples is a folder" ./mishtodran "$command" examples
+    wrong 2 "mishtodran: standard input is a folder" bash -c "./mishtodran $command <examples"
+    wrong 2 "mishtodran: standard input is closed" bash -c "./mishtodran $command <&-"
+    wrong 2 "mishtodran: standard output is closed" bash -c "./mishtodran $command examples/sample.table >&-"
+done
 wrong 2 "mishtodran: usage: ./mishtodran lib" ./mishtodran lib target
 wrong 2 "mishtodran: usage: ./mishtodran test" ./mishtodran test all
 wrong 2 "mishtodran: usage: ./mishtodran compare N [SEED]" ./mishtodran compare
@@ -84,7 +86,7 @@ wrong 2 "glpk: usage: compare/glpk.sh" compare/glpk.sh target
 wrong 2 "run_c: usage: tests/run_c.sh LIBRARY [INCLUDE]" tests/run_c.sh
 wrong 2 "run_c: there is no library none.a" tests/run_c.sh none.a
 wrong 2 "run_c: there is no mishtodran.h in examples" tests/run_c.sh lib.a examples
-wrong 2 "report_command: usage: tests/report_command.sh" tests/report_command.sh all
+wrong 2 "table_commands: usage: tests/table_commands.sh" tests/table_commands.sh all
 wrong 2 "gate: usage: .ci/run" .ci/run all
 
 # The C programs by themselves, built for this machine.

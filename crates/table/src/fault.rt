@@ -210,14 +210,12 @@ fn distances_fault(s: &[u8], at: usize, n: usize, place: usize) -> Verdict
     ensures { λ r. ⌜ r ≡ distancesFault (word 4 (now (s .entry)) place) (spaced (word 4 (now (s .entry))) 4 n at) at place ⌝ }
 {
     let falls = fall_fault(s, at, n);
+    let last = last_fault(s, at, n);
     match falls {
-        Verdict::Accepted => {
-            let last = last_fault(s, at, n);
-            match last {
-                Verdict::Accepted => gap_fault(s, at, n, place),
-                Verdict::Refused(_, _) => last,
-            }
-        }
+        Verdict::Accepted => match last {
+            Verdict::Accepted => gap_fault(s, at, n, place),
+            Verdict::Refused(_, _) => last,
+        },
         Verdict::Refused(_, _) => falls,
     }
 }

@@ -4,8 +4,8 @@ use native.Mathlib.Omega.{arith}
 use mathlib.Core.Path.{_≡_}
 use lib.ListN.{length}
 use borrow.Author.Needs.{needs}
-use Rattle.report.proofs.take_in.Statement.{statement}
-use Rattle.report.proofs.take_in.Tie as tie
+use Rattle.input.proofs.take_in.Statement.{statement}
+use Rattle.input.proofs.take_in.Tie as tie
 
 abbrev Inv-loop : tie.InvT-loop
 Inv-loop buffer₀ used₀ buffer used = (used ≤ length buffer) × (length buffer ≡ length buffer₀)

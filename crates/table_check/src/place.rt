@@ -1,0 +1,176 @@
+// Where a table broke, in words: the record and the field that stand at an offset. The records are walked from the first byte
+// on, each by its own counts.
+use crate::output::put;
+use crate::output::put_counted;
+use crate::output::put_number;
+use table::Mark;
+use table::Table;
+use table::listed_at;
+use table::mark_of;
+use table::record_length;
+use table::u16_at;
+ghost use mathlib.Core.Path.{_≡_};
+ghost use mathlib.Core.Bool.{true};
+ghost use Prim.Native.Nat.{_+_, _≤_};
+ghost use lib.ListN.{length};
+
+// What begins at an offset, by its mark.
+enum Record {
+    Chain,
+    End,
+    Unknown,
+    Missing,
+}
+
+// The number of a record, from 1, where it begins, and an offset from there.
+struct Place {
+    record: usize,
+    start: usize,
+    offset: usize,
+}
+
+// Whether n bytes are there from `start` on.
+fn is_there(s: &[u8], start: usize, n: usize) -> bool
+    ensures { λ r. ⌜ (r ≡ true → start + n ≤ length (now (s .entry))) ⌝ }
+{
+    start <= s.len() && n <= s.len() - start
+}
+
+fn record_at(s: &[u8], start: usize) -> Record {
+    if !is_there(s, start, 2) {
+        return Record::Missing;
+    }
+    match mark_of(u16_at(s, start)) {
+        Mark::Chain => Record::Chain,
+        Mark::End => Record::End,
+        _ => Record::Unknown,
+    }
+}
+
+// How long the chain record is that begins here; 0 where there is none with all of its fixed part.
+fn chain_length(s: &[u8], start: usize) -> usize {
+    if !is_there(s, start, 16) {
+        return 0;
+    }
+    match record_at(s, start) {
+        Record::Chain => record_length(s, start),
+        _ => 0,
+    }
+}
+
+// How many distances it lists; 0 where its fixed part is not all there.
+fn distances(s: &[u8], start: usize) -> usize {
+    if !is_there(s, start, 16) {
+        return 0;
+    }
+    listed_at(s, start)
+}
+
+// The record in which an offset lies. No table is read past the mark of a 17th chain.
+fn place_of(s: &[u8], at: usize) -> Place {
+    let mut record: usize = 1;
+    let mut start: usize = 0;
+    let mut offset = at;
+    while record <= Table::CHAINS {
+        let length = chain_length(s, start);
+        if length == 0 {
+            break;
+        }
+        if offset < length {
+            break;
+        }
+        record += 1;
+        start += length;
+        offset -= length;
+    }
+    Place {
+        record,
+        start,
+        offset,
+    }
+}
+
+// A field of a chain's fixed part.
+fn put_fixed(offset: usize) -> bool {
+    match offset {
+        0 | 1 => put(b"mark"),
+        2 | 3 => put(b"id"),
+        4 => put(b"kind"),
+        5 => put(b"overload"),
+        6..=9 => put(b"deadline"),
+        10..=13 => put(b"gap"),
+        14 => put(b"list length"),
+        _ => put(b"task count"),
+    }
+}
+
+// A field of a chain's tasks, by the offset from the first of them.
+fn put_task(offset: usize) -> bool {
+    let task = put(b"task ") && put_number(offset / 8 + 1);
+    match offset % 8 {
+        0 | 1 => task && put(b", mark"),
+        2 | 3 => task && put(b", priority"),
+        _ => task && put(b", cost"),
+    }
+}
+
+// A field of a chain record with so many distances.
+fn put_chain(listed: usize, offset: usize) -> bool {
+    if offset < 16 {
+        return put_fixed(offset);
+    }
+    let after = offset - 16;
+    if after / 4 < listed {
+        put(b"distance ") && put_number(after / 4 + 1)
+    } else {
+        put_task(after - 4 * listed)
+    }
+}
+
+fn put_end(offset: usize) -> bool {
+    if offset < 4 {
+        put(b"end record, count")
+    } else {
+        put(b"after the end record")
+    }
+}
+
+fn put_field(s: &[u8], p: Place) -> bool {
+    match record_at(s, p.start) {
+        Record::Chain => {
+            let chain = put(b"chain record ") && put_number(p.record) && put(b", ");
+            chain && put_chain(distances(s, p.start), p.offset)
+        }
+        Record::End => put_end(p.offset),
+        _ => put(b"record ") && put_number(p.record) && put(b", mark"),
+    }
+}
+
+// Where the bytes run out.
+fn put_missing(s: &[u8], p: Place) -> bool {
+    match record_at(s, p.start) {
+        Record::Chain => put(b"in chain record ") && put_number(p.record),
+        Record::End => put(b"in the end record"),
+        _ => put(b"record ") && put_number(p.record) && put(b" has no mark"),
+    }
+}
+
+fn put_length(n: usize) -> bool {
+    if n == 0 {
+        put(b"the table has 0 bytes")
+    } else {
+        put(b"the table has more than 1,284 bytes")
+    }
+}
+
+// The place that a refusal of this number has at this offset.
+pub fn put_place(s: &[u8], number: u32, at: usize) -> bool {
+    match number {
+        1 => put_length(s.len()),
+        2 => {
+            let after = put(b"after ") && put_counted(at, b" byte") && put(b", ");
+            after && put_missing(s, place_of(s, at))
+        }
+        _ => put_field(s, place_of(s, at)),
+    }
+}

@@ -1,0 +1,205 @@
+#!/usr/bin/env bash
+# Tries the commands `./mishtodran report` and `./mishtodran check`: what they print, and what they do where reading or writing
+# fails.
+# Usage: tests/table_commands.sh
+set -u
+name=table_commands
+# shellcheck source=scripts/shell.sh
+. "$(dirname "$(readlink -f "${BASH_SOURCE[0]}")")/../scripts/shell.sh" || exit 2
+[ $# = 0 ] || fail "usage: tests/table_commands.sh"
+cd "$top" || fail "$top cannot be entered"
+room=$(mktemp -d) || fail "no temporary folder can be made"
+trap 'rm -rf "$room"' EXIT
+
+# prints COMMAND WHAT TEXT: the command on standard input prints the text, ends with 1 where a table is refused and else with
+# 0, and says nothing else.
+prints() {
+    local expected=0 status
+    [[ $3 != refused* ]] || expected=1
+    ./mishtodran "$1" >"$room/out" 2>"$room/err"
+    status=$?
+    [ "$status" = "$expected" ] || found "$1, $2: exit status $status, not $expected"
+    printf '%s\n' "$3" | cmp -s - "$room/out" || found "$1, $2: another text: $(cat "$room/out")"
+    [ ! -s "$room/err" ] || found "$1, $2: it says something on standard error"
+}
+
+# fails WHAT SAID WORDS..: the command cannot read or write: it prints nothing, says why, and ends with 2.
+fails() {
+    local what=$1 said=$2 status
+    shift 2
+    "$@" >"$room/out" 2>"$room/err"
+    status=$?
+    [ "$status" = 2 ] || found "$what: exit status $status, not 2"
+    [ ! -s "$room/out" ] || found "$what: it printed something"
+    [ "$(cat "$room/err")" = "$said" ] || found "$what: it says '$(cat "$room/err")'"
+}
+
+# bytes NUMBER..: a byte for each number.
+bytes() {
+    printf '%b' "$(printf '\\x%02x' "$@")"
+}
+
+# A table of 1,284 bytes: 16 chains of 8 distances and 4 tasks of cost 1, each below the ones before it.
+full_table() {
+    local i n
+    for i in {1..16}; do
+        bytes 67 72 "$i" 0 0 0 232 3 0 0 232 3 0 0 8 4
+        for n in {1..8}; do bytes $((n * 1000 % 256)) $((n * 1000 / 256)) 0 0; done
+        for n in {1..4}; do bytes 84 75 $((17 - i)) 0 1 0 0 0; done
+    done
+    bytes 69 78 16 0
+}
+
+# in_pieces FILE LENGTH..: the file in pieces of these lengths and the rest, with a pause before each.
+in_pieces() {
+    local file=$1 at=1 length
+    shift
+    sleep 0.3
+    for length in "$@"; do
+        tail -c "+$at" "$file" | head -c "$length"
+        at=$((at + length))
+        sleep 0.1
+    done
+    tail -c "+$at" "$file"
+}
+
+# ---- The report ----
+
+header='chain K latency late margin miss10'
+sample="$header
+1 1 64 1 -24 3
+2 1 5 0 95 0
+3 1 62 0 438 r14
+4 1 39 0 261 r14"
+study="$header
+4 1 175 0 25 0
+3 2 331 1 -131 5
+2 1 111 0 889 r14
+1 1 137 0 863 r14"
+
+./mishtodran report examples/sample.table >"$room/out" || found "the sample: it failed"
+printf '%s\n' "$sample" | cmp -s - "$room/out" || found "the sample: another text"
+prints report "the sample on standard input" "$sample" <examples/sample.table
+prints report "the case study" "$study" <examples/case_study.table
+prints report "no bytes" "refused 1 0" </dev/null
+prints report "a cut table" "refused 2 139" < <(head -c 139 examples/sample.table)
+prints report "a distance that falls" "refused 29 24" <crates/table_check/stdin
+prints report "a table in two parts" "$sample" < <(head -c 70 examples/sample.table && sleep 1 && tail -c +71 examples/sample.table)
+prints report "too many bytes" "refused 1 0" < <(head -c 1285 /dev/zero)
+prints report "far too many bytes" "refused 1 0" < <(head -c 100000 /dev/zero)
+
+# The longest table, and one byte more, as a pipe may bring them.
+full=$header$(for i in {1..16}; do printf '\n%d 1 %d 0 %d 0' "$i" $((4 * i)) $((1000 - 4 * i)); done)
+full_table >"$room/full"
+{ full_table && printf E; } >"$room/longer"
+[ "$(wc -c <"$room/full")" -eq 1284 ] || found "the full table has not 1,284 bytes"
+prints report "a full table" "$full" <"$room/full"
+prints report "a byte more" "refused 1 0" <"$room/longer"
+for pieces in "1283" "1284" "1 1282" "7 7 1269" "1 1 1 1 1 7 1271"; do
+    # shellcheck disable=SC2086
+    prints report "a full table in pieces of $pieces and the rest" "$full" < <(in_pieces "$room/full" $pieces)
+done
+for pieces in "1283" "1284" "1283 1" "1 1283" "7 1277" "1 7 1275 1"; do
+    # shellcheck disable=SC2086
+    prints report "a byte more in pieces of $pieces and the rest" "refused 1 0" < <(in_pieces "$room/longer" $pieces)
+done
+
+# ---- The check ----
+
+# A table of 17 chains, the 17th with id 0.
+seventeen() {
+    local i
+    for i in {1..16} 0; do
+        bytes 67 72 "$i" 0 0 0 40 0 0 0 0 0 0 0 1 1 100 0 0 0 84 75 5 0 10 0 0 0
+    done
+    bytes 69 78 17 0
+}
+
+# changed OFFSET BYTE..: the sample with these bytes from the offset on.
+changed() {
+    local at=$1
+    shift
+    head -c "$at" examples/sample.table
+    bytes "$@"
+    tail -c "+$((at + $# + 1))" examples/sample.table
+}
+
+# broke WHERE OFFSET BYTE..: the sample changed so is refused with this line, after the word `refused`.
+broke() {
+    local where=$1
+    shift
+    prints check "bytes $* of the sample" "refused $where" < <(changed "$@")
+}
+
+# cut WHERE LENGTH: so much of the sample is refused with this line.
+cut() {
+    prints check "$2 bytes of the sample" "refused 2 at byte $2: bytes run out inside a record or before the end record ($1)" \
+        < <(head -c "$2" examples/sample.table)
+}
+
+length="refused 1 at byte 0: the table's length is 0, above 1,284 or above its buffer"
+ended='a 17th chain, no chain, a wrong end count, or bytes after the end'
+
+./mishtodran check examples/sample.table >"$room/out" || found "check, the sample: it failed"
+[ "$(cat "$room/out")" = "accepted, 4 chains" ] || found "check, the sample: another text"
+prints check "the sample on standard input" "accepted, 4 chains" <examples/sample.table
+prints check "one chain" "accepted, 1 chain" < <(head -c 36 examples/sample.table && bytes 69 78 1 0)
+prints check "a full table" "accepted, 16 chains" <"$room/full"
+prints check "a damaged table" "$(cat crates/table_check/stdout)" <crates/table_check/stdin
+prints check "no bytes" "$length (the table has 0 bytes)" </dev/null
+prints check "a byte more" "$length (the table has more than 1,284 bytes)" <"$room/longer"
+cut "after 1 byte, record 1 has no mark" 1
+cut "after 2 bytes, in chain record 1" 2
+cut "after 18 bytes, in chain record 1" 18
+cut "after 36 bytes, record 2 has no mark" 36
+cut "after 51 bytes, in chain record 2" 51
+cut "after 105 bytes, in chain record 3" 105
+cut "after 137 bytes, record 5 has no mark" 137
+cut "after 138 bytes, in the end record" 138
+broke "3 at byte 0: a mark is not one allowed there (record 1, mark)" 0 84 75
+broke "3 at byte 36: a mark is not one allowed there (record 2, mark)" 36 88 88
+broke "3 at byte 92: a mark is not one allowed there (chain record 3, task 2, mark)" 92 88
+broke "4 at byte 66: an id is 0 or used earlier (chain record 3, id)" 66 0
+broke "4 at byte 110: an id is 0 or used earlier (chain record 4, id)" 110 2
+broke "5 at byte 40: a kind or overload byte is above 1 (chain record 2, kind)" 40 2 2
+broke "5 at byte 41: a kind or overload byte is above 1 (chain record 2, overload)" 41 2
+broke "6 at byte 42: a deadline is not 1 to 10,000,000 (chain record 2, deadline)" 42 0
+broke "7 at byte 46: a gap is above 10,000,000 (chain record 2, gap)" 46 255 255 255 255
+broke "28 at byte 50: a list length is not 1 to 8 (chain record 2, list length)" 50 9 0
+broke "9 at byte 51: a task count is not 1 to 16, or there are over 64 tasks so far (chain record 2, task count)" 51 0
+broke "29 at byte 52: a distance falls or exceeds 10,000,000 (chain record 2, distance 1)" 52 255 255 255 255
+broke "30 at byte 16: the last distance is 0 (chain record 1, distance 1)" 16 0
+broke "31 at byte 46: a gap other than 0 is too small for the distances (chain record 2, gap)" 46 49
+broke "10 at byte 94: a priority is 0, or a cost is not 1 to 1,000,000 (chain record 3, task 2, priority)" 94 0 0 0
+broke "10 at byte 24: a priority is 0, or a cost is not 1 to 1,000,000 (chain record 1, task 1, cost)" 24 0
+broke "11 at byte 138: $ended (end record, count)" 138 5
+broke "11 at byte 140: $ended (after the end record)" 140 69
+prints check "no chain" "refused 11 at byte 2: $ended (end record, count)" < <(bytes 69 78 0 0)
+prints check "a 17th chain" "refused 11 at byte 448: $ended (chain record 17, mark)" < <(seventeen)
+
+# ---- Reading and writing fail ----
+
+closed_input() {
+    ./mishtodran "$1" <&-
+}
+
+# An input that can only be written to: what the program itself says is passed on.
+failing_input() {
+    ./mishtodran "$1" 0>"$room/written"
+}
+
+full_disk() {
+    ./mishtodran "$1" examples/sample.table >/dev/full
+}
+
+for command in report check; do
+    answer=report
+    [ "$command" = report ] || answer=verdict
+    fails "$command, a folder" "mishtodran: $room is a folder" ./mishtodran "$command" "$room"
+    fails "$command, no such file" "mishtodran: there is no file $room/none" ./mishtodran "$command" "$room/none"
+    fails "$command, no standard input" "mishtodran: standard input is closed" closed_input "$command"
+    fails "$command, a failing read" "$command: standard input could not be read
+mishtodran: there is no $answer" failing_input "$command"
+    fails "$command, a full disk" "mishtodran: standard output cannot be written" full_disk "$command"
+done
+print "table_commands: as it should be"
