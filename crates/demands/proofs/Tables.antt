@@ -13,7 +13,7 @@ use Rattle.table.specs.Limits.{maxDistances, maxTasks}
 use Rattle.table.specs.Bytes.{word, Bytes}
 use Rattle.table.specs.Record.{spaced, pad, rowAt, blank}
 use Rattle.table.specs.Find.{findOf}
-use Rattle.table.specs.Fault.{_then_, markOf, identityFault, timesFault, countsFault, headFault, fallFault, lastFault, gapShort, gapFault, distancesFault, listFault, taskMarkFault, taskRestFault, taskFault, tasksFault, chainFault, endFault}
+use Rattle.table.specs.Fault.{_then_, markOf, identityFault, timesFault, countsFault, headFault, fallFault, lastFault, gapShort, gapFault, distancesFault, listFault, taskMarkFault, valuesFault, taskRestFault, taskFault, tasksFault, chainFault, endFault}
 use Rattle.table.specs.Read.{accepted, unless, start, records, readTable}
 use Rattle.table.specs.declared.Row.{Row}
 use Rattle.table.specs.declared.Table.{Table}
@@ -99,17 +99,17 @@ alteration = record {
 }
 
 pub sample-reads : Reads sample sampled
-unfolding small sample sampled readTable records start unless chainFault headFault identityFault timesFault countsFault listFault distancesFault fallFault lastFault gapFault gapShort tasksFault taskFault taskMarkFault taskRestFault endFault _then_ markOf word spaced rowAt findOf first _when_else_
+unfolding small sample sampled readTable records start unless chainFault headFault identityFault timesFault countsFault listFault distancesFault fallFault lastFault gapFault gapShort tasksFault taskFault taskMarkFault taskRestFault valuesFault endFault _then_ markOf word spaced rowAt findOf first _when_else_
 sample-reads = record { are = refl; reads = refl }
 
 pub edge-reads : Reads edge edgeTable
-unfolding small edge edgeTable readTable records start unless chainFault headFault identityFault timesFault countsFault listFault distancesFault fallFault lastFault gapFault gapShort tasksFault taskFault taskMarkFault taskRestFault endFault _then_ markOf word spaced rowAt findOf first _when_else_
+unfolding small edge edgeTable readTable records start unless chainFault headFault identityFault timesFault countsFault listFault distancesFault fallFault lastFault gapFault gapShort tasksFault taskFault taskMarkFault taskRestFault valuesFault endFault _then_ markOf word spaced rowAt findOf first _when_else_
 edge-reads = record { are = refl; reads = refl }
 
 pub past-reads : Reads past pastTable
-unfolding small past pastTable readTable records start unless chainFault headFault identityFault timesFault countsFault listFault distancesFault fallFault lastFault gapFault gapShort tasksFault taskFault taskMarkFault taskRestFault endFault _then_ markOf word spaced rowAt findOf first _when_else_
+unfolding small past pastTable readTable records start unless chainFault headFault identityFault timesFault countsFault listFault distancesFault fallFault lastFault gapFault gapShort tasksFault taskFault taskMarkFault taskRestFault valuesFault endFault _then_ markOf word spaced rowAt findOf first _when_else_
 past-reads = record { are = refl; reads = refl }
 
 pub altered-reads : Reads altered alteration
-unfolding small altered alteration readTable records start unless chainFault headFault identityFault timesFault countsFault listFault distancesFault fallFault lastFault gapFault gapShort tasksFault taskFault taskMarkFault taskRestFault endFault _then_ markOf word spaced rowAt findOf first _when_else_
+unfolding small altered alteration readTable records start unless chainFault headFault identityFault timesFault countsFault listFault distancesFault fallFault lastFault gapFault gapShort tasksFault taskFault taskMarkFault taskRestFault valuesFault endFault _then_ markOf word spaced rowAt findOf first _when_else_
 altered-reads = record { are = refl; reads = refl }

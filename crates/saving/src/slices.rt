@@ -1,5 +1,5 @@
 // Byte slices: compared, copied and cleared.
-use table::u32_at;
+use table::u64_at;
 ghost use mathlib.Core.Path.{_≡_};
 ghost use mathlib.Core.Bool.{true};
 ghost use Prim.Native.Nat.{ℕ, _+_, _≤_, _<_};
@@ -12,7 +12,7 @@ fn same_eight(a: &[u8], b: &[u8], i: usize) -> bool
     requires { ⌜ (i + 8 ≤ length (now a)) × (i + 8 ≤ length (now b)) ⌝ }
     ensures { λ r. ⌜ (r ≡ true → (j : ℕ) → j < 8 → getD (now (a .entry)) (i + j) 0 ≡ getD (now (b .entry)) (i + j) 0) ⌝ }
 {
-    u32_at(a, i) == u32_at(b, i) && u32_at(a, i + 4) == u32_at(b, i + 4)
+    u64_at(a, i) == u64_at(b, i)
 }
 
 // How far the two agree for certain, eight bytes at a time.

@@ -11,7 +11,7 @@ use Rattle.table.specs.Limits.{maxDeadline, maxGap, maxDistances, maxTas
 use Rattle.table.specs.Bytes.{word}
 use Rattle.table.specs.Record.{idAt, kindAt, overloadAt, deadlineAt, gapPlace, gapAt, listedAt, tasksAt, listPlace, firstTask, lengthAt, priorityAt, costAt, distancesAt}
 use Rattle.table.specs.Find.{used}
-use Rattle.table.specs.Fault.{outside, markOf, noTask, identityFault, timesFault, countsFault, headFault, fallFault, lastFault, gapFault, distancesFault, listFault, taskMarkFault, taskRestFault, taskFault, tasksFault, chainFault}
+use Rattle.table.specs.Fault.{outside, markOf, noTask, identityFault, timesFault, countsFault, headFault, fallFault, lastFault, gapFault, distancesFault, listFault, taskMarkFault, valuesFault, taskRestFault, taskFault, tasksFault, chainFault}
 use Rattle.table.specs.declared.Table.{Table}
 use Rattle.table.specs.declared.Mark.{Mark}
 use Rattle.table.specs.declared.Mark.the-variants.{Chain, Task, End, Unknown}
@@ -94,7 +94,7 @@ pub record TaskRight (s : List ℕ) (at : ℕ) : Type 0 where
   pub cost : (1 ≤ costAt s at) × (costAt s at ≤ maxCost)
 
 pub task-right : (s : List ℕ) (at : ℕ) → taskFault s at ≡ Accepted → TaskRight s at
-unfolding taskFault taskMarkFault taskRestFault
+unfolding taskFault taskMarkFault taskRestFault valuesFault
 task-right s at e =
     let mark = when-none _ _ _ _ (then-none _ _ e .0) in
     let there = when-none _ _ _ _ (then-none _ _ e .1) in

@@ -17,7 +17,7 @@ use Rattle.table.specs.Limits.{maxChains, maxBytes, maxTasks, maxAllTask
 use Rattle.table.specs.Bytes.{word}
 use Rattle.table.specs.Record.{blank, idAt, gapPlace, gapAt, listedAt, tasksAt, listPlace, distancesAt, firstTask, lengthAt, rowAt}
 use Rattle.table.specs.Find.{rowOf, findOf, used}
-use Rattle.table.specs.Fault.{_then_, outside, markOf, noTask, identityFault, timesFault, countsFault, headFault, fallFault, lastFault, gapShort, gapFault, distancesFault, listFault, taskMarkFault, taskRestFault, taskFault, tasksFault, chainFault, endFault}
+use Rattle.table.specs.Fault.{_then_, outside, markOf, noTask, identityFault, timesFault, countsFault, headFault, fallFault, lastFault, gapShort, gapFault, distancesFault, listFault, taskMarkFault, valuesFault, taskRestFault, taskFault, tasksFault, chainFault, endFault}
 use Rattle.table.specs.Read.{empty, plus, refusal, accepted, unless, byMark, start, records, readTable}
 use Rattle.table.specs.Field.{startOf, tasksOf, Chains, NoRecord, EndRecord, ChainRecord, ListThere, taskPlace, TaskThere, beforeOf, FirstFall, Blames, TableRefusal, Placed}
 use Rattle.table.specs.declared.Row.{Row}
@@ -174,7 +174,7 @@ module _ (s : List ℕ) (n : ℕ) (t : Table) (w : Walked s n t) (mark : markOf 
     mark-points i there Unknown e = Blames.inTaskMark n i there (λ f. let g = sym e ∙ f in let z : _≡_ {A = ℕ} 0 1 = cc in omega arith)
 
     task-points : (i : ℕ) → i < tasksAt s at → Points s (taskFault s (taskPlace s n i))
-    unfolding taskFault taskMarkFault taskRestFault
+    unfolding taskFault taskMarkFault taskRestFault valuesFault
     task-points i h =
         then-points s _ _
         (when-cases (Points s) (ltb (length s) (taskPlace s n i + 2)) (λ e. Blames.inMissing)

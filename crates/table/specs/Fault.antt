@@ -99,13 +99,16 @@ listFault s at =
 unfoldable pub taskMarkFault : List ℕ → ℕ → Verdict
 taskMarkFault s at = Refused 2 (length s) when ltb (length s) (at + 2) else noTask (markOf (word 2 s at)) at
 
--- its rest there, its values
-unfoldable pub taskRestFault : List ℕ → ℕ → Verdict
-taskRestFault s at =
-    Refused 2 (length s) when ltb (length s) (at + 8) else
+-- its values
+unfoldable pub valuesFault : List ℕ → ℕ → Verdict
+valuesFault s at =
     Refused 10 (priorityPlace at) when eqb (priorityAt s at) 0 else
     Refused 10 (costPlace at) when outside 1 maxCost (costAt s at) else
     Accepted
+
+-- its rest: there, then its values
+unfoldable pub taskRestFault : List ℕ → ℕ → Verdict
+taskRestFault s at = Refused 2 (length s) when ltb (length s) (at + 8) else valuesFault s at
 
 -- a task
 unfoldable pub taskFault : List ℕ → ℕ → Verdict

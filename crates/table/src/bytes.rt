@@ -1,6 +1,7 @@
 // Little-endian numbers in a slice.
 use crate::wide::u16_from_u8;
 use crate::wide::u32_from_u16;
+use crate::wide::u64_from_u32;
 ghost use mathlib.Core.Path.{_≡_};
 ghost use Prim.Native.Nat.{_+_, _≤_, _<_};
 ghost use lib.ListN.{length, getD, take, drop};
@@ -19,6 +20,13 @@ pub fn u32_at(s: &[u8], at: usize) -> u32
     ensures { λ r. ⌜ r ≡ word 4 (now (s .entry)) at ⌝ }
 {
     u32_from_u16(u16_at(s, at)) + u32_from_u16(u16_at(s, at + 2)) * 65536
+}
+
+pub fn u64_at(s: &[u8], at: usize) -> u64
+    requires { ⌜ at + 8 ≤ length (now s) ⌝ }
+    ensures { λ r. ⌜ r ≡ word 8 (now (s .entry)) at ⌝ }
+{
+    u64_from_u32(u32_at(s, at)) + u64_from_u32(u32_at(s, at + 4)) * 4_294_967_296
 }
 
 // A byte as a count.

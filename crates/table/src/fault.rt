@@ -23,7 +23,7 @@ ghost use Rattle.table.specs.Limits.{maxChains, maxTasks, maxAllTasks, m
 ghost use Rattle.table.specs.Bytes.{word};
 ghost use Rattle.table.specs.Record.{listedAt, spaced};
 ghost use Rattle.table.specs.Find.{used};
-ghost use Rattle.table.specs.Fault.{outside as outsideOf, markOf, identityFault, timesFault, countsFault, headFault, fallFault, lastFault, gapShort, gapFault, distancesFault, listFault, taskMarkFault, taskRestFault, taskFault, tasksFault, chainFault, endFault};
+ghost use Rattle.table.specs.Fault.{outside as outsideOf, markOf, identityFault, timesFault, countsFault, headFault, fallFault, lastFault, gapShort, gapFault, distancesFault, listFault, taskMarkFault, valuesFault, taskFault, tasksFault, chainFault, endFault};
 ghost use Rattle.table.specs.code.Before.{Keeps};
 ghost use Rattle.table.specs.declared.Table.{Table};
 
@@ -249,14 +249,11 @@ fn task_mark_fault(s: &[u8], at: usize) -> Verdict
     }
 }
 
-// 2 or 10: the rest of it.
-fn task_rest_fault(s: &[u8], at: usize) -> Verdict
-    requires { ⌜ at ≤ length (now s) ⌝ }
-    ensures { λ r. ⌜ r ≡ taskRestFault (now (s .entry)) at ⌝ }
+// 10: its priority and its cost.
+fn values_fault(s: &[u8], at: usize) -> Verdict
+    requires { ⌜ at + 8 ≤ length (now s) ⌝ }
+    ensures { λ r. ⌜ r ≡ valuesFault (now (s .entry)) at ⌝ }
 {
-    if s.len() < at + 8 {
-        return Verdict::Refused(2, s.len());
-    }
     if u16_at(s, at + 2) == 0 {
         return Verdict::Refused(10, at + 2);
     }
@@ -266,15 +263,40 @@ fn task_rest_fault(s: &[u8], at: usize) -> Verdict
     Verdict::Accepted
 }
 
-// 2, 3 or 10: the task record at `at`.
-fn task_fault(s: &[u8], at: usize) -> Verdict
-    requires { ⌜ at ≤ length (now s) ⌝ }
+// 3 or 10: the task record at `at`, all of which is there.
+fn whole_task_fault(s: &[u8], at: usize) -> Verdict
+    requires { ⌜ at + 8 ≤ length (now s) ⌝ }
+    ensures { λ r. ⌜ r ≡ taskFault (now (s .entry)) at ⌝ }
+{
+    match mark_of(u16_at(s, at)) {
+        Mark::Task => values_fault(s, at),
+        Mark::Chain => Verdict::Refused(3, at),
+        Mark::End => Verdict::Refused(3, at),
+        Mark::Unknown => Verdict::Refused(3, at),
+    }
+}
+
+// 2 or 3: the same where its bytes run out.
+fn cut_task_fault(s: &[u8], at: usize) -> Verdict
+    requires { ⌜ (at ≤ length (now s)) × (length (now s) < at + 8) ⌝ }
     ensures { λ r. ⌜ r ≡ taskFault (now (s .entry)) at ⌝ }
 {
     let mark = task_mark_fault(s, at);
     match mark {
-        Verdict::Accepted => task_rest_fault(s, at),
+        Verdict::Accepted => Verdict::Refused(2, s.len()),
         Verdict::Refused(_, _) => mark,
+    }
+}
+
+// 2, 3 or 10: the task record at `at`. That all of it is there is asked once, since it mostly is.
+fn task_fault(s: &[u8], at: usize) -> Verdict
+    requires { ⌜ at ≤ length (now s) ⌝ }
+    ensures { λ r. ⌜ r ≡ taskFault (now (s .entry)) at ⌝ }
+{
+    if at + 8 <= s.len() {
+        whole_task_fault(s, at)
+    } else {
+        cut_task_fault(s, at)
     }
 }
 

@@ -17,6 +17,7 @@ mod wide;
 pub use bytes::put_u32;
 pub use bytes::u16_at;
 pub use bytes::u32_at;
+pub use bytes::u64_at;
 pub use decode::read;
 pub use fault::mark_of;
 pub use places::count;
