@@ -15,11 +15,11 @@ use Rattle.search.proofs.Choice.{when-cases, true-not-false, lt-or-le}
 use Rattle.search.proofs.Find.{first-hit}
 use Rattle.table.specs.Limits.{maxChains, maxBytes, maxTasks, maxAllTasks, maxDistance}
 use Rattle.table.specs.Bytes.{word}
-use Rattle.table.specs.Record.{blank, idAt, gapPlace, gapAt, listedAt, tasksAt, listPlace, distancesAt, firstTask, lengthAt, rowAt}
+use Rattle.table.specs.Record.{blank, idAt, gapPlace, gapAt, listedAt, tasksAt, listPlace, distancesAt, firstTask, rowAt}
 use Rattle.table.specs.Find.{rowOf, findOf, used}
 use Rattle.table.specs.Fault.{_then_, outside, markOf, noTask, identityFault, timesFault, countsFault, headFault, fallFault, lastFault, gapShort, gapFault, distancesFault, listFault, taskMarkFault, valuesFault, taskRestFault, taskFault, tasksFault, chainFault, endFault}
 use Rattle.table.specs.Read.{empty, plus, refusal, accepted, unless, byMark, start, records, readTable}
-use Rattle.table.specs.Field.{startOf, tasksOf, Chains, NoRecord, EndRecord, ChainRecord, ListThere, taskPlace, TaskThere, beforeOf, FirstFall, Blames, TableRefusal, Placed}
+use Rattle.table.specs.Field.{startOf, tasksOf, Chains, EndRecord, ChainRecord, ListThere, taskPlace, TaskThere, beforeOf, FirstFall, Blames, TableRefusal, Placed}
 use Rattle.table.specs.declared.Row.{Row}
 use Rattle.table.specs.declared.Table.{Table}
 use Rattle.table.specs.declared.Reading.{Reading}
@@ -30,7 +30,7 @@ use Rattle.table.specs.declared.Verdict.the-variants.{Accepted, Refused}
 use Rattle.table.proofs.Lists.{length-spaced}
 use Rattle.table.proofs.Firsts.{or-right, or-cases}
 use Rattle.table.proofs.Steps.{read-long}
-use Rattle.table.proofs.Faultless.{HeadRight, head-right, ListRight, list-right, task-right, not-zero}
+use Rattle.table.proofs.Faultless.{head-right, list-right, not-zero}
 
 -- a verdict that refuses points at such a field
 abbrev Points : List ℕ → Verdict → Type 0

@@ -25,31 +25,34 @@ tasksOf s (suc n) = tasksOf s n + tasksAt s (startOf s n)
 abbrev pub Chains : List ℕ → ℕ → Type 0
 Chains s n = (m : ℕ) → m < n → markOf (word 2 s (startOf s m)) ≡ Chain
 
--- the record after the first n chain records, whose two bytes are there, bears no mark that is known there, or the end's
+-- after the first n chain records two bytes are there that are neither a chain's mark nor the end's
 pub record NoRecord (s : List ℕ) (n : ℕ) : Type 0 where
   pub before : Chains s n
   pub there : startOf s n + 2 ≤ length s
   pub unknown : (markOf (word 2 s (startOf s n)) ≡ Chain → ⊥) × (markOf (word 2 s (startOf s n)) ≡ End → ⊥)
 
+-- the end record is there, whole
 pub record EndRecord (s : List ℕ) (n : ℕ) : Type 0 where
   pub before : Chains s n
   pub there : afterEnd (startOf s n) ≤ length s
   pub mark : markOf (word 2 s (startOf s n)) ≡ End
 
--- it is a chain record, whose fixed part is there; its list is there too
+-- a chain record is there, with all of its fixed part
 pub record ChainRecord (s : List ℕ) (n : ℕ) : Type 0 where
   pub chains : Chains s (suc n)
   pub there : startOf s n + 16 ≤ length s
 
+-- and with all of its list
 pub record ListThere (s : List ℕ) (n : ℕ) : Type 0 where
   pub chain : ChainRecord s n
   pub some : 1 ≤ listedAt s (startOf s n)
   pub there : firstTask s (startOf s n) ≤ length s
 
--- where its task i, from 0, stands; the task has so many bytes there
+-- where task i, from 0, of that chain record stands
 abbrev pub taskPlace : List ℕ → ℕ → ℕ → ℕ
 taskPlace s n i = firstTask s (startOf s n) + 8 * i
 
+-- and so many of its bytes are there
 pub record TaskThere (s : List ℕ) (n i bytes : ℕ) : Type 0 where
   pub list : ListThere s n
   pub one : i < tasksAt s (startOf s n)

@@ -51,7 +51,10 @@ enum-told-4 c = search needs
 
 returns : tie.Need-returns
 unfolding chainFault _then_
-returns c t before = rw (← c .before .before .before .before .before .before .before .before .head-fault .ensures t before, c .before .before .before .before .before .before .enum-told .given .1, ← c .before .before .before .before .before .list-fault .ensures, c .before .before .before .enum-told2 .given .1, ← c .before .before .listed-at .ensures .0, ← c .before .tasks-at .ensures .0, ← c .tasks-fault .ensures)
+returns c t before =
+    let list = c .before .before .before in
+    let head = list .before .before .before in
+    rw (← head .before .before .head-fault .ensures t before, head .enum-told .given .1, ← list .before .before .list-fault .ensures, list .enum-told2 .given .1, ← c .before .before .listed-at .ensures .0, ← c .before .tasks-at .ensures .0, ← c .tasks-fault .ensures)
 
 returns-2 : tie.Need-returns-2
 unfolding chainFault _then_

@@ -1,14 +1,24 @@
 -- No byte is missing, so the mark decides, and then the values.
 use Prim.Native.Nat.{_+_}
 use native.Mathlib.Omega.{arith}
+use mathlib.Core.Path.{_≡_}
+use mathlib.Core.Bool.{false}
 use denote.Ref.{now}
 use lib.ListN.{length}
+use lib.Dec.{ltb}
 use borrow.Author.Tests.{le-ltb}
 use Rattle.search.specs.Choice.{_when_else_}
 use Rattle.table.specs.Fault.{_then_, taskMarkFault, taskRestFault, taskFault}
 use borrow.Author.Needs.{needs}
 use Rattle.table.proofs.fault.whole_task_fault.Statement.{statement}
 use Rattle.table.proofs.fault.whole_task_fault.Tie as tie
+
+-- the mark is there, and the rest
+marked : (s : tie.Start) → ltb (length (now (s .args .s))) (s .args .at + 2) ≡ false
+marked s = le-ltb (length (now (s .args .s))) (s .args .at + 2) (omega (arith, s .pre))
+
+whole : (s : tie.Start) → ltb (length (now (s .args .s))) (s .args .at + 8) ≡ false
+whole s = le-ltb _ _ (s .pre)
 
 u16-at-requires : tie.Need-u16-at-requires
 u16-at-requires c κs = search needs
@@ -33,19 +43,21 @@ enum-told-4 c = search needs
 
 returns : tie.Need-returns
 unfolding taskFault taskMarkFault taskRestFault _then_ _when_else_
-returns c = rw (le-ltb (length (now (c .before .before .before .before .before .before .args .s))) (c .before .before .before .before .before .before .args .at + 2) (omega (arith, c .before .before .before .before .before .before .pre)), ← c .before .before .before .before .u16-at .ensures, ← c .before .before .before .mark-of .ensures, c .before .enum-told .given .1, le-ltb (length (now (c .before .before .before .before .before .before .args .s))) (c .before .before .before .before .before .before .args .at + 8) (c .before .before .before .before .before .before .pre), ← c .values-fault .ensures)
+returns c =
+    let s = c .before .before .before .before .before .before in
+    rw (marked s, ← c .before .before .before .before .u16-at .ensures, ← c .before .before .before .mark-of .ensures, c .before .enum-told .given .1, whole s, ← c .values-fault .ensures)
 
 returns-2 : tie.Need-returns-2
 unfolding taskFault taskMarkFault taskRestFault _then_ _when_else_
-returns-2 c = rw (le-ltb (length (now (c .before .before .before .before .before .args .s))) (c .before .before .before .before .before .args .at + 2) (omega (arith, c .before .before .before .before .before .pre)), ← c .before .before .before .u16-at .ensures, ← c .before .before .mark-of .ensures, c .enum-told2 .given .1)
+returns-2 c = rw (marked (c .before .before .before .before .before), ← c .before .before .before .u16-at .ensures, ← c .before .before .mark-of .ensures, c .enum-told2 .given .1)
 
 returns-3 : tie.Need-returns-3
 unfolding taskFault taskMarkFault taskRestFault _then_ _when_else_
-returns-3 c = rw (le-ltb (length (now (c .before .before .before .before .before .args .s))) (c .before .before .before .before .before .args .at + 2) (omega (arith, c .before .before .before .before .before .pre)), ← c .before .before .before .u16-at .ensures, ← c .before .before .mark-of .ensures, c .enum-told3 .given .1)
+returns-3 c = rw (marked (c .before .before .before .before .before), ← c .before .before .before .u16-at .ensures, ← c .before .before .mark-of .ensures, c .enum-told3 .given .1)
 
 returns-4 : tie.Need-returns-4
 unfolding taskFault taskMarkFault taskRestFault _then_ _when_else_
-returns-4 c = rw (le-ltb (length (now (c .before .before .before .before .before .args .s))) (c .before .before .before .before .before .args .at + 2) (omega (arith, c .before .before .before .before .before .pre)), ← c .before .before .before .u16-at .ensures, ← c .before .before .mark-of .ensures, c .enum-told4 .given .1)
+returns-4 c = rw (marked (c .before .before .before .before .before), ← c .before .before .before .u16-at .ensures, ← c .before .before .mark-of .ensures, c .enum-told4 .given .1)
 
 pub whole-task-fault-spec : {M : Type 1} → statement M
 whole-task-fault-spec =

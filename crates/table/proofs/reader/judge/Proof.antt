@@ -184,10 +184,12 @@ enum-told-3 : tie.Need-enum-told-3 Inv-loop μ-loop
 enum-told-3 c = search needs
 
 returns-3 : tie.Need-returns-3 Inv-loop μ-loop
-returns-3 c = let f = c .before .before .chain-fault in
-    let l = c .before .before .before .before .before .before .before .before .before .before .before in
+returns-3 c = let m = c .before .before .before .before .before .before .before .before in
+    let l = m .before .before .before in
     let told = c .enum-told3 .given .1 in
-    told ∙ sym (verdict (chain (c .before .before .before .before .before .before .before .before) (c .before .before .before .before .before .before .enum-told .given .1) (room (c .before .before .before .before)) ∙ unless-fault refusal (chainFault (bytes l) (l .loop .at) (sofar l)) (rest (c .before .before .before .before .before .before .before .before)) (sym (f .ensures (sofar l) (l .loop .inv .1 .known)) ∙ told)))
+    let fault = sym (c .before .before .chain-fault .ensures (sofar l) (l .loop .inv .1 .known)) ∙ told in
+    let read = chain m (c .before .before .before .before .before .before .enum-told .given .1) (room (c .before .before .before .before)) in
+    told ∙ sym (verdict (read ∙ unless-fault refusal (chainFault (bytes l) (l .loop .at) (sofar l)) (rest m) fault))
 
 enum-told-4 : tie.Need-enum-told-4 Inv-loop μ-loop
 enum-told-4 c = search needs
