@@ -590,6 +590,18 @@ static void print_counts(const char *what, const uint64_t counts[NUMBERS])
     puts(" calls");
 }
 
+/* Whether enough tables were made for every number of a table, and the check has not answered one of them. */
+static bool misses_number(uint64_t tables)
+{
+    bool missing = false;
+    for (unsigned i = 1; tables >= 1000 && i < NUMBERS; i++)
+        if (((i <= 11 && i != 8) || i >= 28) && answered[i] == 0) {
+            printf("no table was refused with %u\n", i);
+            missing = true;
+        }
+    return missing;
+}
+
 static void print_met(void)
 {
     for (unsigned entry = 0; entry < ENTRIES; entry++)
@@ -616,6 +628,8 @@ int main(int count, char **words)
             compare_table(&source, &under_way);
     }
     print_met();
+    if (!walked && misses_number(tables))
+        return 1;
     printf("%" PRIu64 " tables, no difference\n", tables);
     if (fflush(stdout) != 0 || ferror(stdout)) {
         fputs("compare: standard output cannot be written\n", stderr);

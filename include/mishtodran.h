@@ -151,12 +151,14 @@ enum { MISHTODRAN_LONGEST_REPORT = 1123 };
 enum { MISHTODRAN_STACK_BYTES = 16384 };
 
 /* What the reader says of a table: 8 bytes of answer, four for each: a table's number, and the offset from the table's
- * first byte of the field at fault; both are 0 for an accepted table. The offset is where that field begins:
- * - 1: 0. 2: the table's length. 3: the mark. 4, 6, 7, 9 and 28: the id, deadline, gap, task count or list length;
+ * first byte of the field at fault; both are 0 for an accepted table. A refused table is an answer as well: the entry
+ * returns 0 for it too. The offset is where that field begins:
+ * - 1: 0, of no field. 2: the table's length, which is past its last byte. 3: the mark;
+ * - 4, 6, 7, 9 and 28: the id, deadline, gap, task count or list length;
  * - 5: the kind where that is above 1, else the overload byte. 10: the priority where that is 0, else the cost;
  * - 29: the first distance that is below the one before it or too large. 30: the last distance. 31: the gap;
  * - 11: a 17th chain's mark; the end record's count; the first byte after the end record.
- * Refuses with 27. */
+ * Refuses with 27 only. */
 uint32_t mishtodran_check(const uint8_t *table, size_t table_len,
                           uint8_t *answer, size_t answer_len);
 
@@ -181,7 +183,8 @@ uint32_t mishtodran_segment(const uint8_t *table, size_t table_len, uint32_t id,
 /* Puts a new record in the place of an old one, in the table that stands in the first `used` bytes of a buffer: 4 bytes
  * of answer, the new used length. The old record is given as it was last seen, whole, so that a change made meanwhile
  * is never lost. Bytes between a shorter end and the former end become 0; bytes past both ends stay.
- * Refuses with 27, then the table's number, 22, 23, 24, the result's number; the buffer then stays as it was. */
+ * Refuses with 27, then the table's number, 22, 23, 24, the result's number; the buffer then stays as it was, and
+ * mishtodran_check of its used bytes says whether a table's number was the table's own. */
 uint32_t mishtodran_save(uint8_t *buffer, size_t buffer_len, uint64_t used,
                          const uint8_t *old_record, size_t old_len,
                          const uint8_t *new_record, size_t new_len,

@@ -101,7 +101,8 @@ static bool is_refused(const char *what, const uint8_t *table, size_t length, ui
 /* Whether it is a table's number: the others leave the table accepted. */
 static bool is_of_table(uint32_t refusal)
 {
-    return (refusal >= MISHTODRAN_TABLE_LENGTH && refusal <= MISHTODRAN_END) ||
+    return (refusal >= MISHTODRAN_TABLE_LENGTH && refusal <= MISHTODRAN_GAP) ||
+           (refusal >= MISHTODRAN_TASK_COUNT && refusal <= MISHTODRAN_END) ||
            (refusal >= MISHTODRAN_LIST_LENGTH && refusal <= MISHTODRAN_GAP_TOO_SMALL);
 }
 

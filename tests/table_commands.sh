@@ -115,29 +115,30 @@ seventeen() {
     bytes 69 78 17 0
 }
 
-# changed OFFSET BYTE..: the sample with these bytes from the offset on.
+# changed FILE OFFSET BYTE..: the table in the file with these bytes from the offset on.
 changed() {
-    local at=$1
-    shift
-    head -c "$at" examples/sample.table
+    local file=$1 at=$2
+    shift 2
+    head -c "$at" "$file"
     bytes "$@"
-    tail -c "+$((at + $# + 1))" examples/sample.table
+    tail -c "+$((at + $# + 1))" "$file"
 }
 
-# broke WHERE OFFSET BYTE..: the sample changed so is refused with this line, after the word `refused`.
+# broke WHERE OFFSET BYTE..: the table in the file `whole` changed so is refused with this line, after the word `refused`.
 broke() {
     local where=$1
     shift
-    prints check "bytes $* of the sample" "refused $where" < <(changed "$@")
+    prints check "bytes $* of $whole" "refused $where" < <(changed "$whole" "$@")
 }
 
 # cut WHERE LENGTH: so much of the sample is refused with this line.
 cut() {
-    prints check "$2 bytes of the sample" "refused 2 at byte $2: bytes run out inside a record or before the end record ($1)" \
+    prints check "$2 bytes of the sample" "refused 2 at byte $2: $cut_short ($1)" \
         < <(head -c "$2" examples/sample.table)
 }
 
 length="refused 1 at byte 0: the table's length is 0, above 1,284 or above its buffer"
+cut_short='bytes run out inside a record or before the end record'
 ended='a 17th chain, no chain, a wrong end count, or bytes after the end'
 
 ./mishtodran check examples/sample.table >"$room/out" || found "check, the sample: it failed"
@@ -148,14 +149,16 @@ prints check "a full table" "accepted, 16 chains" <"$room/full"
 prints check "a damaged table" "$(cat crates/table_check/stdout)" <crates/table_check/stdin
 prints check "no bytes" "$length (the table has 0 bytes)" </dev/null
 prints check "a byte more" "$length (the table has more than 1,284 bytes)" <"$room/longer"
-cut "after 1 byte, record 1 has no mark" 1
+cut "after 1 byte, in the mark of record 1" 1
 cut "after 2 bytes, in chain record 1" 2
 cut "after 18 bytes, in chain record 1" 18
-cut "after 36 bytes, record 2 has no mark" 36
+cut "after 36 bytes, before the end record" 36
 cut "after 51 bytes, in chain record 2" 51
 cut "after 105 bytes, in chain record 3" 105
-cut "after 137 bytes, record 5 has no mark" 137
+cut "after 136 bytes, before the end record" 136
+cut "after 137 bytes, in the mark of record 5" 137
 cut "after 138 bytes, in the end record" 138
+whole=examples/sample.table
 broke "3 at byte 0: a mark is not one allowed there (record 1, mark)" 0 84 75
 broke "3 at byte 36: a mark is not one allowed there (record 2, mark)" 36 88 88
 broke "3 at byte 92: a mark is not one allowed there (chain record 3, task 2, mark)" 92 88
@@ -175,6 +178,22 @@ broke "10 at byte 24: a priority is 0, or a cost is not 1 to 1,000,000 (chain re
 broke "11 at byte 138: $ended (end record, count)" 138 5
 broke "11 at byte 140: $ended (after the end record)" 140 69
 prints check "no chain" "refused 11 at byte 2: $ended (end record, count)" < <(bytes 69 78 0 0)
+
+# The damaged table with its list of three distances mended: what follows such a list.
+whole=$room/mended
+changed crates/table_check/stdin 24 44 1 >"$whole"
+prints check "the damaged table, mended" "accepted, 4 chains" <"$whole"
+broke "29 at byte 20: a distance falls or exceeds 10,000,000 (chain record 1, distance 2)" 20 1
+broke "3 at byte 36: a mark is not one allowed there (chain record 1, task 2, mark)" 36 88
+broke "10 at byte 38: a priority is 0, or a cost is not 1 to 1,000,000 (chain record 1, task 2, priority)" 38 0
+broke "6 at byte 50: a deadline is not 1 to 10,000,000 (chain record 2, deadline)" 50 0
+
+# After 16 chains.
+prints check "16 chains" "refused 2 at byte 448: $cut_short (after 448 bytes, before the end record)" < <(seventeen | head -c 448)
+prints check "16 chains and an end cut off" "refused 2 at byte 450: $cut_short (after 450 bytes, in the end record)" \
+    < <(seventeen | head -c 448 && bytes 69 78)
+prints check "16 chains and no mark" "refused 3 at byte 448: a mark is not one allowed there (record 17, mark)" \
+    < <(seventeen | head -c 448 && bytes 88 88)
 prints check "a 17th chain" "refused 11 at byte 448: $ended (chain record 17, mark)" < <(seventeen)
 
 # ---- Reading and writing fail ----

@@ -1,4 +1,4 @@
--- What the customer demands: each demand is one record, its fields his sentences in his order, over definitions that stand in the files
+-- What the customer demands: each demand is one record, its fields his sentences in his order and what his requests add, over definitions that stand in the files
 -- imported here. proofs/Demands.antt closes each record by one theorem, `demand-1`, `demand-2`, `demand-3`.
 use Prim.Native.Nat.{ℕ, _<_}
 use mathlib.Core.Path.{_≡_}

@@ -21,7 +21,8 @@ use Rattle.editor.specs.Entry.{latencyFigures, LatencyEntry, MissesEntry, Segme
 abbrev pub Between : ℕ → ℕ → ℕ → Type 0
 Between low high n = (low ≤ n) × (n ≤ high)
 
--- the numbers that each query, a save, a report and the check can be refused with, a table's own among them; a C entry also with 27
+-- the numbers that each query and a save can be refused with, a table's own among them, then those of a report and of the check, which
+-- has none; a C entry can also be refused with 27
 abbrev pub LatencyRefusal : ℕ → Type 0
 LatencyRefusal n = TableRefusal n ⊎ (n ≡ 12) ⊎ Between 16 17 n
 

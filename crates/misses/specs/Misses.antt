@@ -25,7 +25,7 @@ use Rattle.misses.specs.Bad.{over, bad}
 use Rattle.misses.specs.declared.Answer.{Answer}
 use Rattle.misses.specs.declared.Answer.the-variants.{Misses, Refused}
 
--- document 01's number for each answer, 0 or the refusal, and its value: how many deadlines are missed
+-- the documents' number for each answer, 0 or the refusal, and its value: how many deadlines are missed
 abbrev pub numberOf : Answer → ℕ
 numberOf (Misses n) = 0
 numberOf (Refused n) = n

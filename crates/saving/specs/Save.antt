@@ -18,7 +18,7 @@ use Rattle.table.specs.declared.Mark.the-variants.{Chain, Task, End, Unknown}
 use Rattle.saving.specs.declared.Saved.{Saved}
 use Rattle.saving.specs.declared.Saved.the-variants.{Used, Refused}
 
--- document 01's number for each answer, 0 where the save is accepted
+-- the documents' number for each answer, 0 where the save is accepted
 abbrev pub numberOf : Saved → ℕ
 numberOf (Used n) = 0
 numberOf (Refused n) = n

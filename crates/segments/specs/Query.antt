@@ -20,7 +20,7 @@ use Rattle.segments.specs.Actives.{Active, nothing, activesOf}
 use Rattle.segments.specs.declared.Answer.{Answer}
 use Rattle.segments.specs.declared.Answer.the-variants.{Records, Refused}
 
--- document 01's number for each answer, 0 or the refusal, and its values, offset and length
+-- the documents' number for each answer, 0 or the refusal, and its values, offset and length
 abbrev pub numberOf : Answer → ℕ
 numberOf (Records offset len) = 0
 numberOf (Refused n) = n

@@ -15,11 +15,11 @@ use Rattle.search.proofs.Choice.{when-cases, true-not-false, lt-or-le}
 use Rattle.search.proofs.Find.{first-hit}
 use Rattle.table.specs.Limits.{maxChains, maxBytes, maxTasks, maxAllTasks, maxDistance}
 use Rattle.table.specs.Bytes.{word}
-use Rattle.table.specs.Record.{blank, idAt, gapPlace, gapAt, listedAt, tasksAt, listPlace, distancesAt, firstTask, rowAt}
+use Rattle.table.specs.Record.{blank, idAt, gapPlace, gapAt, listedAt, tasksAt, listPlace, distancesAt, firstTask, lengthAt, rowAt}
 use Rattle.table.specs.Find.{rowOf, findOf, used}
 use Rattle.table.specs.Fault.{_then_, outside, markOf, noTask, identityFault, timesFault, countsFault, headFault, fallFault, lastFault, gapShort, gapFault, distancesFault, listFault, taskMarkFault, valuesFault, taskRestFault, taskFault, tasksFault, chainFault, endFault}
 use Rattle.table.specs.Read.{empty, plus, refusal, accepted, unless, byMark, start, records, readTable}
-use Rattle.table.specs.Field.{startOf, tasksOf, Chains, EndRecord, ChainRecord, ListThere, taskPlace, TaskThere, beforeOf, FirstFall, Blames, TableRefusal, Placed}
+use Rattle.table.specs.Field.{recordStart, tasksBefore, Chains, EndMark, EndRecord, ChainRecord, ListThere, taskPlace, TaskThere, beforeOf, FirstFall, Rises, Blames, TableRefusal, Placed}
 use Rattle.table.specs.declared.Row.{Row}
 use Rattle.table.specs.declared.Table.{Table}
 use Rattle.table.specs.declared.Reading.{Reading}
@@ -28,7 +28,7 @@ use Rattle.table.specs.declared.Mark.the-variants.{Chain, Task, End, Unk
 use Rattle.table.specs.declared.Verdict.{Verdict}
 use Rattle.table.specs.declared.Verdict.the-variants.{Accepted, Refused}
 use Rattle.table.proofs.Lists.{length-spaced}
-use Rattle.table.proofs.Firsts.{or-right, or-cases}
+use Rattle.table.proofs.Firsts.{or-right, or-cases, not-accepted, when-none}
 use Rattle.table.proofs.Steps.{read-long}
 use Rattle.table.proofs.Faultless.{head-right, list-right, not-zero}
 
@@ -46,20 +46,20 @@ then-points s (Refused n place) b p q = p
 record Walked (s : List ℕ) (n : ℕ) (t : Table) : Type 0 where
   chains : Chains s n
   count : t .count ≡ n
-  ids : (m : ℕ) → m < n → rowOf t m .id ≡ idAt s (startOf s m)
-  tasks : t .tasks ≡ tasksOf s n
+  ids : (m : ℕ) → m < n → rowOf t m .id ≡ idAt s (recordStart s m)
+  tasks : t .tasks ≡ tasksBefore s n
   size : length (t .row) ≡ maxChains
 
 -- the list
-module _ (all : List ℕ) (from : ℕ) (P : Verdict → Type 0) (none : P Accepted) (found : (j : ℕ) → FirstFall all j → P (Refused 29 (from + 4 * j))) where
+module _ (all : List ℕ) (from : ℕ) (P : Verdict → Type 0) (none : Rises all → P Accepted) (found : (j : ℕ) → FirstFall all j → P (Refused 29 (from + 4 * j))) where
   fall-from : (ds : List ℕ) (j before at : ℕ) → at ≡ from + 4 * j → before ≡ beforeOf all j → j + length ds ≡ length all → ((i : ℕ) → getD ds i 0 ≡ getD all (j + i) 0)
       → ((i : ℕ) → i < j → outside (beforeOf all i) maxDistance (getD all i 0) ≡ false) → P (fallFault before ds at)
   unfolding fallFault beforeOf
-  fall-from [] j before at place b n tail right = none
+  fall-from [] j before at place b n tail right = none (record { none = λ i h f. true-not-false f (right i (omega (arith, h, n))) })
   fall-from (d ∷ ds) j before at place b n tail right =
       let here : d ≡ getD all j 0 = tail 0 ∙ ap (λ i. getD all i 0) (omega arith) in
       when-cases P (outside before maxDistance d)
-      (λ e. rw place (found j (record { one = omega (arith, n); falls = rw (← b, ← here) e; first = right })))
+      (λ e. rw place (found j (record { one = omega (arith, n); falls = rw (← b, ← here) e; first = λ i h f. true-not-false f (right i h) })))
       (λ e. fall-from ds (suc j) d (at + 4) (omega (arith, place)) (next here) (omega (arith, n))
       (λ i. tail (suc i) ∙ ap (λ k. getD all k 0) (omega arith)) (more (rw (← b, ← here) e)))
     where
@@ -84,16 +84,25 @@ both : (a b : Bool) → (a && b) ≡ true → (a ≡ true) × (b ≡ true)
 both true b e = (refl, e)
 both false b e = absurd (true-not-false e refl)
 
+-- one mark more
+chain-marks : (s : List ℕ) (n : ℕ) (t : Table) → Walked s n t → markOf (word 2 s (recordStart s n)) ≡ Chain → Chains s (suc n)
+chain-marks s n t w mark = rw (← add-one) (below-more (λ m. markOf (word 2 s (recordStart s m)) ≡ Chain) n (w .chains) mark)
+
 -- the fixed part
-module _ (s : List ℕ) (n : ℕ) (t : Table) (w : Walked s n t) (mark : markOf (word 2 s (startOf s n)) ≡ Chain) where
+module _ (s : List ℕ) (n : ℕ) (t : Table) (w : Walked s n t) (room : n < maxChains) (mark : markOf (word 2 s (recordStart s n)) ≡ Chain) where
   abbrev at : ℕ
-  at = startOf s n
+  at = recordStart s n
 
   chains : Chains s (suc n)
-  chains = rw (← add-one) (below-more (λ m. markOf (word 2 s (startOf s m)) ≡ Chain) n (w .chains) mark)
+  chains = chain-marks s n t w mark
+
+  -- bytes of the chain record are missing
+  cut : (m : ℕ) → ltb (length s) m ≡ true → m ≤ at + lengthAt s at → Blames s 2 (length s)
+  unfolding recordStart
+  cut m e h = Blames.inChain n room chains (omega (arith, ltb-true (length s) m e, h))
 
   -- an id that is used is an earlier record's
-  earlier : used t (idAt s at) ≡ true → (m : ℕ) × (m < n) × (idAt s (startOf s m) ≡ idAt s at)
+  earlier : used t (idAt s at) ≡ true → (m : ℕ) × (m < n) × (idAt s (recordStart s m) ≡ idAt s at)
   unfolding findOf
   earlier e =
       let m = findOf t (idAt s at) in
@@ -107,31 +116,31 @@ module _ (s : List ℕ) (n : ℕ) (t : Table) (w : Walked s n t) (mark : markOf 
     unfolding identityFault
     identity-points =
         when-cases (Points s) (eqb (idAt s at) 0 || used t (idAt s at))
-        (λ e. Blames.inId n r (⊎-elim (λ z. inl (eqb-true _ _ z)) (λ u. inr (earlier u)) (or-cases (eqb (idAt s at) 0) (used t (idAt s at)) e)))
-        (λ e. when-cases (Points s) _ (λ kind. Blames.inKind n r (ltb-true _ _ kind))
-        (λ kind. when-cases (Points s) _ (λ overload. Blames.inOverload n r (ltb-false _ _ kind) (ltb-true _ _ overload)) (λ overload. tt)))
+        (λ e. Blames.atId n r (⊎-elim (λ z. inl (eqb-true _ _ z)) (λ u. inr (earlier u)) (or-cases (eqb (idAt s at) 0) (used t (idAt s at)) e)))
+        (λ e. when-cases (Points s) _ (λ kind. Blames.atKind n r (ltb-true _ _ kind))
+        (λ kind. when-cases (Points s) _ (λ overload. Blames.atOverload n r (ltb-false _ _ kind) (ltb-true _ _ overload)) (λ overload. tt)))
 
     times-points : Points s (timesFault s at)
     unfolding timesFault
     times-points =
-        when-cases (Points s) _ (λ e. Blames.inDeadline n r e) (λ e. when-cases (Points s) _ (λ g. Blames.inGap n r (ltb-true _ _ g)) (λ g. tt))
+        when-cases (Points s) _ (λ e. Blames.atDeadline n r e) (λ e. when-cases (Points s) _ (λ g. Blames.atGap n r (ltb-true _ _ g)) (λ g. tt))
 
-    total : ltb maxAllTasks (t .tasks + tasksAt s at) ≡ true → maxAllTasks < tasksOf s (suc n)
-    unfolding tasksOf
+    total : ltb maxAllTasks (t .tasks + tasksAt s at) ≡ true → maxAllTasks < tasksBefore s (suc n)
+    unfolding tasksBefore
     total e = omega (arith, ltb-true maxAllTasks (t .tasks + tasksAt s at) e, w .tasks)
 
     counts-points : Points s (countsFault s at (t .tasks))
     unfolding countsFault
     counts-points =
-        when-cases (Points s) _ (λ e. Blames.inListLength n r e)
+        when-cases (Points s) _ (λ e. Blames.atListLength n r e)
         (λ e. when-cases (Points s) (outside 1 maxTasks (tasksAt s at) || ltb maxAllTasks (t .tasks + tasksAt s at))
-        (λ f. Blames.inTaskCount n r (⊎-elim (λ z. inl z) (λ z. inr (total z)) (or-cases (outside 1 maxTasks (tasksAt s at)) _ f))) (λ f. tt))
+        (λ f. Blames.atTaskCount n r (⊎-elim (λ z. inl z) (λ z. inr (total z)) (or-cases (outside 1 maxTasks (tasksAt s at)) _ f))) (λ f. tt))
 
   head-points : Points s (headFault s at t)
   unfolding headFault
   head-points =
-      when-cases (Points s) (ltb (length s) (at + 16)) (λ e. Blames.inMissing)
-      (λ e. let r : ChainRecord s n = record { chains = chains; there = ltb-false _ _ e } in
+      when-cases (Points s) (ltb (length s) (at + 16)) (λ e. cut (at + 16) e (omega arith))
+      (λ e. let r : ChainRecord s n = record { few = room; chains = chains; there = ltb-false _ _ e } in
       then-points s _ _ (identity-points r) (λ f. then-points s _ _ (times-points r) (λ g. counts-points r)))
 
   module _ (l : ListThere s n) where
@@ -141,48 +150,54 @@ module _ (s : List ℕ) (n : ℕ) (t : Table) (w : Walked s n t) (mark : markOf 
     long : length ds ≡ listedAt s at
     long = length-spaced (word 4 s) 4 (listedAt s at) (listPlace at)
 
-    fall-points : Points s (fallFault 0 ds (listPlace at))
+    fall-points : Points s (fallFault 0 ds (listPlace at)) × (fallFault 0 ds (listPlace at) ≡ Accepted → Rises ds)
     unfolding beforeOf
     fall-points =
-        fall-from ds (listPlace at) (Points s) tt (λ j f. Blames.inDistance n j l f) ds 0 0 (listPlace at) (omega arith) refl (omega arith)
+        fall-from ds (listPlace at) (λ v. Points s v × (v ≡ Accepted → Rises ds)) (λ r. (tt, λ e. r)) (λ j f. (Blames.atDistance n j l f, λ e. absurd (not-accepted e)))
+        ds 0 0 (listPlace at) (omega arith) refl (omega arith)
         (λ i. ap (λ k. getD ds k 0) (omega arith)) (λ i h. absurd (omega arith))
 
-    last-points : Points s (lastFault ds (listPlace at))
+    last-points : Rises ds → Points s (lastFault ds (listPlace at))
     unfolding lastFault
-    last-points = rw long (when-cases (Points s) (eqb (getD ds (listedAt s at - 1) 0) 0) (λ e. Blames.inLast n l (eqb-true _ _ e)) (λ e. tt))
+    last-points r = rw long (when-cases (Points s) (eqb (getD ds (listedAt s at - 1) 0) 0) (λ e. Blames.atLast n l r (eqb-true _ _ e)) (λ e. tt))
 
-    gap-points : Points s (gapFault (gapAt s at) ds (gapPlace at))
+    last-some : lastFault ds (listPlace at) ≡ Accepted → 0 < getD ds (listedAt s at - 1) 0
+    unfolding lastFault
+    last-some e = subst (λ m. 0 < getD ds (m - 1) 0) long (not-zero _ (when-none _ _ _ _ e .0))
+
+    gap-points : Rises ds → 0 < getD ds (listedAt s at - 1) 0 → Points s (gapFault (gapAt s at) ds (gapPlace at))
     unfolding gapFault
-    gap-points = when-cases (Points s) (not (eqb (gapAt s at) 0) && gapShort (gapAt s at) 1 ds)
+    gap-points r some = when-cases (Points s) (not (eqb (gapAt s at) 0) && gapShort (gapAt s at) 1 ds)
         (λ e. let b = both (not (eqb (gapAt s at) 0)) (gapShort (gapAt s at) 1 ds) e in
         let j = short-at (gapAt s at) 1 ds (b .1) in
-        Blames.inSmallGap n (j .0) l (not-zero _ (not-true _ (b .0))) (omega (arith, j .1, long)) (j .2)) (λ e. tt)
+        Blames.atSmallGap n (j .0) l r some (not-zero _ (not-true _ (b .0))) (omega (arith, j .1, long)) (j .2)) (λ e. tt)
 
   list-points : headFault s at t ≡ Accepted → Points s (listFault s at)
   unfolding listFault distancesFault
   list-points e =
       let h = head-right s at t e in
-      when-cases (Points s) (ltb (length s) (firstTask s at)) (λ f. Blames.inMissing)
-      (λ f. let l : ListThere s n = record { chain = record { chains = chains; there = h .there }; some = h .listed .0; there = ltb-false _ _ f } in
-      then-points s _ _ (fall-points l) (λ g. then-points s _ _ (last-points l) (λ k. gap-points l)))
+      when-cases (Points s) (ltb (length s) (firstTask s at)) (λ f. cut (firstTask s at) f (omega arith))
+      (λ f. let l : ListThere s n = record { chain = record { few = room; chains = chains; there = h .there }; some = h .listed .0; there = ltb-false _ _ f } in
+      let rises = fall-points l in
+      then-points s _ _ (rises .0) (λ g. then-points s _ _ (last-points l (rises .1 g)) (λ k. gap-points l (rises .1 g) (last-some l k))))
 
   module _ (l : ListThere s n) where
     mark-points : (i : ℕ) → TaskThere s n i 2 → (m : Mark) → markOf (word 2 s (taskPlace s n i)) ≡ m → Points s (noTask m (taskPlace s n i))
     mark-points i there Task e = tt
-    mark-points i there Chain e = Blames.inTaskMark n i there (λ f. let g = sym e ∙ f in let z : _≡_ {A = ℕ} 0 1 = cc in omega arith)
-    mark-points i there End e = Blames.inTaskMark n i there (λ f. let g = sym e ∙ f in let z : _≡_ {A = ℕ} 0 1 = cc in omega arith)
-    mark-points i there Unknown e = Blames.inTaskMark n i there (λ f. let g = sym e ∙ f in let z : _≡_ {A = ℕ} 0 1 = cc in omega arith)
+    mark-points i there Chain e = Blames.atTaskMark n i there (λ f. let g = sym e ∙ f in let z : _≡_ {A = ℕ} 0 1 = cc in omega arith)
+    mark-points i there End e = Blames.atTaskMark n i there (λ f. let g = sym e ∙ f in let z : _≡_ {A = ℕ} 0 1 = cc in omega arith)
+    mark-points i there Unknown e = Blames.atTaskMark n i there (λ f. let g = sym e ∙ f in let z : _≡_ {A = ℕ} 0 1 = cc in omega arith)
 
     task-points : (i : ℕ) → i < tasksAt s at → Points s (taskFault s (taskPlace s n i))
     unfolding taskFault taskMarkFault taskRestFault valuesFault
     task-points i h =
         then-points s _ _
-        (when-cases (Points s) (ltb (length s) (taskPlace s n i + 2)) (λ e. Blames.inMissing)
+        (when-cases (Points s) (ltb (length s) (taskPlace s n i + 2)) (λ e. cut (taskPlace s n i + 2) e (omega (arith, h)))
         (λ e. mark-points i (record { list = l; one = h; there = ltb-false _ _ e }) (markOf (word 2 s (taskPlace s n i))) refl))
-        (λ g. when-cases (Points s) (ltb (length s) (taskPlace s n i + 8)) (λ e. Blames.inMissing)
+        (λ g. when-cases (Points s) (ltb (length s) (taskPlace s n i + 8)) (λ e. cut (taskPlace s n i + 8) e (omega (arith, h)))
         (λ e. let there : TaskThere s n i 8 = record { list = l; one = h; there = ltb-false _ _ e } in
-        when-cases (Points s) _ (λ p. Blames.inPriority n i there (eqb-true _ _ p))
-        (λ p. when-cases (Points s) _ (λ c. Blames.inCost n i there (not-zero _ p) c) (λ c. tt))))
+        when-cases (Points s) _ (λ p. Blames.atPriority n i there (eqb-true _ _ p))
+        (λ p. when-cases (Points s) _ (λ c. Blames.atCost n i there (not-zero _ p) c) (λ c. tt))))
 
     tasks-points : (left i : ℕ) → i + left ≡ tasksAt s at → Points s (tasksFault s left (taskPlace s n i))
     unfolding tasksFault
@@ -197,17 +212,17 @@ module _ (s : List ℕ) (n : ℕ) (t : Table) (w : Walked s n t) (mark : markOf 
       then-points s _ _ head-points
       (λ e. then-points s _ _ (list-points e)
       (λ f. let h = head-right s at t e in
-      let l : ListThere s n = record { chain = record { chains = chains; there = h .there }; some = h .listed .0; there = list-right s at f .there } in
+      let l : ListThere s n = record { chain = record { few = room; chains = chains; there = h .there }; some = h .listed .0; there = list-right s at f .there } in
       let first : taskPlace s n 0 ≡ firstTask s at = omega arith in
       rw (← first) (tasks-points l (tasksAt s at) 0 (omega arith))))
 
   -- the next record
-  walked-on : n < maxChains → Walked s (suc n) (plus t (rowAt s at))
-  unfolding rowAt tasksOf
-  walked-on h = record {
+  walked-on : Walked s (suc n) (plus t (rowAt s at))
+  unfolding rowAt tasksBefore
+  walked-on = record {
     chains = chains;
     count = omega (arith, w .count);
-    ids = rw (← add-one) (below-more (λ m. rowOf (plus t (rowAt s at)) m .id ≡ idAt s (startOf s m)) n
+    ids = rw (← add-one) (below-more (λ m. rowOf (plus t (rowAt s at)) m .id ≡ idAt s (recordStart s m)) n
         (λ m l. ap (λ (r : Row). r .id) (getD-set-other (t .row) (t .count) m (rowAt s at) blank (λ e. omega (arith, e, w .count))) ∙ w .ids m l)
         (ap (λ (r : Row). r .id) (ap (λ k. rowOf (plus t (rowAt s at)) k) (sym (w .count)) ∙ getD-set-same (t .row) (t .count) (rowAt s at) blank (omega (arith, w .count, w .size)))));
     tasks = ap (λ k. k + tasksAt s at) (w .tasks);
@@ -215,16 +230,17 @@ module _ (s : List ℕ) (n : ℕ) (t : Table) (w : Walked s n t) (mark : markOf 
   }
 
 -- the end record
-end-points : (s : List ℕ) (n : ℕ) (t : Table) → Walked s n t → markOf (word 2 s (startOf s n)) ≡ End → Points s (endFault s (startOf s n) t)
+end-points : (s : List ℕ) (n : ℕ) (t : Table) → Walked s n t → n ≤ maxChains → markOf (word 2 s (recordStart s n)) ≡ End → Points s (endFault s (recordStart s n) t)
 unfolding endFault
-end-points s n t w mark =
-    when-cases (Points s) _ (λ e. Blames.inMissing)
-    (λ e. let r : EndRecord s n = record { before = w .chains; there = ltb-false _ _ e; mark = mark } in
-    when-cases (Points s) (eqb (t .count) 0) (λ z. Blames.inCount n r (inl (sym (w .count) ∙ eqb-true _ _ z)))
-    (λ z. when-cases (Points s) _ (λ c. Blames.inCount n r (inr (λ g. eqb-false _ _ (not-true _ c) (g ∙ sym (w .count)))))
+end-points s n t w few mark =
+    let m : EndMark s n = record { few = few; before = w .chains; mark = mark } in
+    when-cases (Points s) _ (λ e. Blames.inEnd n m (ltb-true _ _ e))
+    (λ e. let r : EndRecord s n = record { end = m; there = ltb-false _ _ e } in
+    when-cases (Points s) (eqb (t .count) 0) (λ z. Blames.atCount n r (inl (sym (w .count) ∙ eqb-true _ _ z)))
+    (λ z. when-cases (Points s) _ (λ c. Blames.atCount n r (inr (λ g. eqb-false _ _ (not-true _ c) (g ∙ sym (w .count)))))
     (λ c. when-cases (Points s) _
-    (λ m. let more : length s ≡ startOf s n + 4 → ⊥ = eqb-false _ _ (not-true _ m) in
-    Blames.inTrailing n r (eqb-true _ _ (not-false _ c) ∙ w .count) (omega (arith, r .there)))
+    (λ m. let more : length s ≡ recordStart s n + 4 → ⊥ = eqb-false _ _ (not-true _ m) in
+    Blames.atTrailing n r (omega (arith, not-zero (t .count) z, w .count)) (eqb-true _ _ (not-false _ c) ∙ w .count) (omega (arith, r .there)))
     (λ m. tt))))
 
 -- a record, and those from it on
@@ -236,35 +252,35 @@ unfolding unless PointsAt
 unless-points s Accepted r p q = q refl
 unless-points s (Refused n place) r p q = p
 
-start-points : (s : List ℕ) (n : ℕ) (t : Table) (chain : Reading) → Walked s n t
-    → (startOf s n + 2 ≤ length s → markOf (word 2 s (startOf s n)) ≡ Chain → PointsAt s chain) → PointsAt s (start s (startOf s n) t chain)
+start-points : (s : List ℕ) (n : ℕ) (t : Table) (chain : Reading) → Walked s n t → n ≤ maxChains
+    → (recordStart s n + 2 ≤ length s → markOf (word 2 s (recordStart s n)) ≡ Chain → PointsAt s chain) → PointsAt s (start s (recordStart s n) t chain)
 unfolding start PointsAt
-start-points s n t chain w f =
-    when-cases (PointsAt s) (ltb (length s) (startOf s n + 2)) (λ e. Blames.inMissing) (λ e. by (ltb-false _ _ e) (markOf (word 2 s (startOf s n))) refl)
+start-points s n t chain w few f =
+    when-cases (PointsAt s) (ltb (length s) (recordStart s n + 2)) (λ e. Blames.inMark n few (w .chains) (ltb-true _ _ e)) (λ e. by (ltb-false _ _ e) (markOf (word 2 s (recordStart s n))) refl)
   where
-    by : startOf s n + 2 ≤ length s → (m : Mark) → markOf (word 2 s (startOf s n)) ≡ m → PointsAt s (byMark (startOf s n) m chain (unless refusal (endFault s (startOf s n) t) (accepted t)))
+    by : recordStart s n + 2 ≤ length s → (m : Mark) → markOf (word 2 s (recordStart s n)) ≡ m → PointsAt s (byMark (recordStart s n) m chain (unless refusal (endFault s (recordStart s n) t) (accepted t)))
     by there Chain e = f there e
-    by there End e = unless-points s (endFault s (startOf s n) t) (accepted t) (end-points s n t w e) (λ g. tt)
-    by there Task e = Blames.inMark n (record { before = w .chains; there = there; unknown = (λ g. let h = sym e ∙ g in let z : _≡_ {A = ℕ} 0 1 = cc in omega arith, λ g. let h = sym e ∙ g in let z : _≡_ {A = ℕ} 0 1 = cc in omega arith) })
-    by there Unknown e = Blames.inMark n (record { before = w .chains; there = there; unknown = (λ g. let h = sym e ∙ g in let z : _≡_ {A = ℕ} 0 1 = cc in omega arith, λ g. let h = sym e ∙ g in let z : _≡_ {A = ℕ} 0 1 = cc in omega arith) })
+    by there End e = unless-points s (endFault s (recordStart s n) t) (accepted t) (end-points s n t w few e) (λ g. tt)
+    by there Task e = Blames.atMark n (record { few = few; before = w .chains; there = there; unknown = (λ g. let h = sym e ∙ g in let z : _≡_ {A = ℕ} 0 1 = cc in omega arith, λ g. let h = sym e ∙ g in let z : _≡_ {A = ℕ} 0 1 = cc in omega arith) })
+    by there Unknown e = Blames.atMark n (record { few = few; before = w .chains; there = there; unknown = (λ g. let h = sym e ∙ g in let z : _≡_ {A = ℕ} 0 1 = cc in omega arith, λ g. let h = sym e ∙ g in let z : _≡_ {A = ℕ} 0 1 = cc in omega arith) })
 
-records-points : (left : ℕ) (s : List ℕ) (n : ℕ) (t : Table) → Walked s n t → n + left ≡ maxChains → PointsAt s (records left s (startOf s n) t)
-unfolding records startOf PointsAt
+records-points : (left : ℕ) (s : List ℕ) (n : ℕ) (t : Table) → Walked s n t → n + left ≡ maxChains → PointsAt s (records left s (recordStart s n) t)
+unfolding records recordStart PointsAt
 records-points zero s n t w e =
-    start-points s n t (refusal 11 (startOf s n)) w
+    start-points s n t (refusal 11 (recordStart s n)) w (omega arith)
     (λ there mark. let f : n ≡ maxChains = omega arith in
-    subst (λ k. Chains s (suc k) → startOf s k + 2 ≤ length s → Blames s 11 (startOf s k)) (sym f) (λ c h. Blames.inSeventeenth c h) (chains s n t w mark) there)
+    subst (λ k. Chains s (suc k) → recordStart s k + 2 ≤ length s → Blames s 11 (recordStart s k)) (sym f) (λ c h. Blames.atSeventeenth c h) (chain-marks s n t w mark) there)
 records-points (suc left) s n t w e =
-    start-points s n t _ w
-    (λ there mark. unless-points s (chainFault s (startOf s n) t) _ (chain-points s n t w mark)
-    (λ f. records-points left s (suc n) (plus t (rowAt s (startOf s n))) (walked-on s n t w mark (omega arith)) (omega arith)))
+    start-points s n t _ w (omega arith)
+    (λ there mark. unless-points s (chainFault s (recordStart s n) t) _ (chain-points s n t w (omega arith) mark)
+    (λ f. records-points left s (suc n) (plus t (rowAt s (recordStart s n))) (walked-on s n t w (omega arith) mark) (omega arith)))
 
 walked-none : (s : List ℕ) → Walked s 0 empty
-unfolding tasksOf
+unfolding tasksBefore
 walked-none s = record { chains = λ m h. absurd (omega arith); count = refl; ids = λ m h. absurd (omega arith); tasks = refl; size = length-replicate maxChains blank }
 
 table-points : (s : List ℕ) → PointsAt s (readTable s)
-unfolding readTable startOf PointsAt
+unfolding readTable recordStart PointsAt
 table-points s =
     when-cases (PointsAt s) (eqb (length s) 0 || ltb maxBytes (length s))
     (λ e. Blames.inLength (⊎-elim (λ z. inl (eqb-true _ _ z)) (λ z. inr (ltb-true _ _ z)) (or-cases (eqb (length s) 0) _ e)))
@@ -289,24 +305,26 @@ module _ {n : ℕ} where
 -- so it has a table's number, and its place lies within the table, or is its length or 0
 placed : (s : List ℕ) {n place : ℕ} → Blames s n place → Placed s n place
 placed s (Blames.inLength h) = record { number = first (lit≤ tt) (lit≤ tt); within = inr (inl (refl, refl)) }
-placed s Blames.inMissing = record { number = first (lit≤ tt) (lit≤ tt); within = inr (inr (refl, refl)) }
-placed s (Blames.inMark n r) = record { number = first (lit≤ tt) (lit≤ tt); within = inl (omega (arith, r .there)) }
-placed s (Blames.inTaskMark n i r h) = record { number = first (lit≤ tt) (lit≤ tt); within = inl (omega (arith, r .there)) }
-placed s (Blames.inId n r h) = record { number = first (lit≤ tt) (lit≤ tt); within = inl (omega (arith, r .there)) }
-placed s (Blames.inKind n r h) = record { number = first (lit≤ tt) (lit≤ tt); within = inl (omega (arith, r .there)) }
-placed s (Blames.inOverload n r g h) = record { number = first (lit≤ tt) (lit≤ tt); within = inl (omega (arith, r .there)) }
-placed s (Blames.inDeadline n r h) = record { number = first (lit≤ tt) (lit≤ tt); within = inl (omega (arith, r .there)) }
-placed s (Blames.inGap n r h) = record { number = first (lit≤ tt) (lit≤ tt); within = inl (omega (arith, r .there)) }
-placed s (Blames.inListLength n r h) = record { number = third (lit≤ tt) (lit≤ tt); within = inl (omega (arith, r .there)) }
-placed s (Blames.inTaskCount n r h) = record { number = second (lit≤ tt) (lit≤ tt); within = inl (omega (arith, r .there)) }
-placed s (Blames.inDistance n j r h) = record { number = third (lit≤ tt) (lit≤ tt); within = inl (omega (arith, r .there, h .one, length-spaced (word 4 s) 4 (listedAt s (startOf s n)) (listPlace (startOf s n)))) }
-placed s (Blames.inLast n r h) = record { number = third (lit≤ tt) (lit≤ tt); within = inl (omega (arith, r .there, r .some)) }
-placed s (Blames.inSmallGap n j r g h l) = record { number = third (lit≤ tt) (lit≤ tt); within = inl (omega (arith, r .chain .there)) }
-placed s (Blames.inPriority n i r h) = record { number = second (lit≤ tt) (lit≤ tt); within = inl (omega (arith, r .there)) }
-placed s (Blames.inCost n i r g h) = record { number = second (lit≤ tt) (lit≤ tt); within = inl (omega (arith, r .there)) }
-placed s (Blames.inSeventeenth r h) = record { number = second (lit≤ tt) (lit≤ tt); within = inl (omega (arith, h)) }
-placed s (Blames.inCount n r h) = record { number = second (lit≤ tt) (lit≤ tt); within = inl (omega (arith, r .there)) }
-placed s (Blames.inTrailing n r g h) = record { number = second (lit≤ tt) (lit≤ tt); within = inl h }
+placed s (Blames.inMark n few c h) = record { number = first (lit≤ tt) (lit≤ tt); within = inr (inr (refl, refl)) }
+placed s (Blames.inChain n few c h) = record { number = first (lit≤ tt) (lit≤ tt); within = inr (inr (refl, refl)) }
+placed s (Blames.inEnd n m h) = record { number = first (lit≤ tt) (lit≤ tt); within = inr (inr (refl, refl)) }
+placed s (Blames.atMark n r) = record { number = first (lit≤ tt) (lit≤ tt); within = inl (omega (arith, r .there)) }
+placed s (Blames.atTaskMark n i r h) = record { number = first (lit≤ tt) (lit≤ tt); within = inl (omega (arith, r .there)) }
+placed s (Blames.atId n r h) = record { number = first (lit≤ tt) (lit≤ tt); within = inl (omega (arith, r .there)) }
+placed s (Blames.atKind n r h) = record { number = first (lit≤ tt) (lit≤ tt); within = inl (omega (arith, r .there)) }
+placed s (Blames.atOverload n r g h) = record { number = first (lit≤ tt) (lit≤ tt); within = inl (omega (arith, r .there)) }
+placed s (Blames.atDeadline n r h) = record { number = first (lit≤ tt) (lit≤ tt); within = inl (omega (arith, r .there)) }
+placed s (Blames.atGap n r h) = record { number = first (lit≤ tt) (lit≤ tt); within = inl (omega (arith, r .there)) }
+placed s (Blames.atListLength n r h) = record { number = third (lit≤ tt) (lit≤ tt); within = inl (omega (arith, r .there)) }
+placed s (Blames.atTaskCount n r h) = record { number = second (lit≤ tt) (lit≤ tt); within = inl (omega (arith, r .there)) }
+placed s (Blames.atDistance n j r h) = record { number = third (lit≤ tt) (lit≤ tt); within = inl (omega (arith, r .there, h .one, length-spaced (word 4 s) 4 (listedAt s (recordStart s n)) (listPlace (recordStart s n)))) }
+placed s (Blames.atLast n r rises h) = record { number = third (lit≤ tt) (lit≤ tt); within = inl (omega (arith, r .there, r .some)) }
+placed s (Blames.atSmallGap n j r rises some g h l) = record { number = third (lit≤ tt) (lit≤ tt); within = inl (omega (arith, r .chain .there)) }
+placed s (Blames.atPriority n i r h) = record { number = second (lit≤ tt) (lit≤ tt); within = inl (omega (arith, r .there)) }
+placed s (Blames.atCost n i r g h) = record { number = second (lit≤ tt) (lit≤ tt); within = inl (omega (arith, r .there)) }
+placed s (Blames.atSeventeenth r h) = record { number = second (lit≤ tt) (lit≤ tt); within = inl (omega (arith, h)) }
+placed s (Blames.atCount n r h) = record { number = second (lit≤ tt) (lit≤ tt); within = inl (omega (arith, r .there)) }
+placed s (Blames.atTrailing n r some g h) = record { number = second (lit≤ tt) (lit≤ tt); within = inl h }
 
 pub refused-placed : (s : List ℕ) {n place : ℕ} → readTable s .verdict ≡ Refused n place → Placed s n place
 refused-placed s e = placed s (blames s e)

@@ -3,7 +3,7 @@
 use Prim.Native.Nat.{ℕ, zero, suc, _+_, _*_, _-_, _<_, _≤_}
 use mathlib.Core.Path.{_≡_}
 use mathlib.Core.List.{List}
-use mathlib.Core.Bool.{true, false}
+use mathlib.Core.Bool.{true}
 use mathlib.Core.Logic.{_⊎_}
 use lib.ListN.{length, getD}
 use Rattle.table.specs.Limits.{maxChains, maxBytes, maxDeadline, maxGap, maxDistances, maxDistance, maxTasks, maxAllTasks, maxCost}
@@ -13,49 +13,58 @@ use Rattle.table.specs.Fault.{outside, markOf}
 use Rattle.table.specs.declared.Mark.the-variants.{Chain, Task, End}
 
 -- where the record after the first n chain records starts, and how many tasks these have
-unfoldable pub startOf : List ℕ → ℕ → ℕ
-startOf s zero = 0
-startOf s (suc n) = startOf s n + lengthAt s (startOf s n)
+unfoldable pub recordStart : List ℕ → ℕ → ℕ
+recordStart s zero = 0
+recordStart s (suc n) = recordStart s n + lengthAt s (recordStart s n)
 
-unfoldable pub tasksOf : List ℕ → ℕ → ℕ
-tasksOf s zero = 0
-tasksOf s (suc n) = tasksOf s n + tasksAt s (startOf s n)
+unfoldable pub tasksBefore : List ℕ → ℕ → ℕ
+tasksBefore s zero = 0
+tasksBefore s (suc n) = tasksBefore s n + tasksAt s (recordStart s n)
 
 -- the first n records bear a chain's mark
 abbrev pub Chains : List ℕ → ℕ → Type 0
-Chains s n = (m : ℕ) → m < n → markOf (word 2 s (startOf s m)) ≡ Chain
+Chains s n = (m : ℕ) → m < n → markOf (word 2 s (recordStart s m)) ≡ Chain
 
--- after the first n chain records two bytes are there that are neither a chain's mark nor the end's
+-- What stands after the first n chain records
+
+-- two bytes that are neither a chain's mark nor the end's
 pub record NoRecord (s : List ℕ) (n : ℕ) : Type 0 where
+  pub few : n ≤ maxChains
   pub before : Chains s n
-  pub there : startOf s n + 2 ≤ length s
-  pub unknown : (markOf (word 2 s (startOf s n)) ≡ Chain → ⊥) × (markOf (word 2 s (startOf s n)) ≡ End → ⊥)
+  pub there : recordStart s n + 2 ≤ length s
+  pub unknown : (markOf (word 2 s (recordStart s n)) ≡ Chain → ⊥) × (markOf (word 2 s (recordStart s n)) ≡ End → ⊥)
 
--- the end record is there, whole
+-- the end's mark
+pub record EndMark (s : List ℕ) (n : ℕ) : Type 0 where
+  pub few : n ≤ maxChains
+  pub before : Chains s n
+  pub mark : markOf (word 2 s (recordStart s n)) ≡ End
+
+-- the end record, whole
 pub record EndRecord (s : List ℕ) (n : ℕ) : Type 0 where
-  pub before : Chains s n
-  pub there : afterEnd (startOf s n) ≤ length s
-  pub mark : markOf (word 2 s (startOf s n)) ≡ End
+  pub end : EndMark s n
+  pub there : afterEnd (recordStart s n) ≤ length s
 
--- a chain record is there, with all of its fixed part
+-- a chain record with all of its fixed part
 pub record ChainRecord (s : List ℕ) (n : ℕ) : Type 0 where
+  pub few : n < maxChains
   pub chains : Chains s (suc n)
-  pub there : startOf s n + 16 ≤ length s
+  pub there : recordStart s n + 16 ≤ length s
 
--- and with all of its list
+-- and with all of its list, which is not empty
 pub record ListThere (s : List ℕ) (n : ℕ) : Type 0 where
   pub chain : ChainRecord s n
-  pub some : 1 ≤ listedAt s (startOf s n)
-  pub there : firstTask s (startOf s n) ≤ length s
+  pub some : 1 ≤ listedAt s (recordStart s n)
+  pub there : firstTask s (recordStart s n) ≤ length s
 
--- where task i, from 0, of that chain record stands
+-- where its task i, from 0, stands
 abbrev pub taskPlace : List ℕ → ℕ → ℕ → ℕ
-taskPlace s n i = firstTask s (startOf s n) + 8 * i
+taskPlace s n i = firstTask s (recordStart s n) + 8 * i
 
--- and so many of its bytes are there
+-- and so many bytes of that task are there
 pub record TaskThere (s : List ℕ) (n i bytes : ℕ) : Type 0 where
   pub list : ListThere s n
-  pub one : i < tasksAt s (startOf s n)
+  pub one : i < tasksAt s (recordStart s n)
   pub there : taskPlace s n i + bytes ≤ length s
 
 -- the distance before the one with number j, from 0
@@ -63,52 +72,66 @@ unfoldable pub beforeOf : List ℕ → ℕ → ℕ
 beforeOf ds zero = 0
 beforeOf ds (suc j) = getD ds j 0
 
--- the first distance that falls below the one before it, or exceeds the limit, has number j
+-- distance j falls below the one before it, or exceeds the limit
+abbrev pub Falls : List ℕ → ℕ → Type 0
+Falls ds j = outside (beforeOf ds j) maxDistance (getD ds j 0) ≡ true
+
+-- it is the first that does; none does
 pub record FirstFall (ds : List ℕ) (j : ℕ) : Type 0 where
   pub one : j < length ds
-  pub falls : outside (beforeOf ds j) maxDistance (getD ds j 0) ≡ true
-  pub first : (i : ℕ) → i < j → outside (beforeOf ds i) maxDistance (getD ds i 0) ≡ false
+  pub falls : Falls ds j
+  pub first : (i : ℕ) → i < j → Falls ds i → ⊥
 
--- a refusal of that number at that place, n chain records standing before the one that is looked at
+pub record Rises (ds : List ℕ) : Type 0 where
+  pub none : (i : ℕ) → i < length ds → Falls ds i → ⊥
+
+-- a refusal of that number at that place, where n chain records stand before what is looked at
 pub data Blames (s : List ℕ) : ℕ → ℕ → Type 0 where
   -- 1: the length, at 0
   inLength : (length s ≡ 0) ⊎ (maxBytes < length s) → Blames s 1 0
-  -- 2: missing bytes, at the table's length
-  inMissing : Blames s 2 (length s)
+  -- 2: missing bytes, at the table's length: before the end record, in a chain record, in the end record
+  inMark : (n : ℕ) → n ≤ maxChains → Chains s n → length s < recordStart s n + 2 → Blames s 2 (length s)
+  inChain : (n : ℕ) → n < maxChains → Chains s (suc n) → length s < recordStart s (suc n) → Blames s 2 (length s)
+  inEnd : (n : ℕ) → EndMark s n → length s < afterEnd (recordStart s n) → Blames s 2 (length s)
   -- 3: a record's mark, or a task's
-  inMark : (n : ℕ) → NoRecord s n → Blames s 3 (startOf s n)
-  inTaskMark : (n i : ℕ) → TaskThere s n i 2 → (markOf (word 2 s (taskPlace s n i)) ≡ Task → ⊥) → Blames s 3 (taskPlace s n i)
+  atMark : (n : ℕ) → NoRecord s n → Blames s 3 (recordStart s n)
+  atTaskMark : (n i : ℕ) → TaskThere s n i 2 → (markOf (word 2 s (taskPlace s n i)) ≡ Task → ⊥) → Blames s 3 (taskPlace s n i)
   -- 4: an id that is 0 or used earlier
-  inId : (n : ℕ) → ChainRecord s n → (idAt s (startOf s n) ≡ 0) ⊎ ((m : ℕ) × (m < n) × (idAt s (startOf s m) ≡ idAt s (startOf s n))) → Blames s 4 (idPlace (startOf s n))
+  atId : (n : ℕ) → ChainRecord s n → (idAt s (recordStart s n) ≡ 0) ⊎ ((m : ℕ) × (m < n) × (idAt s (recordStart s m) ≡ idAt s (recordStart s n)))
+      → Blames s 4 (idPlace (recordStart s n))
   -- 5: a kind above 1, or else an overload byte
-  inKind : (n : ℕ) → ChainRecord s n → 1 < kindAt s (startOf s n) → Blames s 5 (kindPlace (startOf s n))
-  inOverload : (n : ℕ) → ChainRecord s n → kindAt s (startOf s n) ≤ 1 → 1 < overloadAt s (startOf s n) → Blames s 5 (overloadPlace (startOf s n))
+  atKind : (n : ℕ) → ChainRecord s n → 1 < kindAt s (recordStart s n) → Blames s 5 (kindPlace (recordStart s n))
+  atOverload : (n : ℕ) → ChainRecord s n → kindAt s (recordStart s n) ≤ 1 → 1 < overloadAt s (recordStart s n) → Blames s 5 (overloadPlace (recordStart s n))
   -- 6, 7: a deadline, a gap
-  inDeadline : (n : ℕ) → ChainRecord s n → outside 1 maxDeadline (deadlineAt s (startOf s n)) ≡ true → Blames s 6 (deadlinePlace (startOf s n))
-  inGap : (n : ℕ) → ChainRecord s n → maxGap < gapAt s (startOf s n) → Blames s 7 (gapPlace (startOf s n))
+  atDeadline : (n : ℕ) → ChainRecord s n → outside 1 maxDeadline (deadlineAt s (recordStart s n)) ≡ true → Blames s 6 (deadlinePlace (recordStart s n))
+  atGap : (n : ℕ) → ChainRecord s n → maxGap < gapAt s (recordStart s n) → Blames s 7 (gapPlace (recordStart s n))
   -- 28: a list length
-  inListLength : (n : ℕ) → ChainRecord s n → outside 1 maxDistances (listedAt s (startOf s n)) ≡ true → Blames s 28 (listedPlace (startOf s n))
+  atListLength : (n : ℕ) → ChainRecord s n → outside 1 maxDistances (listedAt s (recordStart s n)) ≡ true → Blames s 28 (listedPlace (recordStart s n))
   -- 9: a task count, or too many tasks so far
-  inTaskCount : (n : ℕ) → ChainRecord s n → (outside 1 maxTasks (tasksAt s (startOf s n)) ≡ true) ⊎ (maxAllTasks < tasksOf s (suc n)) → Blames s 9 (tasksPlace (startOf s n))
+  atTaskCount : (n : ℕ) → ChainRecord s n → (outside 1 maxTasks (tasksAt s (recordStart s n)) ≡ true) ⊎ (maxAllTasks < tasksBefore s (suc n))
+      → Blames s 9 (tasksPlace (recordStart s n))
   -- 29: the first distance that falls or is too large
-  inDistance : (n j : ℕ) → ListThere s n → FirstFall (distancesAt s (startOf s n)) j → Blames s 29 (listPlace (startOf s n) + 4 * j)
-  -- 30: the last distance, which is 0
-  inLast : (n : ℕ) → ListThere s n → getD (distancesAt s (startOf s n)) (listedAt s (startOf s n) - 1) 0 ≡ 0 → Blames s 30 (listPlace (startOf s n) + 4 * (listedAt s (startOf s n) - 1))
-  -- 31: the gap, which is known, and times j + 1 below distance j
-  inSmallGap : (n j : ℕ) → ListThere s n → 0 < gapAt s (startOf s n) → j < listedAt s (startOf s n) → gapAt s (startOf s n) * (j + 1) < getD (distancesAt s (startOf s n)) j 0 → Blames s 31 (gapPlace (startOf s n))
+  atDistance : (n j : ℕ) → ListThere s n → FirstFall (distancesAt s (recordStart s n)) j → Blames s 29 (listPlace (recordStart s n) + 4 * j)
+  -- 30: the last distance, which is 0, where none falls
+  atLast : (n : ℕ) → ListThere s n → Rises (distancesAt s (recordStart s n)) → getD (distancesAt s (recordStart s n)) (listedAt s (recordStart s n) - 1) 0 ≡ 0
+      → Blames s 30 (listPlace (recordStart s n) + 4 * (listedAt s (recordStart s n) - 1))
+  -- 31: the gap, which is known, and j + 1 times it is below distance j, where none falls and the last is not 0
+  atSmallGap : (n j : ℕ) → ListThere s n → Rises (distancesAt s (recordStart s n)) → 0 < getD (distancesAt s (recordStart s n)) (listedAt s (recordStart s n) - 1) 0
+      → 0 < gapAt s (recordStart s n) → j < listedAt s (recordStart s n) → gapAt s (recordStart s n) * (j + 1) < getD (distancesAt s (recordStart s n)) j 0
+      → Blames s 31 (gapPlace (recordStart s n))
   -- 10: a priority of 0, or else a cost
-  inPriority : (n i : ℕ) → TaskThere s n i 8 → priorityAt s (taskPlace s n i) ≡ 0 → Blames s 10 (priorityPlace (taskPlace s n i))
-  inCost : (n i : ℕ) → TaskThere s n i 8 → 1 ≤ priorityAt s (taskPlace s n i) → outside 1 maxCost (costAt s (taskPlace s n i)) ≡ true → Blames s 10 (costPlace (taskPlace s n i))
+  atPriority : (n i : ℕ) → TaskThere s n i 8 → priorityAt s (taskPlace s n i) ≡ 0 → Blames s 10 (priorityPlace (taskPlace s n i))
+  atCost : (n i : ℕ) → TaskThere s n i 8 → 1 ≤ priorityAt s (taskPlace s n i) → outside 1 maxCost (costAt s (taskPlace s n i)) ≡ true → Blames s 10 (costPlace (taskPlace s n i))
   -- 11: a 17th chain, at its mark; no chain or a wrong count, at the count; bytes after the end, at the first of them
-  inSeventeenth : Chains s (suc maxChains) → startOf s maxChains + 2 ≤ length s → Blames s 11 (startOf s maxChains)
-  inCount : (n : ℕ) → EndRecord s n → (n ≡ 0) ⊎ (countAt s (startOf s n) ≡ n → ⊥) → Blames s 11 (countPlace (startOf s n))
-  inTrailing : (n : ℕ) → EndRecord s n → countAt s (startOf s n) ≡ n → afterEnd (startOf s n) < length s → Blames s 11 (afterEnd (startOf s n))
+  atSeventeenth : Chains s (suc maxChains) → recordStart s maxChains + 2 ≤ length s → Blames s 11 (recordStart s maxChains)
+  atCount : (n : ℕ) → EndRecord s n → (n ≡ 0) ⊎ (countAt s (recordStart s n) ≡ n → ⊥) → Blames s 11 (countPlace (recordStart s n))
+  atTrailing : (n : ℕ) → EndRecord s n → 1 ≤ n → countAt s (recordStart s n) ≡ n → afterEnd (recordStart s n) < length s → Blames s 11 (afterEnd (recordStart s n))
 
 -- the numbers that a table is refused with: 1 to 7, 9 to 11, 28 to 31
 abbrev pub TableRefusal : ℕ → Type 0
 TableRefusal n = ((1 ≤ n) × (n ≤ 7)) ⊎ ((9 ≤ n) × (n ≤ 11)) ⊎ ((28 ≤ n) × (n ≤ 31))
 
--- such a number, at a place within the table, or at 0 for 1 and at the table's length for 2
+-- so such a number, at a place within the table, or at 0 for 1 and at the table's length for 2
 pub record Placed (s : List ℕ) (n place : ℕ) : Type 0 where
   pub number : TableRefusal n
   pub within : (place < length s) ⊎ ((n ≡ 1) × (place ≡ 0)) ⊎ ((n ≡ 2) × (place ≡ length s))

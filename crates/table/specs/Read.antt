@@ -1,4 +1,4 @@
--- A stored table, read from the first byte; the first fault decides, its number and its place (01, 'Stored table').
+-- A stored table, read from the first byte; the first fault decides, its number (01, 'Stored table') and its place (02, request 1).
 use Prim.Native.Nat.{ℕ, zero, suc, _+_}
 use mathlib.Core.List.{List}
 use mathlib.Core.Bool.{_||_}

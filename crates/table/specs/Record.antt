@@ -57,7 +57,7 @@ listPlace at = at + 16
 
 -- where the tasks of a record at `at` start, after so many distances, and how long a record is
 abbrev pub afterList : ℕ → ℕ → ℕ
-afterList at listed = at + 16 + 4 * listed
+afterList at listed = listPlace at + 4 * listed
 
 abbrev pub recordLength : ℕ → ℕ → ℕ
 recordLength listed tasks = 16 + 4 * listed + 8 * tasks

@@ -204,7 +204,8 @@ fn gap_fault(s: &[u8], at: usize, n: usize, place: usize) -> Verdict
     Verdict::Accepted
 }
 
-// 29, 30 or 31: the n distances from `at` on, and the gap, which stands at `place`.
+// 29, 30 or 31: the n distances from `at` on, and the gap, which stands at `place`. The first two are both asked for, so that their
+// order is the match alone.
 fn distances_fault(s: &[u8], at: usize, n: usize, place: usize) -> Verdict
     requires { ⌜ (1 ≤ n) × (n ≤ maxDistances) × (at + 4 * n ≤ length (now s)) × (place + 4 ≤ length (now s)) ⌝ }
     ensures { λ r. ⌜ r ≡ distancesFault (word 4 (now (s .entry)) place) (spaced (word 4 (now (s .entry))) 4 n at) at place ⌝ }

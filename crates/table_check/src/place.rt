@@ -59,7 +59,7 @@ fn chain_length(s: &[u8], start: usize) -> usize {
 }
 
 // How many distances it lists; 0 where its fixed part is not all there.
-fn distances(s: &[u8], start: usize) -> usize {
+fn listed(s: &[u8], start: usize) -> usize {
     if !is_there(s, start, 16) {
         return 0;
     }
@@ -139,10 +139,19 @@ fn put_field(s: &[u8], p: Place) -> bool {
     match record_at(s, p.start) {
         Record::Chain => {
             let chain = put(b"chain record ") && put_number(p.record) && put(b", ");
-            chain && put_chain(distances(s, p.start), p.offset)
+            chain && put_chain(listed(s, p.start), p.offset)
         }
         Record::End => put_end(p.offset),
         _ => put(b"record ") && put_number(p.record) && put(b", mark"),
+    }
+}
+
+// Where the bytes run out before a mark: no byte of it is left, or one.
+fn put_no_mark(p: Place) -> bool {
+    if p.offset == 0 {
+        put(b"before the end record")
+    } else {
+        put(b"in the mark of record ") && put_number(p.record)
     }
 }
 
@@ -151,7 +160,7 @@ fn put_missing(s: &[u8], p: Place) -> bool {
     match record_at(s, p.start) {
         Record::Chain => put(b"in chain record ") && put_number(p.record),
         Record::End => put(b"in the end record"),
-        _ => put(b"record ") && put_number(p.record) && put(b" has no mark"),
+        _ => put_no_mark(p),
     }
 }
 
@@ -164,7 +173,7 @@ fn put_length(n: usize) -> bool {
 }
 
 // The place that a refusal of this number has at this offset.
-pub fn put_place(s: &[u8], number: u32, at: usize) -> bool {
+pub(crate) fn put_place(s: &[u8], number: u32, at: usize) -> bool {
     match number {
         1 => put_length(s.len()),
         2 => {

@@ -2,7 +2,7 @@
 use crate::output::put;
 
 // A number that is not a table's has none.
-pub fn put_sentence(number: u32) -> bool {
+pub(crate) fn put_sentence(number: u32) -> bool {
     match number {
         1 => put(b"the table's length is 0, above 1,284 or above its buffer"),
         2 => put(b"bytes run out inside a record or before the end record"),

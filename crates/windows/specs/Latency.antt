@@ -104,7 +104,7 @@ latencyIn t id = Refused 12 when eqb (findOf t id) (t .count) else boundAt t (fi
 unfoldable pub latencyOf : List ℕ → ℕ → Answer
 latencyOf s id = byVerdict Refused (readTable s .verdict) (latencyIn (tableOf s) id)
 
--- document 01's number for each answer, 0 or the refusal, and its values: K, latency, late, margin, or none
+-- the documents' number for each answer, 0 or the refusal, and its values: K, latency, late, margin, or none
 abbrev pub numberOf : Answer → ℕ
 numberOf (Figures close latency late margin) = 0
 numberOf (Refused n) = n

@@ -1,8 +1,8 @@
 -- The fixed part is there.
 use borrow.Author.Tests.{not-false}
 use borrow.Author.Needs.{needs}
-use Rattle.table_check.proofs.place.distances.Statement.{statement}
-use Rattle.table_check.proofs.place.distances.Tie as tie
+use Rattle.table_check.proofs.place.listed.Statement.{statement}
+use Rattle.table_check.proofs.place.listed.Tie as tie
 
 is-there-requires : tie.Need-is-there-requires
 is-there-requires c κs = search needs
@@ -16,5 +16,5 @@ listed-at-requires c κs = c .before .is-there .ensures (not-false _ (c .if1 .le
 returns-2 : tie.Need-returns-2
 returns-2 c = search needs
 
-pub distances-spec : {M : Type 1} → statement M
-distances-spec = tie.close (tie.spec is-there-requires returns listed-at-requires returns-2)
+pub listed-spec : {M : Type 1} → statement M
+listed-spec = tie.close (tie.spec is-there-requires returns listed-at-requires returns-2)
