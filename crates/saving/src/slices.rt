@@ -1,4 +1,5 @@
 // Byte slices: compared, copied and cleared.
+use table::u32_at;
 use table::u64_at;
 ghost use mathlib.Core.Path.{_≡_};
 ghost use mathlib.Core.Bool.{true};
@@ -6,6 +7,14 @@ ghost use Prim.Native.Nat.{ℕ, _+_, _≤_, _<_};
 ghost use lib.ListN.{length, getD, replicate};
 ghost use Rattle.saving.specs.Save.{same as sameOf, splice, written};
 ghost use Rattle.saving.specs.code.Begins.{Begins};
+
+// Whether the two have the same four bytes from i on.
+fn same_four(a: &[u8], b: &[u8], i: usize) -> bool
+    requires { ⌜ (i + 4 ≤ length (now a)) × (i + 4 ≤ length (now b)) ⌝ }
+    ensures { λ r. ⌜ (r ≡ true → (j : ℕ) → j < 4 → getD (now (a .entry)) (i + j) 0 ≡ getD (now (b .entry)) (i + j) 0) ⌝ }
+{
+    u32_at(a, i) == u32_at(b, i)
+}
 
 // Whether the two have the same eight bytes from i on.
 fn same_eight(a: &[u8], b: &[u8], i: usize) -> bool
@@ -15,7 +24,7 @@ fn same_eight(a: &[u8], b: &[u8], i: usize) -> bool
     u64_at(a, i) == u64_at(b, i)
 }
 
-// How far the two agree for certain, eight bytes at a time.
+// How far the two agree for certain: eight bytes at a time, and four at last, since a record's length is a multiple of four.
 fn agree(a: &[u8], b: &[u8]) -> usize
     requires { ⌜ length (now a) ≡ length (now b) ⌝ }
     ensures { λ r. ⌜ (r ≤ length (now (a .entry))) × ((j : ℕ) → j < r → getD (now (a .entry)) j 0 ≡ getD (now (b .entry)) j 0) ⌝ }
@@ -23,6 +32,9 @@ fn agree(a: &[u8], b: &[u8]) -> usize
     let mut i: usize = 0;
     while 8 <= a.len() - i && same_eight(a, b, i) {
         i += 8;
+    }
+    if 4 <= a.len() - i && same_four(a, b, i) {
+        i += 4;
     }
     i
 }
