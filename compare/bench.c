@@ -16,10 +16,11 @@
 #include <time.h>
 
 enum { LATENCY, MISSES, SEGMENT, CHECK, SAVE, REPORT };
-enum { MOST_CALLS = 512, MOST_TABLES = 32, ROUNDS = 25 };
+enum { MOST_CALLS = 512, MOST_TABLES = 32, ROUNDS = 200 };
 enum { ROOM = 16 + MISHTODRAN_LONGEST_REPORT }; /* of an answer, and of a report's text after it */
 
-static const double LEAST_SECONDS = 0.02; /* of one run: many short ones find a quiet moment */
+static const double LEAST_SECONDS = 0.005; /* of one run: many short ones find a quiet moment */
+static const double MOST_SECONDS = 3;      /* of all runs of a line, but for the first two */
 
 struct stored {
     uint8_t bytes[MOST_GENERATED];
@@ -131,13 +132,14 @@ static bool agree(const struct bench_case *what)
     return true;
 }
 
-/* Both in turn, so that neither has the quieter moments. What takes long is run once more only. Gives back the
-   microseconds of one call to an entry of mishtodran.h. */
+/* Both in turn, so that neither has the quieter moments. Gives back the microseconds of one call to an entry of
+   mishtodran.h. */
 static double measure(const struct bench_case *what)
 {
     unsigned long times[2] = {times_needed(&proved, what), times_needed(&plain, what)};
     double best[2] = {1e9, 1e9}; /* seconds a run */
-    for (unsigned i = 0; i < ROUNDS && (i == 0 || best[0] + best[1] < 1); i++) {
+    double start = now();
+    for (unsigned i = 0; i < ROUNDS && (i == 0 || now() - start < MOST_SECONDS); i++) {
         best[0] = least(best[0], seconds_for(&proved, what, times[0]));
         best[1] = least(best[1], seconds_for(&plain, what, times[1]));
     }
