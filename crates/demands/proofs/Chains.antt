@@ -29,8 +29,8 @@ use Rattle.misses.specs.Misses.{missesBeside, missesAt, missesOf}
 use Rattle.misses.specs.declared.Answer.the-variants.{Refused as Unanswered}
 use Rattle.misses.proofs.Answers as misses
 use Rattle.saving.proofs.Verdicts.{read-accepted}
-use Rattle.saving.proofs.Parts.{rowIn}
-use Rattle.saving.proofs.Records.{record-row}
+use Rattle.slices.proofs.Parts.{rowIn}
+use Rattle.slices.proofs.Records.{record-row}
 use Rattle.demands.specs.Chains.{IsTable, Has, chainNumber, chainOf, recordBytes}
 use Rattle.demands.specs.Chains as chains
 

@@ -24,7 +24,7 @@ use Rattle.misses.specs.Overloads.{overloads}
 use Rattle.misses.specs.Misses.{missesBeside}
 use Rattle.misses.proofs.Views.{alike-misses}
 use Rattle.table.specs.Read.{tableOf}
-use Rattle.saving.proofs.Parts.{rowIn}
+use Rattle.slices.proofs.Parts.{rowIn}
 use Rattle.demands.specs.Chains.{IsTable, Has, chainOf, othersOf}
 use Rattle.demands.specs.Others.{SameSegment, Agrees, Besides, SameBesides, Unmoved, Reordered, SameWork, RegroupedTasks}
 use Rattle.demands.proofs.Regroupings.{grouped-actives, grouped-defers, grouped-first}
