@@ -10,8 +10,9 @@ use lib.Dec.{eqb}
 use lib.ListN.{length, getD}
 use lib.Seq.{getD-take, length-take-le}
 use borrow.Author.Tests.{ne-eqb, eqb-true}
+use Rattle.search.specs.Lists.{keep}
 use Rattle.search.proofs.Find.{first-le, first-hit, first-miss}
-use Rattle.search.proofs.Keeping.{keep, keep-none, keep-one, keep-rest}
+use Rattle.search.proofs.Keeping.{keep-none, keep-one, keep-rest}
 use Rattle.table.specs.Record.{blank}
 use Rattle.table.specs.Find.{rowOf, rows, findOf}
 use Rattle.table.specs.code.Good.{GoodTable}

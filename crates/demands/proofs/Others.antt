@@ -7,8 +7,7 @@ use mathlib.Core.Logic.{⊎-elim}
 use native.Mathlib.Omega.{arith}
 use lib.ListN.{length, take}
 use borrow.Author.Tests.{eqb-true}
-use Rattle.search.specs.Lists.{sumOf, Paired, some}
-use Rattle.search.proofs.Keeping.{keep}
+use Rattle.search.specs.Lists.{sumOf, Paired, some, keep}
 use Rattle.search.proofs.Pairing.{paired-keep, paired-weaker, paired-cons, paired-map, paired-order, paired-length, paired-single}
 use Rattle.table.specs.Find.{rows}
 use Rattle.table.specs.declared.Row.{Row}
