@@ -1,2 +1,5 @@
+pub mod Rest
 pub mod Lookup
 pub mod Rules
+pub mod Leasts
+pub mod Orders

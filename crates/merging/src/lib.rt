@@ -1,7 +1,10 @@
 // Merge of two edited copies of a table.
+mod conflicts;
+mod order;
 mod states;
 
-pub use states::in_conflict;
+pub use conflicts::least_conflict;
+pub use order::ids_in_order;
 pub use states::taken;
 
 // What a merge answers.
