@@ -3,3 +3,6 @@ pub mod Lookup
 pub mod Rules
 pub mod Leasts
 pub mod Orders
+pub mod Sizes
+pub mod Results
+pub mod Judgements

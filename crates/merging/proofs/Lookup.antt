@@ -1,14 +1,14 @@
 -- The state of an id in an accepted table. Assumes nothing.
 use Prim.Native.Nat.{ℕ, _+_, _<_, _≤_}
 use native.Mathlib.Omega.{arith}
-use mathlib.Core.Path.{_≡_, refl, ap, _∙_}
+use mathlib.Core.Path.{_≡_, ap, _∙_}
 use mathlib.Core.List.{List, []}
 use mathlib.Core.Bool.{true}
-use lib.Dec.{eqb, ltb}
+use lib.Dec.{eqb}
 use borrow.Author.Tests.{lt-ltb, le-ltb, eq-eqb}
 use Rattle.search.proofs.Choice.{when-yes, when-no}
 use Rattle.search.proofs.Find.{first-is, first-none}
-use Rattle.table.specs.Find.{rowOf, findOf, used}
+use Rattle.table.specs.Find.{rowOf, findOf}
 use Rattle.table.specs.Place.{placeOf}
 use Rattle.table.specs.Read.{tableOf}
 use Rattle.slices.specs.Stored.{recordOf}

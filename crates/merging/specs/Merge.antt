@@ -10,7 +10,7 @@ use Rattle.search.specs.Choice.{_when_else_, byNumber}
 use Rattle.search.specs.Lists.{keep}
 use Rattle.table.specs.Bytes.{bytesOf}
 use Rattle.table.specs.Read.{unless, readTable}
-use Rattle.merging.specs.Versions.{Versions, byVersions, stateOf, startOf}
+use Rattle.merging.specs.Versions.{Versions, three, byVersions, startOf}
 use Rattle.merging.specs.Rule.{byRule, takenOf, order, conflictAbove}
 use Rattle.merging.specs.declared.Merged.{Merged}
 use Rattle.merging.specs.declared.Merged.the-variants.{Used, Ancestor, First, Second, Conflict, NoRoom, Result}
@@ -55,26 +55,26 @@ endRecord n = bytesOf 2 20037 ++ bytesOf 2 n
 unfoldable pub resultOf : Versions → List ℕ
 resultOf v = flatten (takenRecords v) ++ endRecord (length (takenRecords v))
 
--- into a buffer with that much room: the three tables' own numbers, 32 with the smallest id in conflict, 24, then a table's numbers on
--- the result
+-- into a buffer with that much room: 24, then a table's numbers on the result
+unfoldable pub fitted : ℕ → List ℕ → Merged
+fitted room result = NoRoom when ltb room (length result) else unless Result (readTable result .verdict) (Used (length result))
+
+-- the three tables' own numbers, 32 with the smallest id in conflict, and then those
 unfoldable pub mergedOf : ℕ → Versions → Merged
 mergedOf room v =
     unless Ancestor (readTable (v .ancestor) .verdict)
     (unless First (readTable (v .first) .verdict)
     (unless Second (readTable (v .second) .verdict)
-    (byNumber Conflict (conflictAbove v 0)
-    (NoRoom when ltb room (length (resultOf v)) else
-    unless Result (readTable (resultOf v) .verdict) (Used (length (resultOf v)))))))
+    (byNumber Conflict (conflictAbove v 0) (fitted room (resultOf v)))))
 
--- the whole buffer afterwards: the result first, and its rest stays; refused, every byte stays
-unfoldable pub bufferAfter : List ℕ → Versions → List ℕ
-bufferAfter buffer v =
-    resultOf v ++ drop (length (resultOf v)) buffer when eqb (numberOf (mergedOf (length buffer) v)) 0 else buffer
+-- the whole buffer after an answer: the result first, and its rest stays; refused, every byte stays
+abbrev pub bufferAfter : Merged → List ℕ → List ℕ → List ℕ
+bufferAfter answer result buffer = result ++ drop (length result) buffer when eqb (numberOf answer) 0 else buffer
 
 -- what a merge does
 pub record Merges (v : Versions) (buffer : List ℕ) (answer : Merged) (after : List ℕ) : Type 0 where
   pub answers : answer ≡ mergedOf (length buffer) v
-  pub leaves : after ≡ bufferAfter buffer v
+  pub leaves : after ≡ bufferAfter answer (resultOf v) buffer
 
 -- The conflicts
 
@@ -106,7 +106,7 @@ chosenPlace v id first second =
 
 -- the three as they are lent
 abbrev pub versions : RefT (List ℕ) → RefT (List ℕ) → RefT (List ℕ) → Versions
-versions ancestor first second = record { ancestor = now ancestor; first = now first; second = now second }
+versions ancestor first second = three (now ancestor) (now first) (now second)
 
 -- r is the record taken, as a part of one of the lent copies
 pub record Chosen (ancestor first second : RefT (List ℕ)) (id : ℕ) (r : RefT (List ℕ)) : Type 0 where

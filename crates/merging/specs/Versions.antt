@@ -13,6 +13,9 @@ pub record Versions : Type 0 where
   pub first : List ℕ
   pub second : List ℕ
 
+abbrev pub three : List ℕ → List ℕ → List ℕ → Versions
+three ancestor first second = record { ancestor = ancestor; first = first; second = second }
+
 -- the copies the other way round
 abbrev pub swapped : Versions → Versions
 swapped v = record { ancestor = v .ancestor; first = v .second; second = v .first }

@@ -3,7 +3,6 @@ use slices::same;
 use table::u32_from_u16;
 ghost use mathlib.Core.Path.{_≡_};
 ghost use Rattle.table.specs.code.Taken.{Taken};
-ghost use Rattle.merging.specs.Versions.{Versions};
 ghost use Rattle.merging.specs.Rule.{conflictOf};
 ghost use Rattle.merging.specs.Merge.{versions};
 ghost use Rattle.merging.specs.code.Parts.{AllTaken, StatePart, TakenPart};

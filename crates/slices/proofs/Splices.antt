@@ -19,6 +19,10 @@ put-length s at x h = splice-length s at (length x) x h ∙ omega arith
 pub splice-same : (s : List ℕ) (at n : ℕ) → splice s at n (take n (drop at s)) ≡ s
 splice-same s at n = rw (← take-add at n s) (take-append-drop (at + n) s)
 
+-- bytes put from the first on
+pub splice-first : (buffer result : List ℕ) → splice buffer 0 (length result) result ≡ result ++ drop (length result) buffer
+splice-first buffer result = let e : 0 + length result ≡ length result = omega arith in rw e
+
 -- any bytes begin with none
 pub begins-none : (out : List ℕ) → Begins out []
 begins-none out = record { first = refl }

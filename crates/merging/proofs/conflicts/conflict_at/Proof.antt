@@ -1,7 +1,6 @@
 -- Case by case.
-use mathlib.Core.Path.{_≡_, ap, sym, _∙_}
+use mathlib.Core.Path.{ap, sym, _∙_}
 use mathlib.Core.Bool.{Bool, _&&_}
-use lib.Dec.{ltb}
 use borrow.Author.Tests.{lt-ltb, le-ltb}
 use Rattle.search.proofs.Choice.{when-yes, when-no}
 use Rattle.merging.specs.Rule.{conflictOf}

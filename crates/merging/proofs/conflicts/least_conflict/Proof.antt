@@ -1,8 +1,7 @@
 -- The smallest so far, and those from i on, give the smallest of all.
 use Prim.Native.Nat.{ℕ, _+_, _≤_, _-_}
-use mathlib.Core.Path.{_≡_, refl, ap, sym, _∙_}
+use mathlib.Core.Path.{_≡_, ap, sym, _∙_}
 use mathlib.Core.Bool.{Bool, _&&_}
-use mathlib.Core.List.{List, []}
 use denote.Ref.{now}
 use lib.Dec.{ltb}
 use lib.ListN.{length, drop, getD}

@@ -1,14 +1,13 @@
 -- The id is put at `end` where it is not among the first n, which stay.
 use Prim.Native.Nat.{_+_}
-use mathlib.Core.Path.{_≡_, refl, ap, sym, _∙_}
+use mathlib.Core.Path.{refl, ap, sym, _∙_}
 use mathlib.Core.List.{[], _∷_, _++_, append-nil}
-use mathlib.Core.Bool.{Bool, not}
+use mathlib.Core.Bool.{not}
 use denote.Ref.{now}
-use lib.ListN.{take, set, length-set}
+use lib.ListN.{take, length-set}
 use lib.Seq.{length-take-le, take-set-le, take-suc-set}
 use native.Mathlib.Omega.{arith}
 use native.Mathlib.Numerals.{add-one}
-use Rattle.search.specs.Choice.{_when_else_}
 use Rattle.search.proofs.Choice.{when-yes, when-no}
 use borrow.Author.Needs.{needs}
 use Rattle.merging.proofs.order.add.Statement.{statement}

@@ -3,8 +3,7 @@ use Prim.Native.Nat.{_+_, _≤_, _-_}
 use mathlib.Core.Path.{_≡_, refl, ap, sym, _∙_}
 use mathlib.Core.Bool.{Bool, _||_}
 use denote.Ref.{now}
-use lib.ListN.{length, drop, getD}
-use lib.Dec.{eqb}
+use lib.ListN.{length, drop}
 use lib.Seq.{drop-length}
 use borrow.Author.Needs.{needs}
 use borrow.Author.Tests.{eq-eqb, ne-eqb}

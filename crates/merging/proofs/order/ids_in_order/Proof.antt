@@ -1,10 +1,8 @@
 -- Each table's ids are joined to those before it.
-use Prim.Native.Nat.{_+_, _≤_}
-use mathlib.Core.Path.{_≡_, ap, sym, _∙_}
+use mathlib.Core.Path.{ap, _∙_}
 use mathlib.Core.List.{List}
 use Prim.Native.Nat.{ℕ}
 use denote.Ref.{now}
-use lib.ListN.{length, take}
 use native.Mathlib.Omega.{arith}
 use Rattle.merging.specs.Versions.{idsOf}
 use Rattle.merging.specs.Rule.{joined, order}

@@ -6,7 +6,6 @@ use mathlib.Core.Bool.{Bool, not}
 use denote.Ref.{now}
 use lib.ListN.{length, take, drop}
 use lib.Seq.{drop-length}
-use borrow.Author.Needs.{needs}
 use native.Mathlib.Omega.{arith}
 use Rattle.search.specs.Choice.{_when_else_}
 use Rattle.search.specs.Lists.{keep}

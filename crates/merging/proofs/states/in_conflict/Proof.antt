@@ -1,11 +1,8 @@
 -- The rule, test by test, over the states that `state` hands back.
-use mathlib.Core.Path.{_≡_, ap, ap₂, sym, _∙_}
-use mathlib.Core.Bool.{true, false, not}
-use mathlib.Core.List.{[]}
-use denote.Ref.{now, ptr}
+use mathlib.Core.Path.{_≡_, ap₂, sym, _∙_}
+use denote.Ref.{now}
 use Rattle.slices.specs.Slices.{same}
 use Rattle.merging.specs.Versions.{stateOf}
-use Rattle.merging.specs.Merge.{versions}
 use Rattle.merging.proofs.Rules.{by-alike, by-second, by-last}
 use borrow.Author.Needs.{needs}
 use Rattle.merging.proofs.states.in_conflict.Statement.{statement}

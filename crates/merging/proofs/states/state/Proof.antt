@@ -1,15 +1,14 @@
 -- At the loop's head `at` is the place of `chain`, and no chain before it bears the id.
 use Prim.Native.Nat.{ℕ, _+_, _≤_, _<_, _-_}
-use mathlib.Core.Path.{_≡_, refl, ap, sym, _∙_}
+use mathlib.Core.Path.{_≡_, ap, sym, _∙_}
 use mathlib.Core.Bool.{true}
-use denote.Ref.{now, ptr}
+use denote.Ref.{now}
 use lib.Dec.{eqb}
-use lib.ListN.{take, drop}
 use borrow.Author.Count.{below-more}
 use borrow.Author.Needs.{needs}
-use borrow.Author.Tests.{eq-eqb, eqb-true}
+use borrow.Author.Tests.{eqb-true}
 use native.Mathlib.Omega.{arith}
-use Rattle.table.specs.Record.{lengthAt, rowAt}
+use Rattle.table.specs.Record.{rowAt}
 use Rattle.table.specs.Find.{rowOf}
 use Rattle.table.specs.Place.{lengthOf, placeOf}
 use Rattle.table.specs.Read.{tableOf}
