@@ -1,8 +1,9 @@
 /* Holds the entries of mishtodran.h against the plain analyzer, on generated tables.
    Usage: compare SEED N [walked]
 
-   Makes N tables from SEED, asks both every question about each, and stops at the first difference, with the table and
-   the call. With `walked` the tables are those on which counting arrivals one by one takes seconds. */
+   Makes N tables from SEED, and for each some to be merged, asks both every question about them, and stops at the first
+   difference, with the tables and the call. With `walked` the tables are those on which counting arrivals one by one
+   takes seconds, and nothing is merged. */
 #include "../include/mishtodran.h"
 #include "analyzer.h"
 #include "generate.h"
@@ -512,8 +513,8 @@ struct merged {
     uint8_t buffer[MERGE_ROOM + 32]; /* the lent buffer and what follows it */
 };
 
-/* The tables under way, to be shown where a library crashes on them. */
-static struct triple merge_under_way;
+/* The tables under way, to be shown where a library crashes on them; NULL between merges. */
+static const struct triple *merge_under_way;
 
 static void print_triple(const struct triple *triple)
 {
@@ -599,7 +600,7 @@ static uint32_t conflict(const struct triple *triple, uint32_t above, size_t ans
     return plain.returned ? 0 : get32(plain.answer);
 }
 
-/* All conflicts, then above numbers just below the first, beyond any id, and any. */
+/* All conflicts, then those above the number before the first, above one beyond any id, and above any number. */
 static void ask_conflicts(struct source *source, const struct triple *triple)
 {
     uint32_t first = conflict(triple, 0, 4);
@@ -621,15 +622,17 @@ static unsigned decider(const struct triple *triple)
     return TOGETHER;
 }
 
-/* With the copies as they are: into the room given and into more than enough, with answer buffers of all lengths. */
+/* With the copies as they are: into the room given and into more than enough, and with an answer buffer of some length
+   up to 8. */
 static void compare_merge(struct source *source, const struct triple *triple)
 {
     unsigned by = decider(triple);
-    merge_under_way = *triple;
+    merge_under_way = triple;
     note(decided[by], merge(triple, triple->room, 4));
     note(decided[by], merge(triple, MERGE_ROOM, 4));
     merge(triple, triple->room, draw(source, 0, 8));
     ask_conflicts(source, triple);
+    merge_under_way = NULL;
 }
 
 static void compare_both_ways(struct source *source, const struct triple *triple)
@@ -738,8 +741,8 @@ static void on_crash(int number)
 {
     printf("a crash, signal %d\n", number);
     print_hex("table", under_way.bytes, under_way.length);
-    puts("the last merge");
-    print_triple(&merge_under_way);
+    if (merge_under_way)
+        print_triple(merge_under_way);
     exit(1);
 }
 

@@ -1078,12 +1078,18 @@ static const struct family *any_family(struct source *source)
     return family;
 }
 
+static struct generated stored(const struct made_table *table, const char *family)
+{
+    struct generated found = {.family = family, .damage = ""};
+    found.length = encode(table, found.bytes);
+    return found;
+}
+
 struct generated generate(struct source *source)
 {
     const struct family *family = any_family(source);
-    struct generated found = {.family = family->name, .damage = ""};
     struct made_table table = family->make(source);
-    found.length = encode(&table, found.bytes);
+    struct generated found = stored(&table, family->name);
     if (one_in(source, table.chains == 17 ? 2 : 4)) {
         spoil_together(source, &found, table.chains);
     } else if (one_in(source, 3)) {
@@ -1097,7 +1103,6 @@ struct generated generate(struct source *source)
 /* A chain with a last distance of 1 to 3, or eight in a burst, before a wide window of another. */
 struct generated generate_walked(struct source *source)
 {
-    struct generated found = {.family = "walked", .damage = ""};
     struct made_table table = {0};
     struct made_chain *b = add_chain(&table, (uint32_t)draw(source, 1, LATEST), LATEST, LATEST);
     b->asynchronous = one_in(source, 2);
@@ -1118,8 +1123,7 @@ struct generated generate_walked(struct source *source)
     split_cost(rare, 6, draw(source, 1, 3000000));
     if (one_in(source, 2))
         make_late(source, &table, 0);
-    found.length = encode(&table, found.bytes);
-    return found;
+    return stored(&table, "walked");
 }
 
 /* ---- Tables to be merged ---- */
@@ -1191,6 +1195,7 @@ struct story {
     struct range chains, tasks, listed;
 };
 
+/* The last five make results around the limits: 16 chains, 64 tasks, 1,284 bytes. */
 static const struct story stories[] = {
     {"nothing edited", 3, 1 << KEPT, {1, 16}, {1, 4}, {1, 8}},
     {"first copy edited", 6, BY_FIRST, {1, 16}, {1, 4}, {1, 8}},
@@ -1215,12 +1220,12 @@ static const struct story *any_story(struct source *source)
     return story;
 }
 
-/* One of these fates; every other chain is kept where that is one of them. */
+/* One of these fates; half of the chains or more are kept where that is one of them. */
 static unsigned any_fate(struct source *source, unsigned fates)
 {
-    unsigned fate = KEPT;
+    unsigned fate;
     if (fates >> KEPT & 1 && one_in(source, 2))
-        return fate;
+        return KEPT;
     do
         fate = (unsigned)draw(source, 0, FATES - 1);
     while (!(fates >> fate & 1));
@@ -1395,13 +1400,6 @@ static size_t any_room(struct source *source, size_t length)
     default:
         return length;
     }
-}
-
-static struct generated stored(const struct made_table *table, const char *family)
-{
-    struct generated found = {.family = family, .damage = ""};
-    found.length = encode(table, found.bytes);
-    return found;
 }
 
 /* Tables of a story; now and then the last chain is in conflict whatever the story. */

@@ -1,4 +1,4 @@
-/* A seeded generator of stored tables: valid ones of every shape, ones at the limits, slow ones and damaged ones; and of
+/* A seeded generator of stored tables: valid ones of every shape, ones at the limits, slow ones and damaged ones, and
    tables to be merged. */
 #ifndef GENERATE_H
 #define GENERATE_H
@@ -82,7 +82,7 @@ struct triple {
 
 /* Mostly accepted tables; their merge may be in conflict, or its result be refused. */
 struct triple generate_triple(struct source *source);
-/* Spoils some of the tables or all, none of which was spoiled before. */
+/* Spoils some of the tables or all; none of them may be spoiled yet. */
 void spoil_triple(struct source *source, struct triple *triple);
 
 #endif
