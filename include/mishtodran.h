@@ -31,7 +31,7 @@ extern "C" {
 
 /* The version of this header; mishtodran_version gives that of the library. An editor compares them at its start: where
  * they differ, an answer, a refusal or an entry may. CHANGELOG.md says which. */
-#define MISHTODRAN_VERSION 2
+#define MISHTODRAN_VERSION 3
 
 /* The limits. A table beyond one of them is refused, and so is a k. */
 enum {
@@ -123,10 +123,12 @@ enum mishtodran_refusal {
     MISHTODRAN_STARTS_AGAIN = 19,      /* an overload chain may start more than once in the last window */
     MISHTODRAN_ALWAYS_LATE = 20,       /* a deadline is missed without any overload */
     MISHTODRAN_CAPACITY = 21,          /* an overload active segment's capacity is above 40 */
-    /* A save; 24 in a report too */
+    /* A save; 24 in a merge and a report too */
     MISHTODRAN_STALE_RECORD = 22,      /* the old record equals no stored chain record */
     MISHTODRAN_NEW_RECORD = 23,        /* the new record has not a chain record's form, or bears another id */
     MISHTODRAN_BUFFER_TOO_SHORT = 24,  /* the result, or the report's text, is longer than its buffer */
+    /* A merge */
+    MISHTODRAN_IN_CONFLICT = 32,       /* some id is changed differently on both sides */
     /* A segment */
     MISHTODRAN_AGAINST_ITSELF = 25,    /* a segment of a chain against itself */
     MISHTODRAN_NO_SUCH_SEGMENT = 26,   /* there is no active segment of that number */
@@ -141,6 +143,8 @@ enum {
     MISHTODRAN_MISSES_BYTES = 4,
     MISHTODRAN_SEGMENT_BYTES = 8,
     MISHTODRAN_SAVE_BYTES = 4,
+    MISHTODRAN_MERGE_BYTES = 4,
+    MISHTODRAN_CONFLICT_BYTES = 4,
     MISHTODRAN_REPORT_BYTES = 4
 };
 
@@ -189,6 +193,28 @@ uint32_t mishtodran_save(uint8_t *buffer, size_t buffer_len, uint64_t used,
                          const uint8_t *old_record, size_t old_len,
                          const uint8_t *new_record, size_t new_len,
                          uint8_t *answer, size_t answer_len);
+
+/* Merges two edited copies of a table, given their common ancestor: 4 bytes of answer, the length of the result, which
+ * stands at the start of the buffer. For each id, the result has what the two copies have where they are alike, else
+ * what the one has that differs from the ancestor; that a record is missing counts as any other difference, so what one
+ * side removed or added is removed or added. The ancestor's records that stay come first, in its order, then those that
+ * the first copy added, in its order, then those that only the second did. Where a record stands in its table is no
+ * difference.
+ * Refuses with 27, then the ancestor's number, the first copy's, the second's; 32 where some id has three states, one in
+ * each table, and mishtodran_conflict says which; 24; the result's number, which is 1, 9 or 11. */
+uint32_t mishtodran_merge(const uint8_t *ancestor, size_t ancestor_len,
+                          const uint8_t *first, size_t first_len,
+                          const uint8_t *second, size_t second_len,
+                          uint8_t *buffer, size_t buffer_len,
+                          uint8_t *answer, size_t answer_len);
+
+/* The conflicts of that merge: 4 bytes of answer, the smallest id greater than `above` that is in conflict, 0 if there is
+ * none. Asked with 0, then with each answer, it gives them all.
+ * Refuses with 27, then the ancestor's number, the first copy's, the second's. */
+uint32_t mishtodran_conflict(const uint8_t *ancestor, size_t ancestor_len,
+                             const uint8_t *first, size_t first_len,
+                             const uint8_t *second, size_t second_len, uint32_t above,
+                             uint8_t *answer, size_t answer_len);
 
 /* The report of a table, as text: 4 bytes of answer, the text's length in bytes. The text is what `mishtodran report`
  * prints, a header and a line for each chain; it stands at the start of the text buffer, and no byte of 0 ends it. A
