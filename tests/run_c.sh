@@ -237,7 +237,8 @@ merges 2 "" "merge: none: No such file or directory" ancestor none theirs result
 merges 2 "" "merge: /: Is a directory" ancestor mine / result
 merges 2 "" "merge: none/result.new: No such file or directory" ancestor mine theirs none/result
 merges 2 "" "merge: $tables: it is not a plain file" ancestor mine theirs .
-merges 2 "" "merge: /dev/null: it is not a plain file" ancestor mine theirs /dev/null
+mkfifo "$tables/pipe"
+merges 2 "" "merge: $tables/pipe: it is not a plain file" ancestor mine theirs pipe
 edited result.new
 merges 2 "" "merge: $tables/result.new: File exists" ancestor mine theirs result
 rm "$tables/result.new"
