@@ -26,7 +26,7 @@ enum {
 
 enum { LATENCY, MISSES, SEGMENT, SAVE, REPORT, CHECK, MERGE, CONFLICT };
 enum { TABLE, OLD, NEW, TEXT, ANSWER, SLICES };
-/* What a merge lends in these places. */
+/* What a merge, and the question for its conflicts, lend in these places. */
 enum { ANCESTOR = TABLE, FIRST = OLD, SECOND = NEW, BUFFER = TEXT };
 
 /* Bytes to lend, and what they must be afterwards. */

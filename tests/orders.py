@@ -603,7 +603,7 @@ def refused_results():
             Pair(IN_CONFLICT, told, f"chain 1 in conflict, {what}", (*added(one, two, (50, 60)), MUCH_ROOM),
                  (*tables, MUCH_ROOM)),
         ]
-    above, above_too, tasks, chains = ((told, (*added(one, two), MUCH_ROOM)) for told, _, one, two in REFUSED_RESULTS)
+    wide, long, tasks, chains = ((told, (*added(one, two), MUCH_ROOM)) for told, _, one, two in REFUSED_RESULTS)
     none_left = (stored(GOOD, record()), ONE, stored(record()))
     fourteen, fifteen = (plain(range(2, n), 4) for n in (16, 17))
     sixteenth = after_chain_1(*fourteen)
@@ -614,8 +614,8 @@ def refused_results():
              (ONE, ONE, EDITED[0], len(ONE) - 1)),
         Pair(NO_ROOM, Verdict(11, COUNT_AT), "a byte of room too few, no chain", (*none_left, END.size - 1),
              (*none_left, END.size)),
-        Pair(above[0], tasks[0], "above 1,284 bytes, over 64 tasks", above[1], tasks[1]),
-        Pair(above_too[0], chains[0], "above 1,284 bytes, 17 chains", above_too[1], chains[1]),
+        Pair(wide[0], tasks[0], "above 1,284 bytes, over 64 tasks", wide[1], tasks[1]),
+        Pair(long[0], chains[0], "above 1,284 bytes, 17 chains", long[1], chains[1]),
         Pair(many_tasks, Verdict(11, sixteenth + len(plain([16], 1)[0])), "over 64 tasks with the 16th chain, a 17th",
              (*added(fourteen, plain([16], 16) + plain([17], 1)), MUCH_ROOM), (*added(fourteen, plain([16, 17], 1)), MUCH_ROOM)),
         Pair(Verdict(11, after_chain_1(*fifteen)), many_tasks, "a 17th chain, over 64 tasks with it",

@@ -183,14 +183,13 @@ def of_conflicts(name, tables, spare):
 
 
 def merges():
-    """27 comes before all else, so a short buffer will do for that."""
+    """Each merge, its conflicts, and 27 for both; it comes before all else, so a short buffer will do for that."""
     for turn, (name, (*tables, room)) in enumerate(pack_merge.calls()):
         yield of_merge(name, tables, room, turn % 3)
         yield from of_conflicts(name, tables, (0, 0, 1, 5)[turn % 4])
         ancestor, first, second = tables
-        for entry, length in (("merge", turn % 4), ("conflict", 3 - turn % 4)):
-            yield packed(entry, f"27 before {entry} of {name}", (), 27, ancestor, lent(length), old=first, new=second,
-                         text=lent(min(room, 8)))
+        for entry, length, buffer in (("merge", turn % 4, lent(min(room, 8))), ("conflict", 3 - turn % 4, b"")):
+            yield packed(entry, f"{entry}, 27 before {name}", (), 27, ancestor, lent(length), old=first, new=second, text=buffer)
 
 
 def of_files():
