@@ -6,3 +6,6 @@ pub mod Orders
 pub mod Sizes
 pub mod Results
 pub mod Judgements
+pub mod Picks
+pub mod Copies
+pub mod Merges
