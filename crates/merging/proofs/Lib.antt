@@ -9,3 +9,4 @@ pub mod Judgements
 pub mod Picks
 pub mod Copies
 pub mod Merges
+pub mod Outcomes

@@ -21,7 +21,7 @@ use Rattle.merging.specs.Merge.{isRecord, takenRecords}
 use Rattle.merging.specs.code.Judged.{AllAccepted}
 use Rattle.merging.proofs.Rules.{by-alike, by-second, by-first, by-neither}
 use Rattle.merging.proofs.Sizes.{by-cases}
-use Rattle.merging.proofs.Picks.{idIn, pick, Alone, pick-none, alone-keep, among-keep, pick-kept, alone-kept, all-kept, pick-perm}
+use Rattle.merging.proofs.Picks.{idIn, pick, Alone, or-none, pick-bears, pick-none, alone-keep, among-keep, pick-kept, alone-kept, all-kept, pick-perm}
 use Rattle.merging.proofs.Copies.{recordsIn, state-picked, ids-borne, ids-alone}
 
 -- three accepted tables, of bytes
@@ -140,3 +140,58 @@ module _ (v : Versions) (e : Edited v) where
   among-order id =
       among-joined (joined (idsOf (v .ancestor)) (idsOf (v .first))) (idsOf (v .second)) id
       ∙ ap (λ (t : Bool). t || among (idsOf (v .second)) id) (among-joined (idsOf (v .ancestor)) (idsOf (v .first)) id)
+
+  -- an id of none of the three is missing in each
+  unlisted : (s : List ℕ) (bytes : Bytes s) (verdict : readTable s .verdict ≡ Accepted) (id : ℕ) → among (idsOf s) id ≡ false → stateOf s id ≡ []
+  unlisted s bytes verdict id h =
+      state-picked s bytes verdict id ∙ pick-none id (recordsIn s bytes verdict) (ap (λ (l : List ℕ). among l id) (ids-borne s bytes verdict) ∙ h)
+
+  pub taken-unlisted : (id : ℕ) → among (order v) id ≡ false → takenOf v id ≡ []
+  taken-unlisted id h =
+      let both = or-none (among (idsOf (v .ancestor)) id || among (idsOf (v .first)) id) (among (idsOf (v .second)) id) (sym (among-order id) ∙ h) in
+      let first = unlisted (v .first) (e .of-first) (e .all .first) id (or-none (among (idsOf (v .ancestor)) id) (among (idsOf (v .first)) id) (both .0) .1) in
+      let second = unlisted (v .second) (e .of-second) (e .all .second) id (both .1) in
+      by-alike (stateOf (v .ancestor) id) (stateOf (v .first) id) (stateOf (v .second) id) _ _ _ (same-yes _ _ (first ∙ sym second)) ∙ first
+
+  -- a record that is taken bears its id
+  bears : (s : List ℕ) (bytes : Bytes s) (verdict : readTable s .verdict ≡ Accepted) (id : ℕ) → isRecord (stateOf s id) ≡ true → idIn (stateOf s id) ≡ id
+  bears s bytes verdict id h =
+      let f = state-picked s bytes verdict id in
+      ap idIn f ∙ pick-bears id (recordsIn s bytes verdict) (ap isRecord (sym f) ∙ h)
+
+  pub taken-bears : (id : ℕ) → isRecord (takenOf v id) ≡ true → idIn (takenOf v id) ≡ id
+  taken-bears id =
+      by-cases (λ (state : List ℕ). isRecord state ≡ true → idIn state ≡ id) (stateOf (v .ancestor) id) (stateOf (v .first) id) (stateOf (v .second) id)
+      (bears (v .first) (e .of-first) (e .all .first) id) (bears (v .second) (e .of-second) (e .all .second) id) (λ z. absurd (omega (arith, ltb-true 0 0 z)))
+
+  -- the records taken: for each id its own, no two with one id
+  pub taken-picked : (id : ℕ) → pick id (takenRecords v) ≡ takenOf v id
+  unfolding takenRecords
+  taken-picked id = pick-kept (takenOf v) taken-bears (order v) id ∙ listed (among (order v) id) refl
+    where
+      listed : (t : Bool) → among (order v) id ≡ t → (takenOf v id when among (order v) id else []) ≡ takenOf v id
+      listed true f = when-yes _ _ f
+      listed false f = when-no _ _ f ∙ sym (taken-unlisted id f)
+
+  pub taken-alone : Alone (map idIn (takenRecords v))
+  unfolding takenRecords
+  taken-alone = alone-kept (takenOf v) taken-bears (order v) order-alone
+
+  pub taken-records : All (λ r. isRecord r ≡ true) (takenRecords v)
+  unfolding takenRecords
+  taken-records = all-kept (map (takenOf v) (order v))
+
+-- the copies swapped: the same records
+pub edited-swapped : {v : Versions} → Edited v → Edited (swapped v)
+edited-swapped e = record {
+  all = record { ancestor = e .all .ancestor; first = e .all .second; second = e .all .first };
+  of-ancestor = e .of-ancestor;
+  of-first = e .of-second;
+  of-second = e .of-first;
+}
+
+pub swapped-perm : (v : Versions) → Edited v → List·Permᴰ (takenRecords v) (takenRecords (swapped v))
+swapped-perm v e =
+    let f = edited-swapped e in
+    pick-perm (takenRecords v) (takenRecords (swapped v)) (taken-alone v e) (taken-alone (swapped v) f) (taken-records v e) (taken-records (swapped v) f)
+    (λ id. taken-picked v e id ∙ sym (taken-swapped v id) ∙ sym (taken-picked (swapped v) f id))

@@ -32,7 +32,7 @@ Alone [] = Unit {0}
 Alone (n ∷ l) = (among l n ≡ false) × Alone l
 
 -- those that pass a test
-or-none : (a b : Bool) → (a || b) ≡ false → (a ≡ false) × (b ≡ false)
+pub or-none : (a b : Bool) → (a || b) ≡ false → (a ≡ false) × (b ≡ false)
 or-none true b e = absurd (true-not-false refl e)
 or-none false b e = (refl, e)
 
@@ -58,6 +58,11 @@ module _ (id : ℕ) (r : List ℕ) (rs : List (List ℕ)) where
   pub pick-on : (idIn r ≡ id → ⊥) → pick id (r ∷ rs) ≡ pick id rs
   unfolding pick
   pick-on h = when-no _ _ (ne-eqb _ _ h)
+
+pub pick-bears : (id : ℕ) (rs : List (List ℕ)) → isRecord (pick id rs) ≡ true → idIn (pick id rs) ≡ id
+unfolding pick
+pick-bears id [] h = absurd (omega (arith, ltb-true 0 0 h))
+pick-bears id (r ∷ rs) h = when-cases (λ (x : List ℕ). isRecord x ≡ true → idIn x ≡ id) (eqb (idIn r) id) (λ e z. eqb-true _ _ e) (λ e z. pick-bears id rs z) h
 
 -- whether two numbers are one
 one-or-not : {A : Type 0} (m n : ℕ) → (m ≡ n → A) → ((m ≡ n → ⊥) → A) → A
