@@ -6,3 +6,4 @@ pub mod Parts
 pub mod Parsed
 pub mod Stored
 pub mod Records
+pub mod Sound

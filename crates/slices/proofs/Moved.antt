@@ -44,7 +44,7 @@ module _ (s r : List ℕ) where
     unfolding SameBytes
     listed-moved = h 14 (omega arith)
 
-    tasks-moved : tasksAt s at ≡ tasksAt r to
+    pub tasks-moved : tasksAt s at ≡ tasksAt r to
     unfolding SameBytes
     tasks-moved = h 15 (omega arith)
 
@@ -60,6 +60,10 @@ module _ (s r : List ℕ) where
 
     pub id-moved : idAt s at ≡ idAt r to
     id-moved = within 2 2 (at + 2) (to + 2) refl refl (omega arith)
+
+    -- the mark of a task
+    pub task-mark-moved : (i : ℕ) → i < tasksAt r to → word 2 s (firstTask s at + 8 * i) ≡ word 2 r (firstTask r to + 8 * i)
+    task-mark-moved i l = within 2 (16 + 4 * listedAt r to + 8 * i) _ _ (omega (arith, listed-moved)) (omega arith) (omega arith)
 
     distances-moved : distancesAt s at ≡ distancesAt r to
     distances-moved = rw listed-moved (spaced-moved (word 4 s) (word 4 r) 4 (listedAt r to) (at + 16) (to + 16)

@@ -30,7 +30,7 @@ use Rattle.slices.proofs.Moved.{SameBytes, length-moved, mark-moved, ro
 use Rattle.slices.proofs.Parts.{Whole, Parts, rowIn}
 
 -- a record stands where the bytes go on with it
-stands : (s : List ℕ) (at : ℕ) (r rest : List ℕ) → drop at s ≡ r ++ rest → Whole r → SameBytes s r at 0 (lengthAt r 0)
+pub stands : (s : List ℕ) (at : ℕ) (r rest : List ℕ) → drop at s ≡ r ++ rest → Whole r → SameBytes s r at 0 (lengthAt r 0)
 unfolding SameBytes
 stands s at r rest e w i h =
     let f : 0 + i ≡ i = omega arith in

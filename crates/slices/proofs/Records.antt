@@ -45,7 +45,7 @@ module _ (s : List ℕ) (t : Table) (read : readTable s ≡ accepted t) (bytes :
     unfolding rowAt
     size-there = ap lengthOf (stored-holds s t read bytes .makes chain h)
 
-    moved : SameBytes (recordOf s chain) s 0 (placeOf t chain) (lengthAt s (placeOf t chain))
+    pub moved : SameBytes (recordOf s chain) s 0 (placeOf t chain) (lengthAt s (placeOf t chain))
     unfolding SameBytes
     moved i l =
         let e : 0 + i ≡ i = omega arith in
