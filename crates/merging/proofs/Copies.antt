@@ -14,7 +14,7 @@ use Rattle.search.specs.Choice.{_when_else_}
 use Rattle.search.specs.Find.{first}
 use Rattle.search.specs.Lists.{some, All}
 use Rattle.search.proofs.Lists.{all-map}
-use Rattle.search.proofs.Choice.{when-yes, when-no}
+use Rattle.search.proofs.Choice.{when-yes, when-no, true-not-false}
 use Rattle.table.specs.Bytes.{Bytes}
 use Rattle.table.specs.Find.{rowOf, rows, findOf}
 use Rattle.table.specs.Read.{accepted, readTable, tableOf}
@@ -32,13 +32,19 @@ use Rattle.merging.specs.Rule.{among}
 use Rattle.merging.specs.Merge.{isRecord}
 use Rattle.merging.proofs.Lookup.{state-first, state-missing}
 use Rattle.merging.proofs.Orders.{ids-length, ids-at}
-use Rattle.merging.proofs.Picks.{idIn, pick, Alone, pick-here, pick-on, pick-none}
+use Rattle.merging.proofs.Picks.{idIn, pick, Alone, or-none, pick-here, pick-on, pick-none}
 
 -- numbers that differ at any two places stand alone
 fresh : (n : ℕ) (l : List ℕ) → ((j : ℕ) → j < length l → getD l j 0 ≡ n → ⊥) → among l n ≡ false
 unfolding some
 fresh n [] g = refl
 fresh n (m ∷ l) g = ap₂ _||_ (ne-eqb m n (g 0 (omega arith))) (fresh n l (λ j a. g (suc j) (omega (arith, a))))
+
+there : (l : List ℕ) {n : ℕ} (j : ℕ) → j < length l → getD l j 0 ≡ n → among l n ≡ false → ⊥
+unfolding some
+there [] j h e f = absurd (omega arith)
+there (m ∷ l) {n} zero h e f = true-not-false (eq-eqb m n e) (or-none (eqb m n) (among l n) f .0)
+there (m ∷ l) {n} (suc j) h e f = there l j (omega arith) e (or-none (eqb m n) (among l n) f .1)
 
 pub alone-at : (l : List ℕ) → ((i j : ℕ) → i < length l → j < length l → getD l i 0 ≡ getD l j 0 → i ≡ j) → Alone l
 unfolding Alone
@@ -48,13 +54,22 @@ alone-at (n ∷ l) h = (
   alone-at l (λ i j a b e. omega (arith, h (suc i) (suc j) (omega (arith, a)) (omega (arith, b)) e)),
 )
 
+-- and the other way round
+pub alone-apart : (l : List ℕ) → Alone l → (i j : ℕ) → i < length l → j < length l → getD l i 0 ≡ getD l j 0 → i ≡ j
+unfolding Alone
+alone-apart [] h i j a b e = absurd (omega arith)
+alone-apart (n ∷ l) h zero zero a b e = refl
+alone-apart (n ∷ l) h zero (suc j) a b e = absurd (there l j (omega arith) (sym e) (h .0))
+alone-apart (n ∷ l) h (suc i) zero a b e = absurd (there l i (omega arith) e (h .0))
+alone-apart (n ∷ l) h (suc i) (suc j) a b e = ap suc (alone-apart l (h .1) i j (omega arith) (omega arith) e)
+
 -- an accepted table of bytes
 module _ (s : List ℕ) (bytes : Bytes s) (verdict : readTable s .verdict ≡ Accepted) where
   abbrev t : Table
   t = tableOf s
 
-  read : readTable s ≡ accepted t
-  read = ap (λ (v : Verdict). record { verdict = v; table = t }) verdict
+  pub read-as : readTable s ≡ accepted t
+  read-as = ap (λ (v : Verdict). record { verdict = v; table = t }) verdict
 
   held : Taken s
   held = taken s bytes verdict
@@ -64,7 +79,7 @@ module _ (s : List ℕ) (bytes : Bytes s) (verdict : readTable s .verdict ≡ Ac
   recordsIn = recordsFrom s (t .count) 0
 
   pub in-parts : Parts s recordsIn (drop (placeOf t (t .count)) s)
-  in-parts = parts-of s t read bytes
+  in-parts = parts-of s t read-as bytes
 
   abbrev bearing : ℕ → ℕ → Bool
   bearing id chain = eqb (rowOf t chain .id) id
@@ -86,11 +101,11 @@ module _ (s : List ℕ) (bytes : Bytes s) (verdict : readTable s .verdict ≡ Ac
       by : (b : Bool) → bearing id chain ≡ b → pick id (recordsFrom s n (suc chain)) ≡ found (first (bearing id) (suc chain) n)
           → pick id (recordOf s chain ∷ recordsFrom s n (chain + 1)) ≡ found (chain when bearing id chain else first (bearing id) (suc chain) n)
       by true f on =
-          pick-here id (recordOf s chain) (recordsFrom s n (chain + 1)) (record-id s t read bytes chain h ∙ eqb-true _ _ f)
+          pick-here id (recordOf s chain) (recordsFrom s n (chain + 1)) (record-id s t read-as bytes chain h ∙ eqb-true _ _ f)
           ∙ sym (when-yes (recordOf s chain) [] (lt-ltb chain (t .count) h))
           ∙ ap found (sym (when-yes chain (first (bearing id) (suc chain) n) f))
       by false f on =
-          pick-on id (recordOf s chain) (recordsFrom s n (chain + 1)) (λ z. eqb-false _ _ f (sym (record-id s t read bytes chain h) ∙ z))
+          pick-on id (recordOf s chain) (recordsFrom s n (chain + 1)) (λ z. eqb-false _ _ f (sym (record-id s t read-as bytes chain h) ∙ z))
           ∙ ap (λ m. pick id (recordsFrom s n m)) (add-one chain) ∙ on
           ∙ ap found (sym (when-no chain (first (bearing id) (suc chain) n) f))
 
@@ -104,7 +119,7 @@ module _ (s : List ℕ) (bytes : Bytes s) (verdict : readTable s .verdict ≡ Ac
   ids-borne = ext-getD 0 (map idIn recordsIn) (idsOf s) (length-map recordsIn idIn ∙ length-records s (t .count) 0 ∙ sym (ids-length held))
       (λ j h. let l : j < t .count = omega (arith, h, length-map recordsIn idIn, length-records s (t .count) 0) in
       let z : 0 + j ≡ j = omega arith in
-      map-at idIn recordsIn j [] 0 (omega (arith, l, length-records s (t .count) 0)) ∙ ap idIn (records-at s (t .count) 0 j l ∙ ap (recordOf s) z) ∙ record-id s t read bytes j l ∙ sym (ids-at held j l))
+      map-at idIn recordsIn j [] 0 (omega (arith, l, length-records s (t .count) 0)) ∙ ap idIn (records-at s (t .count) 0 j l ∙ ap (recordOf s) z) ∙ record-id s t read-as bytes j l ∙ sym (ids-at held j l))
 
   pub ids-alone : Alone (idsOf s)
   ids-alone = alone-at (idsOf s) (λ i j a b e.

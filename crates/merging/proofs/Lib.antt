@@ -10,3 +10,4 @@ pub mod Picks
 pub mod Copies
 pub mod Merges
 pub mod Outcomes
+pub mod Tables
