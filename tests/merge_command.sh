@@ -137,6 +137,13 @@ is_mode() {
     [ "$(stat -c %a "$2")" = "$1" ] || found "the mode of $2 is $(stat -c %a "$2"), not $1"
 }
 
+# It is replaced, not written over: who has it open goes on reading the old table.
+cp ancestor result
+exec 3<result
+merge 0 "" ancestor deadline cost result
+cmp -s ancestor - <&3 || found "the file was written over"
+exec 3<&-
+
 # A new file has the mode of any other, and one that is there keeps its own.
 rm result
 (umask 027 && "$top/mishtodran" merge ancestor deadline cost result) || found "there is no new file"

@@ -1,6 +1,6 @@
 #!/usr/bin/env python3
 """Holds the docs, and the sentences of `./mishtodran check` and `merge`, against what they speak of: the header's refusals, fields,
-entries and version, the bytes of the sample, and the line for a damaged table.
+entries and version, the bytes of the sample, and the lines for a damaged table and a conflict.
 
 Usage: try_docs.py
 
@@ -88,9 +88,9 @@ def sentences():
     lines = [f"sentence.rt has not the header's {number}: {what}" for number, what in due if (number, what) not in said]
     if len(said) != len(SAID):
         lines.append(f"sentence.rt has {len(said)} sentences for {len(SAID)} numbers")
-    shown = f"    {text_of('crates/table_check/stdout')}"
-    return lines + [f"{name} does not show the line for the damaged table" for name in ("README.md", "docs/REFUSALS.md")
-                    if shown not in text_of(name)]
+    damaged, conflict = f"    {text_of('crates/table_check/stdout')}", f"    refused 32: {dict(due).get('32')}\n"
+    shown = [("README.md", damaged), ("docs/REFUSALS.md", damaged), ("README.md", conflict)]
+    return lines + [f"{name} does not show the line '{line.strip()}'" for name, line in shown if line not in text_of(name)]
 
 
 def drawing():

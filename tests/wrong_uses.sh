@@ -58,7 +58,9 @@ done
 wrong 2 "mishtodran: examples is a folder" ./mishtodran merge examples t t new
 wrong 2 "mishtodran: unread cannot be read" "${user[@]}" ./mishtodran merge t unread t new
 wrong 2 "mishtodran: examples is a folder" ./mishtodran merge t t t examples
-wrong 2 "mishtodran: /dev/null is not a file that can be replaced" ./mishtodran merge t t t /dev/null
+for file in /dev/null new/; do
+    wrong 2 "mishtodran: $file is not a file that can be replaced" ./mishtodran merge t t t "$file"
+done
 for file in none/new loop ""; do
     wrong 2 "mishtodran: $file cannot be written" ./mishtodran merge t t t "$file"
 done
