@@ -92,6 +92,9 @@ ended='a 17th chain, no chain, a wrong end count, or bytes after the end'
 damage=$(cat "$top/crates/table_check/stdout")
 none='mishtodran: there is no result'
 
+# The first one builds the program, and says so.
+"$top/mishtodran" merge ancestor deadline cost result || found "the first merge: it failed"
+cmp -s both result || found "the first merge is another table"
 merges both ancestor deadline cost
 merges both ancestor cost deadline
 merges deadline ancestor deadline ancestor
@@ -172,7 +175,7 @@ cmp -s both ./-x || found "the merge into -x is another table"
 # A repository apart from the user's settings, and from one in which this may be run.
 
 unset "${!GIT_@}"
-export GIT_CONFIG_GLOBAL=/dev/null GIT_CONFIG_SYSTEM=/dev/null HOME=$room
+export GIT_CONFIG_GLOBAL=/dev/null GIT_CONFIG_SYSTEM=/dev/null GIT_ATTR_NOSYSTEM=1 XDG_CONFIG_HOME=$room
 stored=parts/our.table
 
 # git_merge BRANCH STATUS: merges it into what is checked out, in a folder below, and ends so.
