@@ -7,6 +7,7 @@ name=merge_command
 # shellcheck source=scripts/shell.sh
 . "$(dirname "$(readlink -f "${BASH_SOURCE[0]}")")/../scripts/shell.sh" || exit 2
 [ $# = 0 ] || fail "usage: tests/merge_command.sh"
+command -v git >/dev/null || fail "there is no git here: install Debian's package git"
 room=$(mktemp -d) || fail "no temporary folder can be made"
 trap 'rm -rf "$room"' EXIT
 
