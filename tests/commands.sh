@@ -88,73 +88,87 @@ reports() {
     expect 2 "" "mishtodran: standard output cannot be written" "" sh -c './mishtodran report >/dev/full'
 }
 
-# stays: a merge that gave no result has left RESULT as it was, and nothing beside it.
-stays() {
-    is "RESULT" "$(cat "$copy/merged/result")" "as it was"
+# holds TEXT: what RESULT holds after a merge. Nothing is left beside it.
+holds() {
+    is "RESULT" "$(cat "$copy/merged/result")" "$1"
     is "what is beside RESULT" "$(ls -A "$copy/merged")" result
 }
 
-# interrupted SIGNAL: a merge that is ended so in the middle, with all that it has started, as a terminal does it.
+# interrupted SIGNAL WORDS..: a merge that is ended so in the middle, with all that it has started, as a terminal does it. In
+# the gate this script runs in the background, where some signals are ignored.
 interrupted() {
-    local merge
+    local signal=$1 group
+    shift
     rm -f "$room/started"
+    mkdir "$room/temporary"
     set -m
-    in_copy ./mishtodran merge examples/{sample,sample,case_study}.table merged/result >"$room/out" 2>&1 &
-    merge=$!
+    in_copy env --default-signal="$signal" TMPDIR="$room/temporary" "$@" >"$room/out" 2>&1 &
+    group=$!
     set +m
     until [ -e "$room/started" ]; do
-        kill -0 "$merge" 2>/dev/null || found "the merge ended before it was interrupted: $(cat "$room/out")"
+        kill -0 "$group" 2>/dev/null || found "the merge ended before it was interrupted: $(cat "$room/out")"
         sleep 0.05
     done
-    is "what is beside RESULT in the middle" "$(ls -A "$copy/merged")" "result"$'\n'"result.*.new"
-    kill -s "$1" -- "-$merge"
-    wait "$merge" 2>/dev/null && found "a merge that is interrupted by $1 ends with 0"
-    while kill -0 -- "-$merge" 2>/dev/null; do
+    kill -s "$signal" -- "-$group"
+    wait "$group" 2>/dev/null && found "a merge that is interrupted by $signal ends with 0"
+    while kill -0 -- "-$group" 2>/dev/null; do
         sleep 0.05
     done
-    stays
+    holds "as it was"
+    rmdir "$room/temporary" || found "a merge that is interrupted by $signal leaves a temporary folder"
 }
 
 merges() {
-    local merge=(./mishtodran merge examples/{sample,sample,case_study}.table merged/result) conflict signal
+    local merge=(./mishtodran merge examples/{sample,sample,case_study}.table merged/result) conflict signal tool
     mkdir "$copy/merged"
     says 'cat "$3"'
     expect 0 "" "*built the merge program in*" "*rt check table_merge" "${merge[@]}"
     cmp "$copy/merged/result" "$copy/examples/case_study.table" || found "the result is not what the program gives"
-    is "what is beside RESULT" "$(ls -A "$copy/merged")" result
     expect 0 "" "" "" "${merge[@]}"
     says 'echo a note >&2 && cat "$3"'
     expect 0 "" "a note" "" "${merge[@]}"
     says 'wc -c'
     expect 0 "" "" "" sh -c 'echo more | ./mishtodran merge examples/sample.table examples/sample.table examples/sample.table merged/result'
-    is "what the program is given on standard input" "$(cat "$copy/merged/result")" 0
+    holds 0
     echo as it was >"$copy/merged/result"
     conflict=$'refused 32: a sentence\nconflict: chain 7'
     says "echo '$conflict' >&2"
     expect 1 "" "$conflict" "" "${merge[@]}"
-    stays
+    holds "as it was"
     says "echo a note >&2 && echo '$conflict' >&2"
     expect 1 "" "a note"$'\n'"$conflict" "" "${merge[@]}"
-    stays
+    holds "as it was"
     says 'echo first copy: refused 32: no >&2'
     expect 2 "" $'first copy: refused 32: no\nmishtodran: there is no result' "" "${merge[@]}"
-    stays
+    holds "as it was"
     says :
     expect 2 "" "mishtodran: there is no result" "" "${merge[@]}"
-    stays
+    holds "as it was"
     says 'echo half && exit 3'
     expect 2 "" "mishtodran: there is no result" "" "${merge[@]}"
-    stays
+    holds "as it was"
     says 'echo half && kill -9 $$'
     expect 2 "" "*mishtodran: there is no result" "" "${merge[@]}"
-    stays
+    holds "as it was"
     says 'cat "$3"'
     expect 2 "" "cat: *mishtodran: there is no result" "" \
         bash -o pipefail -c '(trap "" XFSZ && ulimit -f 0 && "$@") 2>&1 | cat >&2' sh "${merge[@]}"
-    stays
+    holds "as it was"
     says 'echo half && echo >"$ROOM/started" && sleep 9'
     for signal in INT TERM HUP; do
-        interrupted "$signal"
+        interrupted "$signal" "${merge[@]}"
+    done
+    says 'echo new'
+    for tool in chmod mv; do
+        mv "$tools/$tool" "$room/$tool"
+        stand_in "$tools/$tool" <<<'exit 1'
+        expect 2 "" "mishtodran: merged/result cannot be written" "" "${merge[@]}"
+        holds "as it was"
+        stand_in "$tools/$tool" <<<'kill -s TERM "$PPID" && exec "$ROOM/'"$tool"'" "$@"'
+        expect 0 "" "" "" "${merge[@]}"
+        holds new
+        mv "$room/$tool" "$tools/$tool"
+        echo as it was >"$copy/merged/result"
     done
     says 'echo a report'
 }
