@@ -1,4 +1,4 @@
-/* The analyzer in plain C11. Section names are those of document 01. */
+/* The analyzer in plain C11. Section names are those of documents 01 and 02. */
 #include "analyzer.h"
 
 #include <assert.h>
@@ -853,6 +853,129 @@ static uint32_t save(uint8_t *buffer, size_t buffer_len, uint64_t used, const ui
     return 0;
 }
 
+/* ---- Merge of two edited tables ---- */
+
+enum { ANCESTOR, FIRST, SECOND, TABLES };
+
+/* A table, or a part of one. */
+struct lent {
+    const uint8_t *bytes;
+    size_t length;
+};
+
+/* The tables to be merged as they were lent, what was read of them, and all their ids in the order of a result: the
+   ancestor's, the first copy's additions, then the second's that the first has not. */
+struct merge {
+    const struct lent *lent;
+    struct table table[TABLES];
+    unsigned ids;
+    uint32_t id[TABLES * MOST_CHAINS];
+};
+
+/* The state of an id in a table: its record's bytes, or none where it is missing. */
+static struct lent state_of(const struct merge *merge, unsigned table, uint32_t id)
+{
+    const struct chain *chain = find_chain(&merge->table[table], id);
+    const uint8_t *bytes = merge->lent[table].bytes;
+    return chain ? (struct lent){bytes + chain->at, chain->end - chain->at} : (struct lent){bytes, 0};
+}
+
+static bool same_state(const struct merge *merge, uint32_t id, unsigned one, unsigned other)
+{
+    struct lent in_one = state_of(merge, one, id), in_other = state_of(merge, other, id);
+    return in_one.length == in_other.length && memcmp(in_one.bytes, in_other.bytes, in_one.length) == 0;
+}
+
+/* Whether an id was changed differently on both sides. */
+static bool in_conflict(const struct merge *merge, uint32_t id)
+{
+    return !same_state(merge, id, FIRST, SECOND) && !same_state(merge, id, ANCESTOR, FIRST) &&
+           !same_state(merge, id, ANCESTOR, SECOND);
+}
+
+/* The state of an id that is not in conflict: that of the side that changed. */
+static struct lent merged_state(const struct merge *merge, uint32_t id)
+{
+    return state_of(merge, same_state(merge, id, ANCESTOR, FIRST) ? SECOND : FIRST, id);
+}
+
+static bool has_id(const struct merge *merge, uint32_t id)
+{
+    for (unsigned i = 0; i < merge->ids; i++)
+        if (merge->id[i] == id)
+            return true;
+    return false;
+}
+
+/* The ids of a table that those before it have not. */
+static void add_ids(struct merge *merge, const struct table *table)
+{
+    for (unsigned i = 0; i < table->chains; i++)
+        if (!has_id(merge, table->chain[i].id))
+            merge->id[merge->ids++] = table->chain[i].id;
+}
+
+/* Reads the three tables in their order; 0, or the number of the first that is refused. */
+static uint32_t read_lent(const struct lent lent[TABLES], struct merge *merge)
+{
+    merge->lent = lent;
+    merge->ids = 0;
+    for (unsigned i = 0; i < TABLES; i++) {
+        uint32_t refusal = read_table(lent[i].bytes, lent[i].length, &merge->table[i]).number;
+        if (refusal)
+            return refusal;
+        add_ids(merge, &merge->table[i]);
+    }
+    return 0;
+}
+
+/* The smallest id greater than `above` that is in conflict, or 0. */
+static uint32_t smallest_conflict(const struct merge *merge, uint32_t above)
+{
+    uint32_t smallest = 0;
+    for (unsigned i = 0; i < merge->ids; i++) {
+        uint32_t id = merge->id[i];
+        if (id > above && (smallest == 0 || id < smallest) && in_conflict(merge, id))
+            smallest = id;
+    }
+    return smallest;
+}
+
+/* Writes the result of a merge without conflicts, each record from one of the copies, and gives back its length. */
+static size_t write_result(const struct merge *merge, uint8_t result[2 * MOST_BYTES])
+{
+    size_t length = 0;
+    unsigned chains = 0;
+    for (unsigned i = 0; i < merge->ids; i++) {
+        struct lent state = merged_state(merge, merge->id[i]);
+        memcpy(result + length, state.bytes, state.length);
+        length += state.length;
+        chains += state.length > 0;
+    }
+    const uint8_t end[END_BYTES] = {'E', 'N', (uint8_t)chains, 0};
+    memcpy(result + length, end, END_BYTES);
+    return length + END_BYTES;
+}
+
+static uint32_t merge_copies(const struct lent lent[TABLES], uint8_t *buffer, size_t buffer_len, size_t *used)
+{
+    struct merge merge;
+    struct table table;
+    uint8_t result[2 * MOST_BYTES];
+    uint32_t refusal = read_lent(lent, &merge);
+    if (refusal)
+        return refusal;
+    if (smallest_conflict(&merge, 0))
+        return 32;
+    *used = write_result(&merge, result);
+    if (*used > buffer_len)
+        return 24;
+    refusal = read_table(result, *used, &table).number;
+    if (!refusal)
+        memcpy(buffer, result, *used);
+    return refusal;
+}
+
 /* ---- The C editor ---- */
 
 static void put32(uint8_t *at, uint32_t value)
@@ -921,6 +1044,33 @@ uint32_t plain_save(uint8_t *buffer, size_t buffer_len, uint64_t used, const uin
     uint32_t refusal = save(buffer, buffer_len, used, old_record, old_len, new_record, new_len, &new_used);
     if (!refusal)
         put32(answer, (uint32_t)new_used);
+    return refusal;
+}
+
+uint32_t plain_merge(const uint8_t *ancestor, size_t ancestor_len, const uint8_t *first, size_t first_len,
+                     const uint8_t *second, size_t second_len, uint8_t *buffer, size_t buffer_len, uint8_t *answer,
+                     size_t answer_len)
+{
+    const struct lent lent[TABLES] = {{ancestor, ancestor_len}, {first, first_len}, {second, second_len}};
+    size_t used;
+    if (answer_len < 4)
+        return 27;
+    uint32_t refusal = merge_copies(lent, buffer, buffer_len, &used);
+    if (!refusal)
+        put32(answer, (uint32_t)used);
+    return refusal;
+}
+
+uint32_t plain_conflict(const uint8_t *ancestor, size_t ancestor_len, const uint8_t *first, size_t first_len,
+                        const uint8_t *second, size_t second_len, uint32_t above, uint8_t *answer, size_t answer_len)
+{
+    const struct lent lent[TABLES] = {{ancestor, ancestor_len}, {first, first_len}, {second, second_len}};
+    struct merge merge;
+    if (answer_len < 4)
+        return 27;
+    uint32_t refusal = read_lent(lent, &merge);
+    if (!refusal)
+        put32(answer, smallest_conflict(&merge, above));
     return refusal;
 }
 

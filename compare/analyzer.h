@@ -15,6 +15,11 @@ uint32_t plain_segment(const uint8_t *table, size_t table_len, uint32_t chain, u
 uint32_t plain_check(const uint8_t *table, size_t table_len, uint8_t *answer, size_t answer_len);
 uint32_t plain_save(uint8_t *buffer, size_t buffer_len, uint64_t used, const uint8_t *old_record, size_t old_len,
                     const uint8_t *new_record, size_t new_len, uint8_t *answer, size_t answer_len);
+uint32_t plain_merge(const uint8_t *ancestor, size_t ancestor_len, const uint8_t *first, size_t first_len,
+                     const uint8_t *second, size_t second_len, uint8_t *buffer, size_t buffer_len, uint8_t *answer,
+                     size_t answer_len);
+uint32_t plain_conflict(const uint8_t *ancestor, size_t ancestor_len, const uint8_t *first, size_t first_len,
+                        const uint8_t *second, size_t second_len, uint32_t above, uint8_t *answer, size_t answer_len);
 uint32_t plain_report(const uint8_t *table, size_t table_len, uint8_t *text, size_t text_len, uint8_t *answer,
                       size_t answer_len);
 

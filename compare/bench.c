@@ -15,9 +15,10 @@
 #include <string.h>
 #include <time.h>
 
-enum { LATENCY, MISSES, SEGMENT, CHECK, SAVE, REPORT };
+enum { LATENCY, MISSES, SEGMENT, CHECK, SAVE, MERGE, CONFLICT, REPORT };
 enum { MOST_CALLS = 512, MOST_TABLES = 32, ROUNDS = 200 };
-enum { ROOM = 16 + MISHTODRAN_LONGEST_REPORT }; /* of an answer, and of a report's text after it */
+/* Of an answer, and of a report's text or a merge's result after it. */
+enum { ROOM = 16 + MISHTODRAN_MOST_TABLE_BYTES };
 
 static const double LEAST_SECONDS = 0.005; /* of one run: many short ones find a quiet moment */
 static const double MOST_SECONDS = 3;      /* of all runs of a line, but for the first two */
@@ -29,8 +30,8 @@ struct stored {
 
 struct call {
     unsigned entry;
-    struct stored *table;
-    uint32_t number[3]; /* id; id, k; chain, against, number; a check has none */
+    struct stored *table; /* of a merge, the ancestor; its copies stand after it */
+    uint32_t number[3];   /* id; id, k; chain, against, number; above; a check has none */
 };
 
 struct bench_case {
@@ -47,12 +48,17 @@ struct side {
     uint32_t (*segment)(const uint8_t *, size_t, uint32_t, uint32_t, uint32_t, uint8_t *, size_t);
     uint32_t (*check)(const uint8_t *, size_t, uint8_t *, size_t);
     uint32_t (*save)(uint8_t *, size_t, uint64_t, const uint8_t *, size_t, const uint8_t *, size_t, uint8_t *, size_t);
+    uint32_t (*merge)(const uint8_t *, size_t, const uint8_t *, size_t, const uint8_t *, size_t, uint8_t *, size_t,
+                      uint8_t *, size_t);
+    uint32_t (*conflict)(const uint8_t *, size_t, const uint8_t *, size_t, const uint8_t *, size_t, uint32_t, uint8_t *,
+                         size_t);
     uint32_t (*report)(const uint8_t *, size_t, uint8_t *, size_t, uint8_t *, size_t);
 };
 
-static const struct side proved = {mishtodran_latency, mishtodran_misses, mishtodran_segment,
-                                   mishtodran_check,   mishtodran_save,   mishtodran_report};
-static const struct side plain = {plain_latency, plain_misses, plain_segment, plain_check, plain_save, plain_report};
+static const struct side proved = {mishtodran_latency, mishtodran_misses, mishtodran_segment,  mishtodran_check,
+                                   mishtodran_save,    mishtodran_merge,  mishtodran_conflict, mishtodran_report};
+static const struct side plain = {plain_latency, plain_misses, plain_segment,  plain_check,
+                                  plain_save,    plain_merge,  plain_conflict, plain_report};
 
 /* The deadline of a table's first chain becomes another, and then what it was. */
 static uint32_t save_and_back(const struct side *side, const struct call *call, uint8_t *answer)
@@ -65,6 +71,20 @@ static uint32_t save_and_back(const struct side *side, const struct call *call, 
     new[6] ^= 1;
     side->save(table->bytes, sizeof table->bytes, table->length, old, length, new, length, answer, 4);
     return side->save(table->bytes, sizeof table->bytes, table->length, new, length, old, length, answer, 4);
+}
+
+static uint32_t merge(const struct side *side, const struct stored *ancestor, uint8_t *answer)
+{
+    const struct stored *first = ancestor + 1, *second = ancestor + 2;
+    return side->merge(ancestor->bytes, ancestor->length, first->bytes, first->length, second->bytes, second->length,
+                       answer + 16, MISHTODRAN_MOST_TABLE_BYTES, answer, 4);
+}
+
+static uint32_t conflict(const struct side *side, const struct stored *ancestor, uint32_t above, uint8_t *answer)
+{
+    const struct stored *first = ancestor + 1, *second = ancestor + 2;
+    return side->conflict(ancestor->bytes, ancestor->length, first->bytes, first->length, second->bytes, second->length,
+                          above, answer, 4);
 }
 
 static uint32_t run_call(const struct side *side, const struct call *call, uint8_t *answer)
@@ -80,6 +100,10 @@ static uint32_t run_call(const struct side *side, const struct call *call, uint8
         return side->segment(bytes, length, call->number[0], call->number[1], call->number[2], answer, 8);
     case CHECK:
         return side->check(bytes, length, answer, 8);
+    case MERGE:
+        return merge(side, call->table, answer);
+    case CONFLICT:
+        return conflict(side, call->table, call->number[0], answer);
     case REPORT:
         return side->report(bytes, length, answer + 16, MISHTODRAN_LONGEST_REPORT, answer, 4);
     default:
@@ -235,6 +259,34 @@ static void usual_cases(struct source *source)
     measure_one("report, sample", REPORT, sample, 0, 0, 0);
     measure_one("report, case study", REPORT, study, 0, 0, 0);
     measure_tables("report, random tables of 16 chains", REPORT, random, 16);
+}
+
+/* ---- Merges ---- */
+
+/* A table, a copy of it with another deadline at one place, and one with another cost at another place. */
+static struct stored *keep_edited(const struct made_table *table, unsigned place, unsigned other_place)
+{
+    struct stored *ancestor = keep(*table);
+    struct made_table first = *table, second = *table;
+    uint32_t *deadline = &first.chain[place].deadline, *cost = &second.chain[other_place].task[0].cost;
+    *deadline = *deadline % MISHTODRAN_MOST_TIME + 1;
+    *cost = *cost % MISHTODRAN_MOST_COST + 1;
+    keep(first);
+    keep(second);
+    return ancestor;
+}
+
+static void merge_cases(struct source *source)
+{
+    tables_used = 0;
+    struct made_table some = light_table(source, 8), full = full_table(source);
+    struct stored *edited = keep_edited(&some, 2, 5);
+    struct stored *full_edited = keep_edited(&full, 3, 12);
+    struct stored *apart = keep_edited(&full, 12, 12);
+    measure_one("merge, 8 chains, one changed in each copy", MERGE, edited, 0, 0, 0);
+    measure_one("merge, full tables, one changed in each", MERGE, full_edited, 0, 0, 0);
+    measure_one("merge, full tables, refusal 32", MERGE, apart, 0, 0, 0);
+    measure_one("conflict, full tables", CONFLICT, apart, 0, 0, 0);
 }
 
 /* ---- Slow cases ---- */
@@ -403,6 +455,7 @@ int main(int count, char **words)
     struct source source = {count == 2 ? number_given("bench", "SEED", words[1], 0, MOST_SEED) : 1};
     printf("%-44s %14s %14s %10s\n", "microseconds a call", "mishtodran", "plain", "ratio");
     usual_cases(&source);
+    merge_cases(&source);
     slow_cases();
     growth_cases();
     return 0;

@@ -1,8 +1,9 @@
 /* Holds the entries of mishtodran.h against the plain analyzer, on generated tables.
    Usage: compare SEED N [walked]
 
-   Makes N tables from SEED, asks both every question about each, and stops at the first difference, with the table and
-   the call. With `walked` the tables are those on which counting arrivals one by one takes seconds. */
+   Makes N tables from SEED, and for each some to be merged, asks both every question about them, and stops at the first
+   difference, with the tables and the call. With `walked` the tables are those on which counting arrivals one by one
+   takes seconds, and nothing is merged. */
 #include "../include/mishtodran.h"
 #include "analyzer.h"
 #include "generate.h"
@@ -14,15 +15,24 @@
 #include <stdlib.h>
 #include <string.h>
 
-enum { LATENCY, MISSES, SEGMENT, CHECK, SAVE, REPORT, ENTRIES };
-enum { LONGEST_RECORD = 4096, ANSWER_ROOM = 32, TEXT_ROOM = MISHTODRAN_LONGEST_REPORT + 32, NUMBERS = 32 };
+enum { LATENCY, MISSES, SEGMENT, CHECK, SAVE, MERGE, CONFLICT, REPORT, ENTRIES };
+enum { LONGEST_RECORD = 4096, ANSWER_ROOM = 32, TEXT_ROOM = MISHTODRAN_LONGEST_REPORT + 32, NUMBERS = 33 };
+enum { MERGE_ROOM = 2 * MISHTODRAN_MOST_TABLE_BYTES + 64 }; /* more than any merge takes */
 
-static const char *const entry_name[] = {"latency", "misses", "segment", "check", "save", "report"};
+static const char *const entry_name[] = {"latency", "misses", "segment",  "check",
+                                         "save",    "merge",  "conflict", "report"};
 static const size_t answer_bytes[] = {16, 4, 8, 8};
 
-/* How often each entry has returned each number, and the check has answered it. */
+/* What decides a merge: one of its tables, or all of them together where each is accepted. */
+enum { ANCESTOR, FIRST, SECOND, TOGETHER, DECIDERS };
+static const char *const decided_by[] = {"merge, by the ancestor", "merge, by the first copy",
+                                         "merge, by the second copy", "merge, by all three"};
+
+/* How often each entry has returned each number, the check has answered it, and a merge has returned it because of
+   what. */
 static uint64_t met[ENTRIES][NUMBERS];
 static uint64_t answered[NUMBERS];
+static uint64_t decided[DECIDERS][NUMBERS];
 
 static void print_hex(const char *what, const uint8_t *bytes, size_t length)
 {
@@ -496,6 +506,157 @@ static void save_somehow(struct source *source, const struct generated *table, c
     save(&buffer, &new, &old, answer_len); /* back again */
 }
 
+/* ---- Merges ---- */
+
+struct merged {
+    struct outcome outcome;
+    uint8_t buffer[MERGE_ROOM + 32]; /* the lent buffer and what follows it */
+};
+
+/* The tables under way, to be shown where a library crashes on them; NULL between merges. */
+static const struct triple *merge_under_way;
+
+static void print_triple(const struct triple *triple)
+{
+    static const char *const names[] = {"ancestor", "first copy", "second copy"};
+    for (unsigned i = 0; i < 3; i++) {
+        printf("%s, family: %s %s\n", names[i], triple->table[i].family, triple->table[i].damage);
+        print_hex(names[i], triple->table[i].bytes, triple->table[i].length);
+    }
+}
+
+static bool same_tables(const struct triple *one, const struct triple *other)
+{
+    for (unsigned i = 0; i < 3; i++)
+        if (memcmp(one->table[i].bytes, other->table[i].bytes, MOST_GENERATED) != 0)
+            return false;
+    return true;
+}
+
+static void stop_at_merge(const struct triple *triple, const struct merged *proved, const struct merged *plain,
+                          size_t room, size_t answer_len)
+{
+    printf("difference in merge, or a table was written to; %zu bytes for the result, %zu for the answer\n", room,
+           answer_len);
+    print_triple(triple);
+    print_outcome("mishtodran", &proved->outcome);
+    print_hex("its buffer and beyond", proved->buffer, sizeof proved->buffer);
+    print_outcome("plain", &plain->outcome);
+    print_hex("its buffer and beyond", plain->buffer, sizeof plain->buffer);
+    exit(1);
+}
+
+/* Merges with both, and gives back what they return. */
+static uint32_t merge(const struct triple *triple, size_t room, size_t answer_len)
+{
+    static struct triple lent;
+    static struct merged proved, plain;
+    const struct generated *table = triple->table;
+    proved.outcome = nothing_yet();
+    for (unsigned i = 0; i < sizeof proved.buffer; i++)
+        proved.buffer[i] = (uint8_t)(0x33 + 5 * i);
+    plain = proved;
+    lent = *triple;
+    proved.outcome.returned =
+        mishtodran_merge(lent.table[0].bytes, lent.table[0].length, lent.table[1].bytes, lent.table[1].length,
+                         lent.table[2].bytes, lent.table[2].length, proved.buffer, room, proved.outcome.answer,
+                         answer_len);
+    plain.outcome.returned =
+        plain_merge(table[0].bytes, table[0].length, table[1].bytes, table[1].length, table[2].bytes, table[2].length,
+                    plain.buffer, room, plain.outcome.answer, answer_len);
+    if (!same(&proved.outcome, &plain.outcome) || !same_tables(&lent, triple) ||
+        memcmp(proved.buffer, plain.buffer, sizeof plain.buffer) != 0)
+        stop_at_merge(triple, &proved, &plain, room, answer_len);
+    note(met[MERGE], plain.outcome.returned);
+    return plain.outcome.returned;
+}
+
+static void stop_at_conflict(const struct triple *triple, const struct outcome *proved, const struct outcome *plain,
+                             uint32_t above, size_t answer_len)
+{
+    printf("difference in conflict(%" PRIu32 "), or a table was written to; %zu bytes for the answer\n", above,
+           answer_len);
+    print_triple(triple);
+    print_outcome("mishtodran", proved);
+    print_outcome("plain", plain);
+    exit(1);
+}
+
+/* The id that both answer; 0 where they refuse. */
+static uint32_t conflict(const struct triple *triple, uint32_t above, size_t answer_len)
+{
+    static struct triple lent;
+    const struct generated *table = triple->table;
+    struct outcome proved = nothing_yet(), plain = nothing_yet();
+    lent = *triple;
+    proved.returned = mishtodran_conflict(lent.table[0].bytes, lent.table[0].length, lent.table[1].bytes,
+                                          lent.table[1].length, lent.table[2].bytes, lent.table[2].length, above,
+                                          proved.answer, answer_len);
+    plain.returned = plain_conflict(table[0].bytes, table[0].length, table[1].bytes, table[1].length, table[2].bytes,
+                                    table[2].length, above, plain.answer, answer_len);
+    if (!same(&proved, &plain) || !same_tables(&lent, triple))
+        stop_at_conflict(triple, &proved, &plain, above, answer_len);
+    note(met[CONFLICT], plain.returned);
+    return plain.returned ? 0 : get32(plain.answer);
+}
+
+/* All conflicts, then those above the number before the first, above one beyond any id, and above any number. */
+static void ask_conflicts(struct source *source, const struct triple *triple)
+{
+    uint32_t first = conflict(triple, 0, 4);
+    for (uint32_t above = first; above != 0;)
+        above = conflict(triple, above, 4);
+    conflict(triple, first - 1, 4);
+    conflict(triple, first + 65536, 4);
+    conflict(triple, (uint32_t)draw(source, 0, one_in(source, 2) ? 65535 : UINT32_MAX), draw(source, 0, 8));
+}
+
+static unsigned decider(const struct triple *triple)
+{
+    uint8_t answer[8];
+    for (unsigned i = ANCESTOR; i <= SECOND; i++) {
+        plain_check(triple->table[i].bytes, triple->table[i].length, answer, sizeof answer);
+        if (get32(answer) != 0)
+            return i;
+    }
+    return TOGETHER;
+}
+
+/* With the copies as they are: into the room given and into more than enough, and with an answer buffer of some length
+   up to 8. */
+static void compare_merge(struct source *source, const struct triple *triple)
+{
+    unsigned by = decider(triple);
+    merge_under_way = triple;
+    note(decided[by], merge(triple, triple->room, 4));
+    note(decided[by], merge(triple, MERGE_ROOM, 4));
+    merge(triple, triple->room, draw(source, 0, 8));
+    ask_conflicts(source, triple);
+    merge_under_way = NULL;
+}
+
+static void compare_both_ways(struct source *source, const struct triple *triple)
+{
+    struct triple swapped = *triple;
+    swapped.table[1] = triple->table[2];
+    swapped.table[2] = triple->table[1];
+    compare_merge(source, triple);
+    compare_merge(source, &swapped);
+}
+
+/* Tables made to be merged, then some of them spoiled, then one of them replaced by this table. */
+static void merge_somehow(struct source *source, const struct generated *table)
+{
+    const struct triple made = generate_triple(source);
+    compare_both_ways(source, &made);
+    struct triple other = made;
+    spoil_triple(source, &other);
+    compare_both_ways(source, &other);
+    other = made;
+    other.table[draw(source, 0, 2)] = *table;
+    compare_both_ways(source, &other);
+}
+
 /* ---- Reports ---- */
 
 struct told {
@@ -558,6 +719,8 @@ static void compare_table(struct source *source, struct generated *table)
     ask_checks(table);
     for (unsigned i = 0; i < 12; i++)
         save_somehow(source, table, &places);
+    for (unsigned i = 0; i < 3; i++)
+        merge_somehow(source, table);
     ask_reports(source, table);
     if (places.chains > 0)
         check_spoiled(source, table, places.chains);
@@ -578,6 +741,8 @@ static void on_crash(int number)
 {
     printf("a crash, signal %d\n", number);
     print_hex("table", under_way.bytes, under_way.length);
+    if (merge_under_way)
+        print_triple(merge_under_way);
     exit(1);
 }
 
@@ -590,16 +755,28 @@ static void print_counts(const char *what, const uint64_t counts[NUMBERS])
     puts(" calls");
 }
 
-/* Whether enough tables were made for every number of a table, and the check has not answered one of them. */
-static bool misses_number(uint64_t tables)
+static const uint8_t of_table[] = {1, 2, 3, 4, 5, 6, 7, 9, 10, 11, 28, 29, 30, 31};
+static const uint8_t of_merge[] = {0, 1, 9, 11, 24, 32};
+
+/* Whether one of these numbers was never counted. */
+static bool lacks(const char *what, const uint64_t counts[NUMBERS], const uint8_t *numbers, size_t length)
 {
     bool missing = false;
-    for (unsigned i = 1; tables >= 1000 && i < NUMBERS; i++)
-        if (((i <= 11 && i != 8) || i >= 28) && answered[i] == 0) {
-            printf("no table was refused with %u\n", i);
+    for (size_t i = 0; i < length; i++)
+        if (counts[numbers[i]] == 0) {
+            printf("%s: never %u\n", what, numbers[i]);
             missing = true;
         }
     return missing;
+}
+
+/* Whether the check, or a merge, has not given a number that it can give. */
+static bool misses_number(void)
+{
+    bool missing = lacks("answered by check", answered, of_table, sizeof of_table);
+    for (unsigned by = ANCESTOR; by <= SECOND; by++)
+        missing |= lacks(decided_by[by], decided[by], of_table, sizeof of_table);
+    return lacks(decided_by[TOGETHER], decided[TOGETHER], of_merge, sizeof of_merge) || missing;
 }
 
 static void print_met(void)
@@ -607,6 +784,8 @@ static void print_met(void)
     for (unsigned entry = 0; entry < ENTRIES; entry++)
         print_counts(entry_name[entry], met[entry]);
     print_counts("answered by check", answered);
+    for (unsigned by = 0; by < DECIDERS; by++)
+        print_counts(decided_by[by], decided[by]);
 }
 
 int main(int count, char **words)
@@ -628,7 +807,7 @@ int main(int count, char **words)
             compare_table(&source, &under_way);
     }
     print_met();
-    if (!walked && misses_number(tables))
+    if (!walked && tables >= 1000 && misses_number())
         return 1;
     printf("%" PRIu64 " tables, no difference\n", tables);
     if (fflush(stdout) != 0 || ferror(stdout)) {

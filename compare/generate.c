@@ -189,15 +189,31 @@ static void fill_gap(struct source *source, struct made_chain *chain)
     }
 }
 
+/* Ids of which none comes twice: each is so far from the one before it, and 1 follows the greatest. */
+struct ids {
+    uint32_t first, step;
+};
+
+static uint32_t id_at(struct ids ids, unsigned place)
+{
+    return 1 + (uint32_t)((ids.first + (uint64_t)place * ids.step) % HIGHEST);
+}
+
 /* Ids in no order. */
-static void mix_ids(struct source *source, struct made_table *table)
+static struct ids mixed_ids(struct source *source)
 {
     uint32_t first = (uint32_t)draw(source, 0, HIGHEST - 1);
     uint32_t step = (uint32_t)draw(source, 1, HIGHEST - 1);
     while (step % 3 == 0 || step % 5 == 0 || step % 17 == 0 || step % 257 == 0) /* the primes of 65,535 */
         step = (uint32_t)draw(source, 1, HIGHEST - 1);
+    return (struct ids){first, step};
+}
+
+static void mix_ids(struct source *source, struct made_table *table)
+{
+    struct ids ids = mixed_ids(source);
     for (unsigned i = 0; i < table->chains; i++)
-        table->chain[i].id = 1 + (uint32_t)((first + (uint64_t)i * step) % HIGHEST);
+        table->chain[i].id = id_at(ids, i);
 }
 
 /* ---- Deadlines that make a chain late, but not without overload ---- */
@@ -1062,12 +1078,18 @@ static const struct family *any_family(struct source *source)
     return family;
 }
 
+static struct generated stored(const struct made_table *table, const char *family)
+{
+    struct generated found = {.family = family, .damage = ""};
+    found.length = encode(table, found.bytes);
+    return found;
+}
+
 struct generated generate(struct source *source)
 {
     const struct family *family = any_family(source);
-    struct generated found = {.family = family->name, .damage = ""};
     struct made_table table = family->make(source);
-    found.length = encode(&table, found.bytes);
+    struct generated found = stored(&table, family->name);
     if (one_in(source, table.chains == 17 ? 2 : 4)) {
         spoil_together(source, &found, table.chains);
     } else if (one_in(source, 3)) {
@@ -1081,7 +1103,6 @@ struct generated generate(struct source *source)
 /* A chain with a last distance of 1 to 3, or eight in a burst, before a wide window of another. */
 struct generated generate_walked(struct source *source)
 {
-    struct generated found = {.family = "walked", .damage = ""};
     struct made_table table = {0};
     struct made_chain *b = add_chain(&table, (uint32_t)draw(source, 1, LATEST), LATEST, LATEST);
     b->asynchronous = one_in(source, 2);
@@ -1102,6 +1123,313 @@ struct generated generate_walked(struct source *source)
     split_cost(rare, 6, draw(source, 1, 3000000));
     if (one_in(source, 2))
         make_late(source, &table, 0);
-    found.length = encode(&table, found.bytes);
+    return stored(&table, "walked");
+}
+
+/* ---- Tables to be merged ---- */
+
+/* What a table has of an id: nothing, the chain as it was made, a change of it, or a change of that. */
+enum { MISSING, MADE, CHANGED, CHANGED_AGAIN, VERSIONS };
+
+/* What becomes of an id. The last four are conflicts. */
+enum {
+    KEPT,
+    CHANGED_IN_FIRST,
+    CHANGED_IN_SECOND,
+    CHANGED_ALIKE,
+    REMOVED_IN_FIRST,
+    REMOVED_IN_SECOND,
+    REMOVED_IN_BOTH,
+    ADDED_IN_FIRST,
+    ADDED_IN_SECOND,
+    ADDED_ALIKE,
+    CHANGED_APART,
+    REMOVED_AND_CHANGED,
+    CHANGED_AND_REMOVED,
+    ADDED_APART,
+    FATES
+};
+
+/* What the ancestor, the first copy and the second have of it then. */
+static const uint8_t versions[FATES][3] = {
+    [KEPT] = {MADE, MADE, MADE},
+    [CHANGED_IN_FIRST] = {MADE, CHANGED, MADE},
+    [CHANGED_IN_SECOND] = {MADE, MADE, CHANGED},
+    [CHANGED_ALIKE] = {MADE, CHANGED, CHANGED},
+    [REMOVED_IN_FIRST] = {MADE, MISSING, MADE},
+    [REMOVED_IN_SECOND] = {MADE, MADE, MISSING},
+    [REMOVED_IN_BOTH] = {MADE, MISSING, MISSING},
+    [ADDED_IN_FIRST] = {MISSING, MADE, MISSING},
+    [ADDED_IN_SECOND] = {MISSING, MISSING, MADE},
+    [ADDED_ALIKE] = {MISSING, MADE, MADE},
+    [CHANGED_APART] = {MADE, CHANGED, CHANGED_AGAIN},
+    [REMOVED_AND_CHANGED] = {MADE, MISSING, CHANGED},
+    [CHANGED_AND_REMOVED] = {MADE, CHANGED, MISSING},
+    [ADDED_APART] = {MISSING, MADE, CHANGED},
+};
+
+/* Fates as a set of bits. */
+enum {
+    BY_FIRST = 1 << KEPT | 1 << CHANGED_IN_FIRST | 1 << REMOVED_IN_FIRST | 1 << ADDED_IN_FIRST,
+    BY_SECOND = 1 << KEPT | 1 << CHANGED_IN_SECOND | 1 << REMOVED_IN_SECOND | 1 << ADDED_IN_SECOND,
+    BY_BOTH = BY_FIRST | BY_SECOND | 1 << CHANGED_ALIKE | 1 << REMOVED_IN_BOTH | 1 << ADDED_ALIKE,
+    ADDING = 1 << CHANGED_IN_FIRST | 1 << CHANGED_IN_SECOND | 1 << ADDED_IN_FIRST | 1 << ADDED_IN_SECOND,
+    REMOVING = 1 << REMOVED_IN_FIRST | 1 << REMOVED_IN_SECOND | 1 << REMOVED_IN_BOTH,
+    IN_CONFLICT = 1 << CHANGED_APART | 1 << REMOVED_AND_CHANGED | 1 << CHANGED_AND_REMOVED | 1 << ADDED_APART
+};
+
+struct range {
+    unsigned low, high;
+};
+
+static unsigned draw_from(struct source *source, struct range range)
+{
+    return (unsigned)draw(source, range.low, range.high);
+}
+
+/* What may become of the chains, how many there are, and how many tasks and distances each has. */
+struct story {
+    const char *name;
+    unsigned share; /* of a hundred triples */
+    unsigned fates;
+    struct range chains, tasks, listed;
+};
+
+/* The last five make results around the limits: 16 chains, 64 tasks, 1,284 bytes. */
+static const struct story stories[] = {
+    {"nothing edited", 3, 1 << KEPT, {1, 16}, {1, 4}, {1, 8}},
+    {"first copy edited", 6, BY_FIRST, {1, 16}, {1, 4}, {1, 8}},
+    {"second copy edited", 6, BY_SECOND, {1, 16}, {1, 4}, {1, 8}},
+    {"both copies edited", 20, BY_BOTH, {2, 16}, {1, 4}, {1, 8}},
+    {"few long chains edited", 8, BY_BOTH, {1, 5}, {1, 16}, {1, 8}},
+    {"conflicts", 15, BY_BOTH | IN_CONFLICT, {1, 16}, {1, 4}, {1, 8}},
+    {"conflicts alone", 5, IN_CONFLICT, {2, 8}, {1, 8}, {1, 8}},
+    {"all removed", 7, REMOVING, {2, 8}, {1, 8}, {1, 8}},
+    {"many chains", 6, ADDING, {16, 24}, {1, 3}, {1, 8}},
+    {"many tasks", 6, ADDING, {5, 12}, {6, 16}, {1, 8}},
+    {"many chains and tasks", 8, ADDING, {17, 19}, {3, 5}, {1, 4}},
+    {"full records", 5, ADDING, {15, 17}, {3, 5}, {8, 8}},
+    {"full records of few tasks", 5, ADDING, {16, 18}, {3, 4}, {8, 8}},
+};
+
+static const struct story *any_story(struct source *source)
+{
+    const struct story *story = stories;
+    for (uint64_t turn = draw(source, 1, 100); turn > story->share; story++)
+        turn -= story->share;
+    return story;
+}
+
+/* One of these fates; half of the chains or more are kept where that is one of them. */
+static unsigned any_fate(struct source *source, unsigned fates)
+{
+    unsigned fate;
+    if (fates >> KEPT & 1 && one_in(source, 2))
+        return KEPT;
+    do
+        fate = (unsigned)draw(source, 0, FATES - 1);
+    while (!(fates >> fate & 1));
+    return fate;
+}
+
+/* Ids in no order; or small ones, up or down; or from the greatest on, up or down; or alike but for the second byte. */
+static struct ids any_ids(struct source *source)
+{
+    static const struct ids close[] = {
+        {0, 1}, {25, HIGHEST - 1}, {HIGHEST - 3, 1}, {HIGHEST - 1, HIGHEST - 1}, {6, 256}};
+    return one_in(source, 2) ? mixed_ids(source) : close[draw(source, 0, 4)];
+}
+
+/* Any values that are allowed: a merge works no figures out. */
+static struct made_chain any_chain(struct source *source, uint32_t id, unsigned tasks, unsigned listed)
+{
+    struct made_chain chain = {.id = id, .listed = listed};
+    uint32_t latest = one_in(source, 2) ? 300 : LATEST;
+    chain.asynchronous = one_in(source, 2);
+    chain.overload = one_in(source, 2);
+    chain.deadline = (uint32_t)draw(source, 1, latest);
+    for (unsigned i = 0; i < listed; i++)
+        chain.distance[i] = (uint32_t)draw(source, 1, latest);
+    sort(chain.distance, listed);
+    if (listed > 1 && one_in(source, 4))
+        chain.distance[0] = 0;
+    fill_gap(source, &chain);
+    fill_tasks(source, &chain, tasks, HIGHEST, DEAREST);
+    return chain;
+}
+
+/* Another number from 1 to `most`, by one byte where that can be. */
+static uint32_t another(struct source *source, uint32_t value, uint32_t most)
+{
+    unsigned place = (unsigned)draw(source, 0, 3);
+    uint32_t other = value ^ (uint32_t)draw(source, 1, 255) << 8 * place;
+    if (other >= 1 && other <= most)
+        return other;
+    other = (uint32_t)draw(source, 1, most - 1);
+    return other < value ? other : other + 1;
+}
+
+/* One distance more, one less, or another one; where the gap is too small then, a larger gap. */
+static void change_list(struct source *source, struct made_chain *chain)
+{
+    unsigned last = chain->listed - 1;
+    if (last < 7 && one_in(source, 2)) {
+        chain->distance[last + 1] = (uint32_t)draw(source, chain->distance[last], LATEST);
+        chain->listed++;
+    } else if (last > 0 && one_in(source, 2)) {
+        memmove(chain->distance, chain->distance + 1, last * sizeof chain->distance[0]);
+        chain->listed--;
+    } else {
+        uint32_t *distance = &chain->distance[draw(source, 0, last)];
+        *distance = another(source, *distance, LATEST);
+        sort(chain->distance, chain->listed);
+    }
+    if (chain->gap > 0 && chain->gap < least_gap(chain))
+        chain->gap = least_gap(chain);
+}
+
+static void change_gap(struct source *source, struct made_chain *chain)
+{
+    uint32_t low = least_gap(chain);
+    if (chain->gap == LATEST)
+        chain->gap = 0;
+    else
+        chain->gap = (uint32_t)draw(source, chain->gap < low ? low : chain->gap + 1, LATEST);
+}
+
+/* One task less or more. */
+static void change_task_count(struct source *source, struct made_chain *chain)
+{
+    if (chain->tasks == 16 || (chain->tasks > 1 && one_in(source, 2)))
+        chain->tasks--;
+    else
+        fill_tasks(source, chain, 1, HIGHEST, DEAREST);
+}
+
+/* The same chain with one thing changed. */
+static struct made_chain changed(struct source *source, struct made_chain chain)
+{
+    struct made_task *task = &chain.task[draw(source, 0, chain.tasks - 1)];
+    switch (draw(source, 0, 9)) {
+    case 0:
+        chain.asynchronous = !chain.asynchronous;
+        break;
+    case 1:
+        chain.overload = !chain.overload;
+        break;
+    case 2:
+    case 3:
+        chain.deadline = another(source, chain.deadline, LATEST);
+        break;
+    case 4:
+        change_gap(source, &chain);
+        break;
+    case 5:
+        change_list(source, &chain);
+        break;
+    case 6:
+        change_task_count(source, &chain);
+        break;
+    case 7:
+        task->priority = another(source, task->priority, HIGHEST);
+        break;
+    default:
+        task->cost = another(source, task->cost, DEAREST);
+    }
+    return chain;
+}
+
+/* Whether a table stays within its limits with this chain too. */
+static bool has_room(const struct made_table *table, const struct made_chain *chain)
+{
+    unsigned tasks = chain->tasks;
+    for (unsigned i = 0; i < table->chains; i++)
+        tasks += table->chain[i].tasks;
+    return table->chains < 16 && tasks <= MOST_IN_ALL;
+}
+
+static bool all_have_room(const struct made_table tables[3], const struct made_chain version[VERSIONS], unsigned fate)
+{
+    for (unsigned i = 0; i < 3; i++)
+        if (versions[fate][i] != MISSING && !has_room(&tables[i], &version[versions[fate][i]]))
+            return false;
+    return true;
+}
+
+/* Gives each table what it has of this chain, unless one of them is full; the bytes that a merge has of it then. */
+static size_t add_fated(struct source *source, struct made_table tables[3], const struct made_chain *chain,
+                        unsigned fate)
+{
+    struct made_chain version[VERSIONS] = {[MADE] = *chain, [CHANGED] = changed(source, *chain)};
+    version[CHANGED_AGAIN] = changed(source, version[CHANGED]);
+    if (!all_have_room(tables, version, fate))
+        return 0;
+    const uint8_t *of = versions[fate];
+    for (unsigned i = 0; i < 3; i++)
+        if (of[i] != MISSING)
+            tables[i].chain[tables[i].chains++] = version[of[i]];
+    unsigned merged = of[1] == of[0] ? of[2] : of[1];
+    return merged == MISSING ? 0 : 16 + 4 * version[merged].listed + 8 * version[merged].tasks;
+}
+
+/* Exchanges records of a copy: none, two of them, or many. */
+static void move_records(struct source *source, struct made_table *table)
+{
+    unsigned moves = one_in(source, 2) ? 0 : one_in(source, 2) ? 1 : table->chains;
+    for (; moves > 0 && table->chains > 1; moves--) {
+        struct made_chain *one = &table->chain[draw(source, 0, table->chains - 1)];
+        struct made_chain *other = &table->chain[draw(source, 0, table->chains - 1)];
+        struct made_chain moved = *one;
+        *one = *other;
+        *other = moved;
+    }
+}
+
+/* No room for a result of this length, too little, just enough, or more. */
+static size_t any_room(struct source *source, size_t length)
+{
+    switch (draw(source, 0, 5)) {
+    case 0:
+        return 0;
+    case 1:
+        return draw(source, 0, length - 1);
+    case 2:
+        return length - 1;
+    case 3:
+        return length + draw(source, 1, 64);
+    default:
+        return length;
+    }
+}
+
+/* Tables of a story; now and then the last chain is in conflict whatever the story. */
+struct triple generate_triple(struct source *source)
+{
+    const struct story *story = any_story(source);
+    struct made_table tables[3] = {0};
+    struct ids ids = any_ids(source);
+    unsigned chains = draw_from(source, story->chains);
+    size_t length = 4; /* of the merge */
+    for (unsigned i = 0; i < chains; i++) {
+        unsigned tasks = draw_from(source, story->tasks);
+        struct made_chain chain = any_chain(source, id_at(ids, i), tasks, draw_from(source, story->listed));
+        unsigned fates = i + 1 == chains && one_in(source, 8) ? IN_CONFLICT : story->fates;
+        length += add_fated(source, tables, &chain, any_fate(source, fates));
+    }
+    struct triple found = {.table = {stored(&tables[0], story->name)}, .room = any_room(source, length)};
+    for (unsigned i = 1; i < 3; i++) {
+        move_records(source, &tables[i]);
+        found.table[i] = stored(&tables[i], story->name);
+    }
     return found;
+}
+
+void spoil_triple(struct source *source, struct triple *triple)
+{
+    unsigned some = (unsigned)draw(source, 1, 7);
+    for (unsigned i = 0; i < 3; i++) {
+        struct generated *table = &triple->table[i];
+        if (some >> i & 1)
+            spoil_together(source, table, get(table->bytes + table->length - 2, 2));
+    }
 }

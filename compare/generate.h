@@ -1,4 +1,5 @@
-/* A seeded generator of stored tables: valid ones of every shape, ones at the limits, slow ones and damaged ones. */
+/* A seeded generator of stored tables: valid ones of every shape, ones at the limits, slow ones and damaged ones, and
+   tables to be merged. */
 #ifndef GENERATE_H
 #define GENERATE_H
 
@@ -70,5 +71,18 @@ struct generated generate(struct source *source);
 void spoil_together(struct source *source, struct generated *table, unsigned chains);
 /* A table on which counting arrivals one by one takes seconds. */
 struct generated generate_walked(struct source *source);
+
+/* ---- Tables to be merged ---- */
+
+/* An ancestor and its two edited copies, in this order, and the length of a buffer for their merge. */
+struct triple {
+    struct generated table[3];
+    size_t room;
+};
+
+/* Mostly accepted tables; their merge may be in conflict, or its result be refused. */
+struct triple generate_triple(struct source *source);
+/* Spoils some of the tables or all; none of them may be spoiled yet. */
+void spoil_triple(struct source *source, struct triple *triple);
 
 #endif

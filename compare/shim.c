@@ -30,6 +30,21 @@ uint32_t mishtodran_save(uint8_t *buffer, size_t buffer_len, uint64_t used, cons
     return plain_save(buffer, buffer_len, used, old_record, old_len, new_record, new_len, answer, answer_len);
 }
 
+uint32_t mishtodran_merge(const uint8_t *ancestor, size_t ancestor_len, const uint8_t *first, size_t first_len,
+                          const uint8_t *second, size_t second_len, uint8_t *buffer, size_t buffer_len,
+                          uint8_t *answer, size_t answer_len)
+{
+    return plain_merge(ancestor, ancestor_len, first, first_len, second, second_len, buffer, buffer_len, answer,
+                       answer_len);
+}
+
+uint32_t mishtodran_conflict(const uint8_t *ancestor, size_t ancestor_len, const uint8_t *first, size_t first_len,
+                             const uint8_t *second, size_t second_len, uint32_t above, uint8_t *answer,
+                             size_t answer_len)
+{
+    return plain_conflict(ancestor, ancestor_len, first, first_len, second, second_len, above, answer, answer_len);
+}
+
 uint32_t mishtodran_report(const uint8_t *table, size_t table_len, uint8_t *text, size_t text_len, uint8_t *answer,
                            size_t answer_len)
 {

@@ -195,13 +195,14 @@ uint32_t mishtodran_save(uint8_t *buffer, size_t buffer_len, uint64_t used,
                          uint8_t *answer, size_t answer_len);
 
 /* Merges two edited copies of a table, given their common ancestor: 4 bytes of answer, the length of the result, which
- * stands at the start of the buffer. For each id, the result has what the two copies have where they are alike, else
- * what the one has that differs from the ancestor; that a record is missing counts as any other difference, so what one
- * side removed or added is removed or added. The ancestor's records that stay come first, in its order, then those that
- * the first copy added, in its order, then those that only the second did. Where a record stands in its table is no
- * difference.
+ * stands at the start of the buffer; bytes past it stay. For each id, the result has what the two copies have where they
+ * are alike, else what the one has that differs from the ancestor; that a record is missing counts as any other
+ * difference, so what one side removed or added is removed or added. The ancestor's records that stay come first, in its
+ * order, then those that the first copy added, in its order, then those that only the second did. Where a record stands
+ * in its table is no difference. MISHTODRAN_MOST_TABLE_BYTES of buffer hold every result that is accepted.
  * Refuses with 27, then the ancestor's number, the first copy's, the second's; 32 where some id has three states, one in
- * each table, and mishtodran_conflict says which; 24; the result's number, which is 1, 9 or 11. */
+ * each table, and mishtodran_conflict says which; 24; the result's number, which is 1, 9 or 11. The buffer then stays as
+ * it was, and mishtodran_check of each table says whether a table's number was its own. */
 uint32_t mishtodran_merge(const uint8_t *ancestor, size_t ancestor_len,
                           const uint8_t *first, size_t first_len,
                           const uint8_t *second, size_t second_len,

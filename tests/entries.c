@@ -24,8 +24,10 @@ enum {
     SAME = 65535 /* the packed length of bytes that do not change */
 };
 
-enum { LATENCY, MISSES, SEGMENT, SAVE, REPORT, CHECK };
+enum { LATENCY, MISSES, SEGMENT, SAVE, REPORT, CHECK, MERGE, CONFLICT };
 enum { TABLE, OLD, NEW, TEXT, ANSWER, SLICES };
+/* What a merge, and the question for its conflicts, lend in these places. */
+enum { ANCESTOR = TABLE, FIRST = OLD, SECOND = NEW, BUFFER = TEXT };
 
 /* Bytes to lend, and what they must be afterwards. */
 struct slice {
@@ -135,10 +137,11 @@ static void protect(unsigned which, int how)
     }
 }
 
-/* An entry writes the answer, save its buffer, and report its text. */
+/* An entry writes the answer, save and merge their buffer, and report its text. */
 static bool is_written(unsigned entry, unsigned which)
 {
-    return which == ANSWER || (entry == SAVE && which == TABLE) || (entry == REPORT && which == TEXT);
+    return which == ANSWER || (entry == SAVE && which == TABLE) || (entry == REPORT && which == TEXT) ||
+           (entry == MERGE && which == BUFFER);
 }
 
 /* Where a slice of this length stands: against the page after it, or against the page before it. */
@@ -209,6 +212,20 @@ static size_t stack_taken(void)
     return (size_t)(called_from - deepest);
 }
 
+static uint32_t call_merge(const struct entry_case *given, bool at_end)
+{
+    const struct slice *slice = given->slice;
+    uint8_t *ancestor = lent(given, ANCESTOR, at_end), *first = lent(given, FIRST, at_end);
+    uint8_t *second = lent(given, SECOND, at_end), *answer = lent(given, ANSWER, at_end);
+    size_t ancestor_len = slice[ANCESTOR].length, first_len = slice[FIRST].length, second_len = slice[SECOND].length;
+    size_t answer_len = slice[ANSWER].length;
+    if (given->entry == CONFLICT)
+        return mishtodran_conflict(ancestor, ancestor_len, first, first_len, second, second_len,
+                                   (uint32_t)given->number[0], answer, answer_len);
+    return mishtodran_merge(ancestor, ancestor_len, first, first_len, second, second_len, lent(given, BUFFER, at_end),
+                            slice[BUFFER].length, answer, answer_len);
+}
+
 static uint32_t call(const struct entry_case *given, bool at_end)
 {
     called_from = __builtin_frame_address(0);
@@ -229,6 +246,9 @@ static uint32_t call(const struct entry_case *given, bool at_end)
         return mishtodran_report(table, table_len, lent(given, TEXT, at_end), slice[TEXT].length, answer, answer_len);
     case CHECK:
         return mishtodran_check(table, table_len, answer, answer_len);
+    case MERGE:
+    case CONFLICT:
+        return call_merge(given, at_end);
     default:
         return mishtodran_save(table, table_len, number[0], lent(given, OLD, at_end), slice[OLD].length,
                                lent(given, NEW, at_end), slice[NEW].length, answer, answer_len);
@@ -259,9 +279,9 @@ static bool run(const struct entry_case *given, bool at_end)
     if (!is_as_expected(given, TABLE, at_end))
         return fails(given, "the table is not as expected");
     if (!is_as_expected(given, TEXT, at_end))
-        return fails(given, "the text is not as expected");
+        return fails(given, "the text, or the buffer of a merge, is not as expected");
     if (!is_as_expected(given, OLD, at_end) || !is_as_expected(given, NEW, at_end))
-        return fails(given, "a record has changed");
+        return fails(given, "a record, or a copy, has changed");
     return true;
 }
 

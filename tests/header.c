@@ -1,6 +1,6 @@
 /* Holds the constants of mishtodran.h against the library: the version, the fields of the records, the limits, a table's
-   numbers and the lengths of the answers. Tables are made by the constants alone, and what the library says of each
-   shows whether they are right.
+   numbers, those of a merge and the lengths of the answers. Tables are made by the constants alone, and what the library
+   says of each shows whether they are right.
    Usage: header */
 #include "mishtodran.h"
 
@@ -220,6 +220,25 @@ static bool limits_hold(void)
     return right;
 }
 
+/* Whether the merge into so many bytes is refused with this number: the ancestor has chain 1 with one task, the copies
+   with as many as these. */
+static bool is_merged(const char *what, unsigned first_tasks, unsigned second_tasks, size_t room, uint32_t refusal)
+{
+    uint8_t ancestor[SHORTEST], first[LONGEST_OF_ONE], second[LONGEST_OF_ONE], buffer[LONGEST_OF_ONE];
+    uint8_t answer[MISHTODRAN_MERGE_BYTES];
+    size_t length = put_table(ancestor, 1, 1, 1), first_length = put_table(first, 1, 1, first_tasks);
+    size_t second_length = put_table(second, 1, 1, second_tasks);
+    return is_same(what, mishtodran_merge(ancestor, length, first, first_length, second, second_length, buffer, room,
+                                          answer, sizeof answer), refusal);
+}
+
+static bool merges_hold(void)
+{
+    bool right = is_merged("a merge", 1, MISHTODRAN_MOST_TASKS, LONGEST_OF_ONE, 0);
+    right &= is_merged("a merge without room", 1, 1, SHORTEST - 1, MISHTODRAN_BUFFER_TOO_SHORT);
+    return right & is_merged("a conflict", 2, 3, LONGEST_OF_ONE, MISHTODRAN_IN_CONFLICT);
+}
+
 /* An entry takes an answer buffer of its length, and none that is shorter. */
 #define FITS(entry, call) \
     (length = MISHTODRAN_##entry##_BYTES, is_same(#entry, (call) == MISHTODRAN_ANSWER_TOO_SHORT, false)) && \
@@ -236,15 +255,17 @@ static bool answers_hold(void)
            FITS(MISSES, mishtodran_misses(table, used, 1, 1, answer, length)) &&
            FITS(SEGMENT, mishtodran_segment(table, used, 1, 1, 1, answer, length)) &&
            FITS(SAVE, mishtodran_save(table, sizeof table, used, old, sizeof old, old, sizeof old, answer, length)) &&
+           FITS(MERGE, mishtodran_merge(table, used, table, used, table, used, text, sizeof text, answer, length)) &&
+           FITS(CONFLICT, mishtodran_conflict(table, used, table, used, table, used, 0, answer, length)) &&
            FITS(REPORT, mishtodran_report(table, used, text, sizeof text, answer, length));
 }
 
 int main(void)
 {
     bool version = is_same("version of the library", mishtodran_version(), MISHTODRAN_VERSION);
-    bool fields = fields_hold(), limits = limits_hold(), answers = answers_hold();
-    if (!version || !fields || !limits || !answers)
+    bool fields = fields_hold(), limits = limits_hold(), merges = merges_hold(), answers = answers_hold();
+    if (!version || !fields || !limits || !merges || !answers)
         return 1;
-    puts("the header's version, fields, limits, table's numbers and answers are the library's");
+    puts("the header's version, fields, limits, table's and merge's numbers and answers are the library's");
     return 0;
 }

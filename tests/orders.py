@@ -3,7 +3,7 @@
 For every two neighbours in the documents' orders of faults and refusals that can both hold at once, and for some further
 apart, a case with both: the first decides. Beside it stands the same case with the first mended, where the second decides;
 so both do hold. Swapping the two in an order changes the answer of the first case. Of a table number and offset are told, so
-that two faults with one number are told apart by their places.
+that two faults with one number are told apart by their places; of a merge its number and detail (merged.py).
 
 Not told apart, since number and place are the same: the two parts of 4, of 6 and of 9, no chain and a wrong end count, and
 the parts of 23.
@@ -11,17 +11,20 @@ Never both: a mark that is not whole and its value (2, 3; here one byte that beg
 chain record accepted so far ends past byte 1,280), 30 and 31 where no distance falls (all of them are 0), 7 and 31 where no
 distance is too large, 16 and 17 of one window, no late activation and 20 (windows without overload are never longer), 4, 2
 or 11 in the result of a save (the new record is whole and has the id of the old one), 24 and a new record under 16 bytes
-(the result is shorter than the table).
+(the result is shorter than the table), any other number than 1, 9 and 11 in the result of a merge (its records are those of
+accepted tables, each id once). There 1 never stands alone: above 1,284 bytes there are over 16 chains or over 64 tasks.
 
 Run as a program it lists the pairs.
 """
 from collections import namedtuple
 
+from merged import merge
 from stored import AT, COST_AT, COUNT_AT, LONGEST, NUMBERS, PRIORITY_AT, TIME, Verdict, save_verdict, verdict
 from table import DISTANCE, END, FIXED, TASK, chain, end, fixed_part, stored
 
 # What is told of the first and of the second, what both are about, the case in which both hold, and the one in which only
-# the second does. Told are number and offset of a table, and the number of a call; in a query 0 is the answer 0.
+# the second does. Told are number and offset of a table, number and detail of a merge, and the number of any other call; in
+# a query 0 is the answer 0.
 Pair = namedtuple("Pair", "first second what both later")
 
 
@@ -512,12 +515,125 @@ def saves():
 SAVE = saves()
 
 
+# ---- Merges: (ancestor, first, second, room) ----
+
+MUCH_ROOM = 3000
+ONE = stored(GOOD)
+EDITED = [stored(record(id=1, deadline=deadline)) for deadline in (50, 60)]
+IN_CONFLICT, NO_ROOM = Verdict(32, 1), Verdict(24, 0)
+WHICH = ("the ancestor", "the first copy", "the second copy")
+
+
+def as_table(turn, made, others):
+    """Three tables: this one as the ancestor, the first copy or the second, and two others."""
+    return (*others[:turn], made, *others[turn:])
+
+
+def of_tables():
+    """A table's number before that of a later table, before 32 and before 24. In every table of REFUSED chain 1 is as in ONE
+    or missing, so it has three states with the two that are edited."""
+    pairs, made = [], [*REFUSED.values()]
+    for turn, what in enumerate(WHICH):
+        for refused in made:
+            pairs += [
+                Pair(verdict(refused), IN_CONFLICT, f"{what}, chain 1 in conflict",
+                     (*as_table(turn, refused, EDITED), MUCH_ROOM), (*as_table(turn, ONE, EDITED), MUCH_ROOM)),
+                Pair(verdict(refused), NO_ROOM, f"{what}, no room", (*as_table(turn, refused, (ONE, ONE)), 0),
+                     (ONE, ONE, ONE, 0)),
+            ]
+    for one, other in ((0, 1), (1, 2), (0, 2)):
+        for refused, refused_too in zip(made, made[1:] + made[:1]):
+            later = as_table(other, refused_too, (ONE, ONE))
+            pairs.append(Pair(verdict(refused), verdict(refused_too), f"{WHICH[one]}, {WHICH[other]}",
+                              (*later[:one], refused, *later[one + 1:], MUCH_ROOM), (*later, MUCH_ROOM)))
+    return pairs
+
+
+def two_conflicts():
+    """The smallest id decides, wherever it stands and whatever was done to it."""
+    seven, three = record(id=7), record(id=3)
+    (seven_50, three_50, five_50), (seven_60, three_60, five_60) = (
+        [record(id=i, deadline=deadline) for i in (7, 3, 5)] for deadline in (50, 60))
+    both = stored(seven, three)
+    found = [
+        (3, "7 and 3 changed differently", (both, stored(seven_50, three_50), stored(seven_60, three_60)),
+         (both, stored(seven_50, three_50), stored(seven_60, three))),
+        (5, "7 changed differently, 5 added differently",
+         (stored(seven), stored(seven_50, five_50), stored(seven_60, five_60)),
+         (stored(seven), stored(seven_50, five_50), stored(seven_60))),
+        (3, "7 removed and changed, 3 changed and removed", (both, stored(three_50), stored(seven_50)),
+         (both, stored(three), stored(seven_50, three))),
+    ]
+    return [Pair(Verdict(32, smallest), Verdict(32, 7), what, (*tables, MUCH_ROOM), (*later, MUCH_ROOM))
+            for smallest, what, tables, later in found]
+
+
+def added(one, two, deadlines=(40, 40)):
+    """Chain 1, which the copies give these deadlines, and to which they add these records."""
+    return ONE, *(stored(record(id=1, deadline=deadline), *new) for new, deadline in zip((one, two), deadlines))
+
+
+def plain(ids, tasks, distances=(100,)):
+    return [chain(i, 0, 0, 40, 0, distances, [(5, 10)] * tasks) for i in ids]
+
+
+def after_chain_1(*records):
+    return len(GOOD + b"".join(records))
+
+
+LONG_LIST = range(100, 900, 100)
+
+# What the copies add so that the result is refused: the number and offset, and what it has. Those refused with 1 have another
+# fault too.
+REFUSED_RESULTS = [
+    (Verdict(1, 0), "1,608 bytes, 114 tasks", plain(range(2, 9), 8, LONG_LIST), plain(range(9, 16), 8, LONG_LIST)),
+    (Verdict(1, 0), "1,296 bytes, 17 chains", plain(range(2, 17), 4, LONG_LIST), plain([17], 1, LONG_LIST)),
+    (Verdict(9, after_chain_1(*plain((2, 3, 4), 16)) + AT.tasks), "66 tasks", plain((2, 3, 4), 16), plain([5], 16)),
+    (Verdict(11, after_chain_1(*plain(range(2, 17), 1))), "17 chains", plain(range(2, 17), 1), plain([17], 1)),
+]
+
+
+def refused_results():
+    pairs = []
+    for told, what, one, two in REFUSED_RESULTS:
+        tables = added(one, two)
+        length = sum(map(len, tables[1:])) - len(ONE)
+        pairs += [
+            Pair(NO_ROOM, told, f"a byte of room too few, {what}", (*tables, length - 1), (*tables, length)),
+            Pair(IN_CONFLICT, told, f"chain 1 in conflict, {what}", (*added(one, two, (50, 60)), MUCH_ROOM),
+                 (*tables, MUCH_ROOM)),
+        ]
+    wide, long, tasks, chains = ((told, (*added(one, two), MUCH_ROOM)) for told, _, one, two in REFUSED_RESULTS)
+    none_left = (stored(GOOD, record()), ONE, stored(record()))
+    fourteen, fifteen = (plain(range(2, n), 4) for n in (16, 17))
+    sixteenth = after_chain_1(*fourteen)
+    many_tasks = Verdict(9, sixteenth + AT.tasks)
+    return pairs + [
+        Pair(IN_CONFLICT, NO_ROOM, "chain 1 in conflict, no room", (ONE, *EDITED, 0), (ONE, ONE, EDITED[0], 0)),
+        Pair(IN_CONFLICT, NO_ROOM, "chain 1 in conflict, a byte of room too few", (ONE, *EDITED, len(ONE) - 1),
+             (ONE, ONE, EDITED[0], len(ONE) - 1)),
+        Pair(NO_ROOM, Verdict(11, COUNT_AT), "a byte of room too few, no chain", (*none_left, END.size - 1),
+             (*none_left, END.size)),
+        Pair(wide[0], tasks[0], "above 1,284 bytes, over 64 tasks", wide[1], tasks[1]),
+        Pair(long[0], chains[0], "above 1,284 bytes, 17 chains", long[1], chains[1]),
+        Pair(many_tasks, Verdict(11, sixteenth + len(plain([16], 1)[0])), "over 64 tasks with the 16th chain, a 17th",
+             (*added(fourteen, plain([16], 16) + plain([17], 1)), MUCH_ROOM), (*added(fourteen, plain([16, 17], 1)), MUCH_ROOM)),
+        Pair(Verdict(11, after_chain_1(*fifteen)), many_tasks, "a 17th chain, over 64 tasks with it",
+             (*added(fifteen, plain([17], 16)), MUCH_ROOM), (*added(fourteen, plain([17], 16)), MUCH_ROOM)),
+    ]
+
+
+MERGE = of_tables() + two_conflicts() + refused_results()
+
+
 # ---- All calls, what is told of them held against the reader written from the documents ----
 
 def told_by_reader(call, told):
-    """What that reader tells: of a table, of a query's table, or of a save."""
+    """What that reader tells: of a table, of a merge, of a save, or of a query's table."""
     if isinstance(call, bytes):
         return verdict(call)
+    if isinstance(call[1], bytes):
+        return Verdict(*merge(*call)[:2])
     if isinstance(call[1], int) and isinstance(call[-1], bytes):
         return save_verdict(*call)
     return verdict(call[0]).number or (told if told not in NUMBERS else 0)
@@ -543,5 +659,6 @@ def calls(pairs):
 
 
 if __name__ == "__main__":
-    for orders, pairs in (("table", READING), ("latency", LATENCY), ("misses", MISSES), ("segment", SEGMENT), ("save", SAVE)):
+    for orders, pairs in (("table", READING), ("latency", LATENCY), ("misses", MISSES), ("segment", SEGMENT), ("save", SAVE),
+                          ("merge", MERGE)):
         print(*(f"{orders}: {shown(pair.first)} before {shown(pair.second)}: {pair.what}" for pair in pairs), sep="\n")

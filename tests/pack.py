@@ -26,6 +26,7 @@ from table import chain, stored, table_of
 CASES = TOP / "tests" / "cases"
 QUERY = {"tag", "table", "answer", "rc", "after"}
 REFUSED = {"table", "rc", "detail"}
+MERGE = {"ancestor", "first", "second", "room", "rc"}
 KEYS = {  # of the cases of each file, one set of these; tests/cases/README.md has their meaning
     "latency": [QUERY | {"id"}],
     "misses": [QUERY | {"id", "k"}],
@@ -34,6 +35,7 @@ KEYS = {  # of the cases of each file, one set of these; tests/cases/README.md h
     "report": [{"tag", "table", "text"}],
     "read": [REFUSED, {"table", "rc", "chains"}],
     "faults": [REFUSED],
+    "merge": [MERGE | {"table", "taken"}, MERGE | {"taken"}, MERGE | {"detail"}, MERGE | {"detail", "taken"}],
 }
 
 # The sample table of document 01, and the published case study.
@@ -85,7 +87,8 @@ def told(case):
         words = case["text"].split()
         return Verdict(int(words[1]), int(words[2])) if words[0] == "refused" else ACCEPTED
     rc = case["rc"]
-    if rc == 27 or "buffer" in case and rc in NUMBERS:  # a save's number may be that of its result
+    # a save's number may be that of its result, a merge's that of any of its tables
+    if rc == 27 or "buffer" in case and rc in NUMBERS or "ancestor" in case:
         return Verdict(None, None)
     return Verdict(rc, case.get("detail")) if rc in NUMBERS else ACCEPTED
 
@@ -112,12 +115,14 @@ def cases(name):
     return found
 
 
-def table_in(case):
-    """The table of a case, or None where a save's used length is above its buffer."""
+def tables_in(case):
+    """The tables that a case lends: none where a save's used length is above its buffer, three in a merge."""
+    if "ancestor" in case:
+        return [bytes.fromhex(case[key]) for key in ("ancestor", "first", "second")]
     if "buffer" not in case:
-        return bytes.fromhex(case["table"])
+        return [bytes.fromhex(case["table"])]
     buffer = bytes.fromhex(case["buffer"])
-    return buffer[:case["used"]] if case["used"] <= len(buffer) else None
+    return [buffer[:case["used"]]] if case["used"] <= len(buffer) else []
 
 
 def must_agree(name, case, table, found):
@@ -132,10 +137,10 @@ def must_agree(name, case, table, found):
 def of_files():
     """Each different table of any file with its verdict, named after the first case that has it."""
     found = {}
-    for file in ("latency", "misses", "report", "save", "segment", "read", "faults"):  # the order of the packed cases
+    for file in ("latency", "misses", "report", "save", "segment", "read", "faults", "merge"):  # the order of the packed cases
         for turn, case in enumerate(cases(file), 1):
-            name, table = f"{file}.jsonl:{turn}", table_in(case)
-            if table is not None:
+            name = f"{file}.jsonl:{turn}"
+            for table in tables_in(case):
                 must_agree(name, case, table, found.setdefault(table, (name, verdict(table)))[1])
     return [(name, table, told) for table, (name, told) in found.items()]
 

@@ -1,7 +1,7 @@
 #!/usr/bin/env python3
 """Makes the packed cases of the gate anew, from tests/cases and the cases that stand in the pack modules.
 
-Usage: pack_all.py            writes the three files
+Usage: pack_all.py            writes the four files
        pack_all.py --check    writes nothing and compares: 0 if all are the same, else 1 and the name of each that differs
 
 Status 2: a wrong use, or something cannot be read or written.
@@ -10,6 +10,7 @@ import sys
 
 import pack
 import pack_entries
+import pack_merge
 import pack_save
 from stored import TOP
 from table import replace
@@ -17,6 +18,7 @@ from table import replace
 PACKED = {
     "crates/vectors/stdin": pack.everything,
     "crates/save_vectors/stdin": pack_save.everything,
+    "crates/merge_vectors/stdin": pack_merge.everything,
     "tests/entries.bin": pack_entries.everything,
 }
 

@@ -2,22 +2,27 @@
 
 A report of tests/cases has a table and its text alone: its buffers are made here, as long as the text, longer, or too short.
 After the cases of the files come those that document 01 tells (pack.py), those that only an order decides (orders.py), and
-answer buffers too short for each of them. Every table of all these is checked too.
+answer buffers too short for each of them. Every table of all these is checked too. Last come the merges of pack_merge.py, each
+with its conflicts one after the other.
 
-Packed, little-endian: for each case the entry (1 byte: 0 latency, 1 misses, 2 segment, 3 save, 4 report, 5 check); its name
-(1 byte of length, text); three numbers (8 bytes each: id; id, k; a, b, n; used; none; none); what it returns (4 bytes); then,
-before the call, the table or buffer, the old record, the new record, the text and the answer, and after it the table or
-buffer, the text and the answer: 2 bytes of length, then the bytes, or the length 65,535 alone for no change.
+Packed, little-endian: for each case the entry (1 byte: 0 latency, 1 misses, 2 segment, 3 save, 4 report, 5 check, 6 merge,
+7 conflict); its name (1 byte of length, text); three numbers (8 bytes each: id; id, k; a, b, n; used; none; none; none;
+above); what it returns (4 bytes); then, before the call, the table or buffer, the old record, the new record, the text and the
+answer, and after it the table or buffer, the text and the answer: 2 bytes of length, then the bytes, or the length 65,535
+alone for no change. The ancestor of a merge stands in the table's place, its copies in those of the records, and its buffer in
+that of the text.
 """
 import struct
 
 import orders
 import pack
+import pack_merge
+from merged import conflicts, first_fault, merge, next_conflict
 from stored import NUMBERS
 
 SAME = 65535
-ENTRIES = ("latency", "misses", "segment", "save", "report", "check")
-ANSWER_BYTES = {"latency": 16, "misses": 4, "segment": 8, "save": 4, "report": 4, "check": 8}
+ENTRIES = ("latency", "misses", "segment", "save", "report", "check", "merge", "conflict")
+ANSWER_BYTES = {"latency": 16, "misses": 4, "segment": 8, "save": 4, "report": 4, "check": 8, "merge": 4, "conflict": 4}
 
 
 def slice_of(data):
@@ -154,6 +159,39 @@ def checks():
             yield packed("check", f"check, {name}, {len(short)} bytes of answer", (), 27, table, short)
 
 
+# ---- Merges ----
+
+def of_merge(name, tables, room, spare):
+    """The merge, into an answer buffer that has so many bytes to spare."""
+    ancestor, first, second = tables
+    found, buffer, answer = merge(*tables, room), lent(room), lent(ANSWER_BYTES["merge"] + spare)
+    accepted = found.number == 0
+    return packed("merge", name, (), found.number, ancestor, answer, old=first, new=second, text=buffer,
+                  after=written(struct.pack("<I", len(found.result)), answer) if accepted else None,
+                  text_after=written(found.result, buffer) if accepted else None)
+
+
+def of_conflicts(name, tables, spare):
+    """The conflicts one after the other, up to the answer 0; then, where there are some, those just below one, and above ids
+    that no table can have. Of a refused table one call."""
+    ancestor, first, second = tables
+    answer, number = lent(ANSWER_BYTES["conflict"] + spare), first_fault(*tables).number
+    found = [] if number else conflicts(*tables)
+    for above in [0, *found] + ([found[-1] - 1, 65_536, 2**32 - 1] if found else []):
+        after = None if number else written(struct.pack("<I", next_conflict(tables, above)), answer)
+        yield packed("conflict", f"{name}, conflicts above {above}", (above,), number, ancestor, answer, after, first, second)
+
+
+def merges():
+    """Each merge, its conflicts, and 27 for both; it comes before all else, so a short buffer will do for that."""
+    for turn, (name, (*tables, room)) in enumerate(pack_merge.calls()):
+        yield of_merge(name, tables, room, turn % 3)
+        yield from of_conflicts(name, tables, (0, 0, 1, 5)[turn % 4])
+        ancestor, first, second = tables
+        for entry, length, buffer in (("merge", turn % 4, lent(min(room, 8))), ("conflict", 3 - turn % 4, b"")):
+            yield packed(entry, f"{entry}, 27 before {name}", (), 27, ancestor, lent(length), old=first, new=second, text=buffer)
+
+
 def of_files():
     for name in ("latency", "misses", "segment", "save", "report"):
         for turn, case in enumerate(pack.cases(name), 1):
@@ -161,4 +199,4 @@ def of_files():
 
 
 def everything():
-    return [*of_files(), *documented(), *two_refusals(), *short_answers(), *checks()]
+    return [*of_files(), *documented(), *two_refusals(), *short_answers(), *checks(), *merges()]

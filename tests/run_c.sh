@@ -1,6 +1,6 @@
 #!/usr/bin/env bash
 # Holds the header against the library, runs the cases of tests/entries.bin through the C entries, and tries the example
-# editor on copies of the sample table.
+# editor and the example merge on copies of the sample table.
 # Usage: tests/run_c.sh LIBRARY [INCLUDE]
 # LIBRARY is an x86-64 archive with the entries of mishtodran.h (target/staticlib/libeditor.a), INCLUDE the header's folder.
 set -u
@@ -140,9 +140,118 @@ wait "$one" || found "the example editor ended with a failure"
 wait "$two" || found "the example editor ended with a failure"
 holds "two editors at once" 40 5a
 
+# ---- The example merge ----
+
+tables=${table%/*}/tables
+{ mkdir "$tables" && chmod 777 "$tables"; } || fail "$tables cannot be made"
+c_build "$room/merge" -I "$include" "$top/examples/merge.c" "$library" || fail "examples/merge.c was not built"
+
+# edited NAME [OFFSET BYTE]..: the sample with these bytes, in hexadecimal, at these offsets: chain 1's deadline, 40, is at 6,
+# the cost of its first task, 10, at 24, and that of chain 2's, 5, at 60.
+edited() {
+    local to=$tables/$1
+    shift
+    cp "$sample" "$to" || fail "the sample cannot be copied"
+    while [ $# -gt 0 ]; do
+        printf '%b' "\\x$2" | dd of="$to" bs=1 seek="$1" conv=notrunc status=none
+        shift 2
+    done
+}
+
+# all_but FILE: a line for each other file beside the tables, with what stands in it.
+all_but() {
+    (cd "$tables" && find . -type f ! -name "$1" -exec sha256sum {} + | LC_ALL=C sort)
+}
+
+# merges STATUS OUT ERR WORDS..: it ends with this status, and says this on standard output and standard error. With 0 the last
+# word names the table `wanted`, and no other file is new or has changed; else none at all.
+merges() {
+    local status=$1 out=$2 err=$3 result='' before
+    shift 3
+    [ "$status" != 0 ] || result=$(readlink -f "$tables/$4")
+    before=$(all_but "${result##*/}")
+    (cd "$tables" && "${as[@]}" "${c_runner[@]}" "${table%/*}/merge" "$@") >"$room/out" 2>"$room/err"
+    [ $? = "$status" ] || found "the example merge, '$*': the status is not $status"
+    [ "$(cat "$room/out")" = "$out" ] || found "the example merge, '$*': it writes '$(cat "$room/out")'"
+    [ "$(cat "$room/err")" = "$err" ] || found "the example merge, '$*': it says '$(cat "$room/err")'"
+    [ "$(all_but "${result##*/}")" = "$before" ] || found "the example merge, '$*': a file has changed, or is left"
+    [ "$status" != 0 ] || cmp -s "$tables/wanted" "$result" || found "the example merge, '$*': another result"
+}
+
+# One engineer tightens the deadline of chain 1, the other lowers the cost of chain 2: both edits stand, whoever is first.
+as=()
+merged="merged, the table has 140 bytes"
+edited ancestor
+edited mine 6 24
+edited theirs 60 04
+edited wanted 6 24 60 04
+merges 0 "$merged" "" ancestor mine theirs result
+merges 0 "$merged" "" ancestor theirs mine result
+
+# The result takes the place of a file that is there, of a copy too or through a link, and keeps who may read it.
+chmod 640 "$tables/result"
+ln -s result "$tables/link"
+merges 0 "$merged" "" ancestor mine theirs link
+[ -L "$tables/link" ] || found "the example merge replaced a link"
+[ "$(stat -c %a "$tables/result")" = 640 ] || found "the example merge changed who may read the result"
+merges 0 "$merged" "" ancestor mine theirs mine
+
+# The other lowers a cost of chain 1 too: a conflict. So it is where one removes what the other changes.
+conflict="merge: merge refused, 32: the copies have changed these chains differently"
+edited mine 6 24
+edited theirs 24 09
+merges 1 "chain 1 is in conflict" "$conflict" ancestor mine theirs result
+edited theirs 24 09 60 04
+edited mine 6 24 60 03
+merges 1 $'chain 1 is in conflict\nchain 2 is in conflict' "$conflict" ancestor mine theirs result
+{ head -c 36 "$sample" && printf 'EN\1\0'; } >"$tables/only1"
+{ head -c 64 "$sample" | tail -c 28 && printf 'EN\1\0'; } >"$tables/only2"
+{ head -c 64 "$sample" && printf 'EN\2\0'; } >"$tables/both"
+merges 1 "chain 1 is in conflict" "$conflict" both only2 mine result
+
+# The copies are tables, and the result is none: no chain is left, or there are 1,684 bytes.
+wide() {
+    local id
+    for id in "$@"; do
+        printf '%b' "CH\\x$id\\0\\0\\0\\x28\\0\\0\\0\\0\\0\\0\\0\\x08\\x08"
+        printf '\x64\0\0\0%.0s' {1..8}
+        printf 'TK\5\0\x0a\0\0\0%.0s' {1..8}
+    done
+    printf '%b' "EN\\x0$#\\0"
+}
+wide 1 >"$tables/wide"
+wide 1 2 3 4 5 6 7 8 >"$tables/wider"
+wide 1 9 a b c d e f >"$tables/as_wide"
+merges 1 "" "merge: result refused, 11: both edits together are no table" both only1 only2 result
+merges 1 "" "merge: result refused, 1: both edits together are no table" wide wider as_wide result
+
+edited mine 6 24
+edited theirs 60 04
+head -c 139 "$sample" >"$tables/cut"
+merges 1 "" "merge: cut: refused, 2 at byte 139" cut cut theirs result
+merges 1 "" "merge: cut: refused, 2 at byte 139" ancestor cut cut result
+merges 1 "" "merge: cut: refused, 2 at byte 139" ancestor mine cut result
+merges 2 "" "merge: usage: merge ANCESTOR FIRST SECOND RESULT" ancestor mine theirs
+merges 2 "" "merge: usage: merge ANCESTOR FIRST SECOND RESULT" ancestor mine theirs result result
+merges 2 "" "merge: none: No such file or directory" ancestor none theirs result
+merges 2 "" "merge: /: Is a directory" ancestor mine / result
+merges 2 "" "merge: none/result.new: No such file or directory" ancestor mine theirs none/result
+merges 2 "" "merge: $tables: it is not a plain file" ancestor mine theirs .
+mkfifo "$tables/pipe"
+merges 2 "" "merge: $tables/pipe: it is not a plain file" ancestor mine theirs pipe
+edited result.new
+merges 2 "" "merge: $tables/result.new: File exists" ancestor mine theirs result
+rm "$tables/result.new"
+chmod 444 "$tables/result"
+as=("${user[@]}")
+merges 2 "" "merge: $tables/result: Permission denied" ancestor mine theirs result
+as=()
+
 # A header of another version than the library.
 mkdir "$room/other"
 sed 's/^#define MISHTODRAN_VERSION .*/#define MISHTODRAN_VERSION 0/' "$include/mishtodran.h" >"$room/other/mishtodran.h"
 c_build "$room/editor" -I "$room/other" "$top/examples/editor.c" "$library" || fail "examples/editor.c was not built"
+c_build "$room/merge" -I "$room/other" "$top/examples/merge.c" "$library" || fail "examples/merge.c was not built"
 ends 2 "editor: library: it is of another version than the header" 64 "$table" 1
-print "the example editor does what is expected"
+merges 2 "" "merge: library: it is of another version than the header" ancestor mine theirs result
+print "the example editor and the example merge do what is expected"

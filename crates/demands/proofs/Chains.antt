@@ -10,8 +10,9 @@ use lib.Dec.{eqb}
 use lib.ListN.{length, getD}
 use lib.Seq.{getD-take, length-take-le}
 use borrow.Author.Tests.{ne-eqb, eqb-true}
+use Rattle.search.specs.Lists.{keep}
 use Rattle.search.proofs.Find.{first-le, first-hit, first-miss}
-use Rattle.search.proofs.Keeping.{keep, keep-none, keep-one, keep-rest}
+use Rattle.search.proofs.Keeping.{keep-none, keep-one, keep-rest}
 use Rattle.table.specs.Record.{blank}
 use Rattle.table.specs.Find.{rowOf, rows, findOf}
 use Rattle.table.specs.code.Good.{GoodTable}
@@ -29,8 +30,8 @@ use Rattle.misses.specs.Misses.{missesBeside, missesAt, missesOf}
 use Rattle.misses.specs.declared.Answer.the-variants.{Refused as Unanswered}
 use Rattle.misses.proofs.Answers as misses
 use Rattle.saving.proofs.Verdicts.{read-accepted}
-use Rattle.saving.proofs.Parts.{rowIn}
-use Rattle.saving.proofs.Records.{record-row}
+use Rattle.slices.proofs.Parts.{rowIn}
+use Rattle.slices.proofs.Records.{record-row}
 use Rattle.demands.specs.Chains.{IsTable, Has, chainNumber, chainOf, recordBytes}
 use Rattle.demands.specs.Chains as chains
 

@@ -7,8 +7,7 @@ use mathlib.Core.Logic.{⊎-elim}
 use native.Mathlib.Omega.{arith}
 use lib.ListN.{length, take}
 use borrow.Author.Tests.{eqb-true}
-use Rattle.search.specs.Lists.{sumOf, Paired, some}
-use Rattle.search.proofs.Keeping.{keep}
+use Rattle.search.specs.Lists.{sumOf, Paired, some, keep}
 use Rattle.search.proofs.Pairing.{paired-keep, paired-weaker, paired-cons, paired-map, paired-order, paired-length, paired-single}
 use Rattle.table.specs.Find.{rows}
 use Rattle.table.specs.declared.Row.{Row}
@@ -24,7 +23,7 @@ use Rattle.misses.specs.Overloads.{overloads}
 use Rattle.misses.specs.Misses.{missesBeside}
 use Rattle.misses.proofs.Views.{alike-misses}
 use Rattle.table.specs.Read.{tableOf}
-use Rattle.saving.proofs.Parts.{rowIn}
+use Rattle.slices.proofs.Parts.{rowIn}
 use Rattle.demands.specs.Chains.{IsTable, Has, chainOf, othersOf}
 use Rattle.demands.specs.Others.{SameSegment, Agrees, Besides, SameBesides, Unmoved, Reordered, SameWork, RegroupedTasks}
 use Rattle.demands.proofs.Regroupings.{grouped-actives, grouped-defers, grouped-first}

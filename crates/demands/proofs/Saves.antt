@@ -18,11 +18,12 @@ use Rattle.table.specs.declared.Reading.{Reading}
 use Rattle.saving.specs.Save.{seenOf}
 use Rattle.table.specs.Read.{tableOf}
 use Rattle.saving.specs.Later.{State, stored, Edit, after}
-use Rattle.saving.proofs.Moved.{SameBytes, spaced-moved, word-moved}
+use Rattle.slices.proofs.Moved.{SameBytes, spaced-moved, word-moved}
 use Rattle.saving.proofs.Verdicts.{read-accepted}
-use Rattle.saving.proofs.Parts.{rowIn}
-use Rattle.saving.proofs.Records.{record-row}
-use Rattle.saving.proofs.After.{bytes-take, all-passed}
+use Rattle.slices.proofs.Parts.{rowIn}
+use Rattle.slices.proofs.Records.{record-row}
+use Rattle.slices.proofs.Bytes.{bytes-take}
+use Rattle.saving.proofs.After.{all-passed}
 use Rattle.saving.proofs.Promises.{OneReplaced, reads-back}
 use Rattle.demands.specs.Chains.{IsTable}
 use Rattle.demands.specs.Saves.{AcceptedEdit}

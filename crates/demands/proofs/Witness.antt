@@ -16,7 +16,7 @@ use Rattle.table.specs.declared.Reading.{Reading}
 use Rattle.segments.specs.Tasks.{tasksFrom, lowest, before}
 use Rattle.segments.specs.Segments.{stretches, onward, around, nonempty, cuts, parts, cutSegments}
 use Rattle.windows.specs.Demand.{others}
-use Rattle.saving.specs.Save.{recordOf}
+use Rattle.slices.specs.Stored.{recordOf}
 use Rattle.demands.specs.Others.{Agrees, SameBesides}
 use Rattle.demands.specs.Starred.{sample}
 use Rattle.demands.specs.Witness.{altered}

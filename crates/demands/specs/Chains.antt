@@ -7,7 +7,7 @@ use Rattle.table.specs.Find.{rowOf, findOf}
 use Rattle.table.specs.Read.{readTable, tableOf}
 use Rattle.table.specs.declared.Row.{Row}
 use Rattle.table.specs.declared.Verdict.the-variants.{Accepted}
-use Rattle.saving.specs.Save.{recordOf}
+use Rattle.slices.specs.Stored.{recordOf}
 use Rattle.windows.specs.Demand.{others}
 
 -- a byte string that is read as an accepted table

@@ -8,7 +8,8 @@ use Rattle.table.specs.Bytes.{Bytes}
 use Rattle.table.specs.Record.{idAt}
 use Rattle.table.specs.Find.{rowOf}
 use Rattle.table.specs.Read.{tableOf}
-use Rattle.saving.specs.Save.{numberOf, recordOf}
+use Rattle.saving.specs.Save.{numberOf}
+use Rattle.slices.specs.Stored.{recordOf}
 use Rattle.saving.specs.Later.{State, stored, Holding, Edit, answer, after, afterAll, Never}
 use Rattle.saving.specs.declared.Saved.the-variants.{Used, Refused}
 

@@ -1,5 +1,6 @@
 -- The entries of the C editor (01, 'The C editor and the report'): what each returns, and what it leaves in the buffers it is lent.
--- 01 has the first four, 02 the check (request 1); the report as an entry, and the version, are ours.
+-- 01 has the first four, 02 the check (request 1), the merge and its conflicts (request 4); the report as an entry, and the version, are
+-- ours.
 use Prim.Native.Nat.{ℕ, zero, suc, _*_, _-_}
 use mathlib.Core.Path.{_≡_}
 use mathlib.Core.List.{List, [], _∷_, _++_, map}
@@ -16,6 +17,8 @@ use Rattle.windows.specs.Latency as latency
 use Rattle.windows.specs.declared.Answer.{Answer as Latency}
 use Rattle.misses.specs.Misses as misses
 use Rattle.saving.specs.Save as save
+use Rattle.merging.specs.Versions.{Versions}
+use Rattle.merging.specs.Merge as merge
 use Rattle.report_text.specs.Report.{reportOf}
 
 -- a signed number in two's complement
@@ -73,6 +76,15 @@ verdictFigures v = numberOf v ∷ faultPlace v ∷ []
 pub record CheckEntry (table : List ℕ) (before after : List ℕ) (r : ℕ) : Type 0 where
   pub answers : Answered 2 0 (verdictFigures (readTable table .verdict)) before after r
 
+-- merge: the used length, and the buffer as the merge leaves it; 27 leaves that too
+pub record MergeEntry (v : Versions) (buffer answer bufferAfter answerAfter : List ℕ) (r : ℕ) : Type 0 where
+  pub answers : Answered 1 (merge.numberOf (merge.mergedOf (length buffer) v)) (merge.valuesOf (merge.mergedOf (length buffer) v)) answer answerAfter r
+  pub leaves : bufferAfter ≡ (buffer when ltb (length answer) 4 else merge.bufferAfter (merge.mergedOf (length buffer) v) (merge.resultOf v) buffer)
+
+-- conflict: the smallest id greater than `above` that is in conflict, 0 if there is none
+pub record ConflictEntry (v : Versions) (above : ℕ) (before after : List ℕ) (r : ℕ) : Type 0 where
+  pub answers : Answered 1 (merge.foundNumber (merge.foundOf v above)) (merge.foundValues (merge.foundOf v above)) before after r
+
 -- report: 24 where its text is longer than the text buffer, else the text's length, and the text; a refused table has its text
 abbrev pub tooLong : List ℕ → List ℕ → Bool
 tooLong table text = ltb (length text) (length (reportOf table))
@@ -83,4 +95,4 @@ pub record ReportEntry (table text answer textAfter answerAfter : List ℕ) (r :
 
 -- the version of the entries, which a caller holds against its header's; a change of an answer, a refusal or an entry raises it
 abbrev pub version : ℕ
-version = 2
+version = 3

@@ -1,5 +1,7 @@
-// The C editor's entries (document 01, 'The C editor and the report'; document 02, request 1): numbers and byte slices only. Each but the version
+// The C editor's entries (document 01, 'The C editor and the report'; document 02, requests 1 and 4): numbers and byte slices only. Each but the version
 // returns 0 or the refusal's number; refused, every byte lent stays.
+use merging::Found;
+use merging::Merged;
 use report_text::LONGEST;
 use report_text::magnitude;
 use saving::Saved;
@@ -8,13 +10,15 @@ use table::put_u32;
 ghost use mathlib.Core.Path.{_≡_};
 ghost use Prim.Native.Nat.{_*_, _≤_};
 ghost use lib.ListN.{length};
-ghost use Rattle.editor.specs.Entry.{unsigned as unsignedOf, figureBytes, startingWith, LatencyEntry, MissesEntry, SegmentEntry, SaveEntry, CheckEntry, ReportEntry, version};
+ghost use Rattle.merging.specs.Merge.{versions};
+ghost use Rattle.editor.specs.Entry.{unsigned as unsignedOf, figureBytes, startingWith, LatencyEntry, MissesEntry, SegmentEntry, SaveEntry, CheckEntry, MergeEntry, ConflictEntry, ReportEntry, version};
+ghost use Rattle.editor.specs.code.Single.{singleOf};
 
 // What an entry returns where it has answered.
 const ANSWERED: u32 = 0;
 
 // Raised by each change that a caller can see, in the header and in specs/ too.
-const VERSION: u32 = 2;
+const VERSION: u32 = 3;
 
 // A signed number in two's complement.
 fn unsigned(x: i32) -> u32
@@ -149,6 +153,75 @@ pub extern "C" fn mishtodran_check(table: &[u8], answer: &mut [u8]) -> u32
             put_figures(answer, &figures);
             ANSWERED
         }
+    }
+}
+
+// An answer of one figure, or the refusal's number.
+enum Single {
+    Figure(u32),
+    Refused(u32),
+}
+
+// A merge's answer as such.
+fn as_single(merged: Merged) -> Single
+    ensures { λ r. ⌜ r ≡ singleOf merged ⌝ }
+{
+    match merged {
+        Merged::Used(n) => Single::Figure(n),
+        Merged::Ancestor(n, _) => Single::Refused(n),
+        Merged::First(n, _) => Single::Refused(n),
+        Merged::Second(n, _) => Single::Refused(n),
+        Merged::Conflict(_) => Single::Refused(32),
+        Merged::NoRoom => Single::Refused(24),
+        Merged::Result(n, _) => Single::Refused(n),
+    }
+}
+
+// Merges two edited copies of a table, given their common ancestor, into a buffer: the length of the result.
+#[no_mangle]
+pub extern "C" fn mishtodran_merge<'a>(
+    ancestor: &[u8],
+    first: &'a [u8],
+    second: &'a [u8],
+    buffer: &mut [u8],
+    answer: &mut [u8],
+) -> u32
+    ensures { λ r. ⌜ MergeEntry (versions (ancestor .entry) (first .entry) (second .entry)) (now (buffer .entry)) (now (answer .entry)) (now (buffer .exit)) (now (answer .exit)) r ⌝ }
+{
+    if answer.len() < 4 {
+        return 27;
+    }
+    match as_single(merging::merge(ancestor, first, second, buffer)) {
+        Single::Figure(n) => {
+            let figures = [n];
+            put_figures(answer, &figures);
+            ANSWERED
+        }
+        Single::Refused(n) => n,
+    }
+}
+
+// The smallest id greater than `above` that is in conflict there, 0 if there is none.
+#[no_mangle]
+pub extern "C" fn mishtodran_conflict(
+    ancestor: &[u8],
+    first: &[u8],
+    second: &[u8],
+    above: u32,
+    answer: &mut [u8],
+) -> u32
+    ensures { λ r. ⌜ ConflictEntry (versions (ancestor .entry) (first .entry) (second .entry)) above (now (answer .entry)) (now (answer .exit)) r ⌝ }
+{
+    if answer.len() < 4 {
+        return 27;
+    }
+    match merging::conflict(ancestor, first, second, above) {
+        Found::Id(id) => {
+            let figures = [id];
+            put_figures(answer, &figures);
+            ANSWERED
+        }
+        Found::Refused(n) => n,
     }
 }
 

@@ -8,9 +8,8 @@ use lib.Dec.{eqb, ltb}
 use lib.ListN.{length, getD}
 use borrow.Author.Tests.{ltb-false}
 use Rattle.search.specs.Choice.{_when_else_, byNumber}
-use Rattle.search.specs.Lists.{Paired, some}
+use Rattle.search.specs.Lists.{Paired, some, keep}
 use Rattle.search.proofs.Lists.{paired-perm}
-use Rattle.search.proofs.Keeping.{keep}
 use Rattle.search.proofs.Pairing.{paired-keep, paired-weaker, paired-turn, paired-map}
 use Rattle.table.specs.Limits.{maxOverloads, maxCapacity}
 use Rattle.table.specs.declared.Row.{Row}

@@ -2,9 +2,9 @@
 use Prim.Native.Nat.{ℕ, zero, suc, max, _+_, _-_, _≤_}
 use native.Mathlib.Omega.{arith}
 use mathlib.Core.Path.{_≡_, refl, ap, sym, _∙_}
-use mathlib.Core.List.{List, [], _∷_, _++_, append-assoc}
+use mathlib.Core.List.{List, _++_, append-assoc}
 use lib.ListN.{length, take, drop, replicate, length-append, length-drop, length-replicate}
-use lib.Seq.{take-at, getD-drop}
+use lib.Seq.{take-at}
 use borrow.Author.Tests.{ltb-false}
 use Rattle.table.specs.Bytes.{Bytes}
 use Rattle.table.specs.Find.{rowOf}
@@ -15,6 +15,7 @@ use Rattle.search.proofs.Choice.{when-zero}
 use Rattle.saving.specs.Save.{numberOf, seenOf, resultOf, saveFault, written, savedOf}
 use Rattle.saving.specs.Later.{State, stored, Holding, Edit, usedAfter, answer, after}
 use Rattle.saving.specs.declared.Saved.the-variants.{Used, Refused}
+use Rattle.slices.proofs.Bytes.{bytes-append, bytes-take, bytes-drop}
 use Rattle.saving.proofs.Faults.{NoFault, passed, change-none, save-within, accepts}
 
 -- the answer in the paper's terms: the fault's number, and the new used length where there is none
@@ -26,21 +27,6 @@ module _ (buffer : List ℕ) (used : ℕ) (old new : List ℕ) where
       by : (f : ℕ) → numberOf (byNumber Refused f (Used (length (resultOf (take used buffer) old new)))) ≡ f
       by zero = refl
       by (suc f) = refl
-
--- bytes
-pub bytes-append : (a b : List ℕ) → Bytes a → Bytes b → Bytes (a ++ b)
-bytes-append [] b ha hb i = hb i
-bytes-append (x ∷ a) b ha hb zero = ha 0
-bytes-append (x ∷ a) b ha hb (suc i) = bytes-append a b (λ j. ha (suc j)) hb i
-
-pub bytes-take : (n : ℕ) (l : List ℕ) → Bytes l → Bytes (take n l)
-bytes-take zero l h i = omega arith
-bytes-take (suc n) [] h i = omega arith
-bytes-take (suc n) (x ∷ l) h zero = h 0
-bytes-take (suc n) (x ∷ l) h (suc i) = bytes-take n l (λ j. h (suc j)) i
-
-pub bytes-drop : (n : ℕ) (l : List ℕ) → Bytes l → Bytes (drop n l)
-bytes-drop n l h i = rw getD-drop (h (n + i))
 
 bytes-zeros : (n : ℕ) → Bytes (replicate n 0)
 bytes-zeros zero i = omega arith

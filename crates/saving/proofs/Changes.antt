@@ -20,16 +20,18 @@ use Rattle.table.specs.declared.Mark.the-variants.{Chain, Task, End, Unknown}
 use Rattle.table.specs.declared.Table.{Table}
 use Rattle.search.proofs.Choice.{true-not-false}
 use Rattle.table.proofs.Firsts.{none-or}
-use Rattle.saving.specs.Save.{readFault, recordOf, seenOf, isChain, unfit, splice, resultOf}
-use Rattle.saving.proofs.Same.{same-yes, same-true}
-use Rattle.saving.proofs.Splices.{splice-same}
+use Rattle.saving.specs.Save.{readFault, seenOf, isChain, unfit, resultOf}
+use Rattle.slices.specs.Stored.{recordOf}
+use Rattle.slices.specs.Slices.{splice}
+use Rattle.slices.proofs.Sameness.{same-yes, same-true}
+use Rattle.slices.proofs.Splices.{splice-same}
 use Rattle.saving.proofs.Verdicts.{read-accepted}
-use Rattle.saving.proofs.Stored.{record-is}
+use Rattle.slices.proofs.Stored.{record-is}
 use Rattle.saving.proofs.Seen.{seen-le, seen-is, seen-by, seen-record}
 use Rattle.saving.proofs.Faults.{NoFault}
-use Rattle.saving.proofs.Parts.{Whole, Parts, rowIn, map-set}
-use Rattle.saving.proofs.Parsed.{parts-rows}
-use Rattle.saving.proofs.Records.{recordsFrom, length-records, records-at, record-whole, record-id, record-alone, parts-of, parts-count, parts-record, parts-put}
+use Rattle.slices.proofs.Parts.{Whole, Parts, rowIn, map-set}
+use Rattle.slices.proofs.Parsed.{parts-rows}
+use Rattle.slices.proofs.Records.{recordsFrom, length-records, records-at, record-whole, record-id, record-alone, parts-of, parts-count, parts-record, parts-put}
 use Rattle.saving.proofs.After.{bytes-result}
 
 chain-mark : (m : Mark) → isChain m ≡ true → m ≡ Chain

@@ -1,13 +1,7 @@
-pub mod Same
-pub mod Splices
+pub mod Written
 pub mod Verdicts
-pub mod Stored
 pub mod Seen
 pub mod Faults
-pub mod Moved
-pub mod Parts
-pub mod Parsed
-pub mod Records
 pub mod After
 pub mod Changes
 pub mod Promises

@@ -13,17 +13,19 @@ use Rattle.table.specs.Bytes.{Bytes}
 use Rattle.table.specs.Record.{idAt}
 use Rattle.table.specs.Find.{rowOf, rows}
 use Rattle.table.specs.Read.{accepted, readTable, tableOf}
-use Rattle.saving.specs.Save.{numberOf, saveFault, recordOf, seenOf, resultOf, changeFault, written, savedOf}
+use Rattle.saving.specs.Save.{numberOf, saveFault, seenOf, resultOf, changeFault, written, savedOf}
+use Rattle.slices.specs.Stored.{recordOf}
 use Rattle.saving.specs.Later.{State, stored, Holding, Edit, answer, after, afterAll, Never}
 use Rattle.saving.specs.declared.Saved.the-variants.{Used, Refused}
-use Rattle.saving.proofs.Same.{same-true}
-use Rattle.saving.proofs.Splices.{written-same}
+use Rattle.slices.proofs.Sameness.{same-true}
+use Rattle.saving.proofs.Written.{written-same}
 use Rattle.saving.proofs.Verdicts.{read-accepted}
 use Rattle.saving.proofs.Seen.{seen-none}
 use Rattle.saving.proofs.Faults.{NoFault, change-read, replace-unseen, save-within, refuses}
-use Rattle.saving.proofs.Parts.{rowIn}
-use Rattle.saving.proofs.Records.{record-id, record-alone}
-use Rattle.saving.proofs.After.{saved-number, bytes-take, passed-accepted, used-within, all-passed, after-answer, after-buffer, after-used, after-stored, after-length, after-holding}
+use Rattle.slices.proofs.Parts.{rowIn}
+use Rattle.slices.proofs.Records.{record-id, record-alone}
+use Rattle.saving.proofs.After.{saved-number, passed-accepted, used-within, all-passed, after-answer, after-buffer, after-used, after-stored, after-length, after-holding}
+use Rattle.slices.proofs.Bytes.{bytes-take}
 use Rattle.saving.proofs.Changes.{own-result, own-passes, was-read, is-seen, seen-old, count-kept, record-changed, record-kept, rows-kept, result-back, back-passes}
 
 -- a refused save changes nothing

@@ -11,10 +11,12 @@ use Rattle.table.specs.Bytes.{Bytes}
 use Rattle.table.specs.Find.{rowOf}
 use Rattle.table.specs.Read.{accepted, readTable, tableOf}
 use Rattle.table.specs.Place.{lengthOf, placeOf}
-use Rattle.saving.specs.Save.{same, recordOf, seenOf, splice, resultOf}
-use Rattle.saving.proofs.Same.{same-true, same-yes}
-use Rattle.saving.proofs.Splices.{splice-length}
-use Rattle.saving.proofs.Stored.{stored-holds, record-size}
+use Rattle.slices.specs.Slices.{same, splice}
+use Rattle.slices.specs.Stored.{recordOf}
+use Rattle.saving.specs.Save.{seenOf, resultOf}
+use Rattle.slices.proofs.Sameness.{same-true, same-yes}
+use Rattle.slices.proofs.Splices.{splice-length}
+use Rattle.slices.proofs.Stored.{stored-holds, record-size}
 
 module _ (s old : List ℕ) where
   -- the first chain whose record is the old one

@@ -2,7 +2,7 @@
 use Prim.Native.Nat.{ℕ, max, _+_, _-_}
 use mathlib.Core.Path.{_≡_}
 use mathlib.Core.List.{List, [], _∷_, _++_}
-use mathlib.Core.Bool.{Bool, true, false, not, _&&_, _||_}
+use mathlib.Core.Bool.{Bool, true, false, not, _||_}
 use lib.ListN.{length, take, drop, replicate}
 use lib.Dec.{ltb, eqb}
 use Rattle.search.specs.Choice.{_when_else_, byNumber}
@@ -15,6 +15,8 @@ use Rattle.table.specs.Read.{numberOf as verdictNumber, byVerdict, readTable, t
 use Rattle.table.specs.Place.{lengthOf, placeOf}
 use Rattle.table.specs.declared.Mark.{Mark}
 use Rattle.table.specs.declared.Mark.the-variants.{Chain, Task, End, Unknown}
+use Rattle.slices.specs.Slices.{same, splice}
+use Rattle.slices.specs.Stored.{recordOf}
 use Rattle.saving.specs.declared.Saved.{Saved}
 use Rattle.saving.specs.declared.Saved.the-variants.{Used, Refused}
 
@@ -32,17 +34,6 @@ valuesOf (Refused n) = []
 abbrev pub readFault : List ℕ → ℕ
 readFault s = verdictNumber (readTable s .verdict)
 
--- the two have the same bytes
-unfoldable pub same : List ℕ → List ℕ → Bool
-same [] [] = true
-same [] (b ∷ t) = false
-same (a ∷ s) [] = false
-same (a ∷ s) (b ∷ t) = eqb a b && same s t
-
--- the whole stored record of a chain, by its number from 0
-unfoldable pub recordOf : List ℕ → ℕ → List ℕ
-recordOf s chain = take (lengthOf (rowOf (tableOf s) chain)) (drop (placeOf (tableOf s) chain) s)
-
 -- the number of the first chain whose stored record equals the old one, the count of chains if none does
 unfoldable pub seenOf : List ℕ → List ℕ → ℕ
 seenOf s old = first (λ chain. same (recordOf s chain) old) 0 (tableOf s .count)
@@ -58,10 +49,6 @@ isChain Unknown = false
 unfoldable pub unfit : List ℕ → ℕ → Bool
 unfit new id =
     ltb (length new) 16 || not (isChain (markOf (word 2 new 0))) || not (eqb (length new) (lengthAt new 0)) || not (eqb (idAt new 0) id)
-
--- the n bytes from `at` on give way to the new ones, and the rest follows in order
-abbrev pub splice : List ℕ → ℕ → ℕ → List ℕ → List ℕ
-splice s at n new = take at s ++ new ++ drop (at + n) s
 
 -- the result: the new record in the old one's place
 unfoldable pub resultOf : List ℕ → List ℕ → List ℕ → List ℕ

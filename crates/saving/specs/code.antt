@@ -1,1 +1,1 @@
-pub mod Begins
+pub mod Ready

@@ -1,6 +1,6 @@
 // The judgement of a save, from the bytes alone: nothing is written here but the copy that is judged.
-use crate::slices::same;
-use crate::slices::spliced;
+use crate::writing::spliced;
+use slices::same;
 use table::Mark;
 use table::Table;
 use table::Verdict;
@@ -11,8 +11,9 @@ ghost use Rattle.table.specs.Limits.{maxBytes};
 ghost use Rattle.table.specs.Read.{numberOf, readTable};
 ghost use Rattle.table.specs.code.Taken.{Taken};
 ghost use Rattle.table.specs.declared.Verdict.the-variants.{Accepted};
-ghost use Rattle.saving.specs.Save.{seenOf, isChain, unfit as unfitOf, splice, resultOf, resultFault, replaceFault, changeFault};
-ghost use Rattle.saving.specs.code.Begins.{Ready};
+ghost use Rattle.saving.specs.Save.{seenOf, isChain, unfit as unfitOf, resultOf, resultFault, replaceFault, changeFault};
+ghost use Rattle.slices.specs.Slices.{splice};
+ghost use Rattle.saving.specs.code.Ready.{Ready};
 
 // A verdict as its number, 0 where the table is accepted.
 fn number_of(v: Verdict) -> u32

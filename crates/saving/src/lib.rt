@@ -4,10 +4,10 @@ use table::Table;
 ghost use Rattle.saving.specs.Save.{Saves};
 
 mod judge;
-mod slices;
+mod writing;
 
 use judge::judged;
-use slices::store;
+use writing::store;
 
 // What a save answers: the new used length, or the refusal.
 pub enum Saved {

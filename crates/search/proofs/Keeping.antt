@@ -6,13 +6,8 @@ use mathlib.Core.Bool.{Bool, true, false}
 use native.Mathlib.Omega.{arith}
 use lib.ListN.{length, getD, take, drop}
 use Rattle.search.specs.Choice.{_when_else_}
-use Rattle.search.specs.Lists.{All}
+use Rattle.search.specs.Lists.{All, keep}
 use Rattle.search.proofs.Choice.{when-yes, when-no, when-cases}
-
--- those that pass a test, in order
-unfoldable pub keep : {A : Type 0} → (A → Bool) → List A → List A
-keep p [] = []
-keep p (a ∷ l) = a ∷ keep p l when p a else keep p l
 
 module _ {A : Type 0} (p : A → Bool) where
   pub perm-keep : {l r : List A} → List·Permᴰ l r → List·Permᴰ (keep p l) (keep p r)

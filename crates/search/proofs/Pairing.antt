@@ -6,8 +6,8 @@ use mathlib.Core.List.{List, [], _∷_, map, map-map, map-id, List·Permᴰ, Lis
 use mathlib.Core.Bool.{Bool}
 use native.Mathlib.Omega.{arith}
 use lib.ListN.{length, getD, set}
-use Rattle.search.specs.Lists.{sumOf, All, Paired}
-use Rattle.search.proofs.Keeping.{keep, perm-keep, all-keep, keep-map}
+use Rattle.search.specs.Lists.{sumOf, All, Paired, keep}
+use Rattle.search.proofs.Keeping.{perm-keep, all-keep, keep-map}
 use Rattle.search.proofs.Lists.{all-map, perm-sum, perm-all, paired-perm}
 
 pub all-each : {A : Type 0} (P : A → Type 0) → ((a : A) → P a) → (l : List A) → All P l

@@ -1,7 +1,8 @@
--- Sums, maxima and tests over a list, by what each element gives, and lists paired off one to one.
+-- Sums, maxima and tests over a list, by what each element gives, those that pass a test, and lists paired off one to one.
 use Prim.Native.Nat.{ℕ, max, _+_}
 use mathlib.Core.Bool.{Bool, true, false, _&&_, _||_}
 use mathlib.Core.List.{List, [], _∷_, map, List·Permᴰ}
+use Rattle.search.specs.Choice.{_when_else_}
 
 -- the sum of what the elements give
 unfoldable pub sumOf : {A : Type 0} → (A → ℕ) → List A → ℕ
@@ -21,6 +22,11 @@ some p (a ∷ l) = p a || some p l
 unfoldable pub every : {A : Type 0} → (A → Bool) → List A → Bool
 every p [] = true
 every p (a ∷ l) = p a && every p l
+
+-- those that pass a test, in order
+unfoldable pub keep : {A : Type 0} → (A → Bool) → List A → List A
+keep p [] = []
+keep p (a ∷ l) = a ∷ keep p l when p a else keep p l
 
 -- P holds of each element
 abbrev pub All : {A : Type 0} → (A → Type 0) → List A → Type 0

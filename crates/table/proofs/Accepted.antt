@@ -156,9 +156,9 @@ unless-sound s Accepted r f = f refl
 unless-sound s (Refused n place) r f = refused s n place
 
 -- the end record is whole, counts the rows, and is the last
-end-sound : (s : List ℕ) (at : ℕ) (t : Table) → RowsKept s at t → endFault s at t ≡ Accepted → GoodReading s (accepted t)
+end-sound : (s : List ℕ) (at : ℕ) (t : Table) → RowsKept s at t → markOf (word 2 s at) ≡ End → endFault s at t ≡ Accepted → GoodReading s (accepted t)
 unfolding endFault GoodReading
-end-sound s at t g e a =
+end-sound s at t g mark e a =
     let some = when-none _ _ _ _ (when-none _ _ _ _ e .1) in
     let count = when-none _ _ _ _ (some .1) in
     let none : t .count ≡ 0 → ⊥ = eqb-false _ _ (some .0) in
@@ -169,6 +169,7 @@ end-sound s at t g e a =
         makes = g .makes;
         task-marks = g .task-marks;
         inside = g .inside;
+        end-mark = ap (λ n. markOf (word 2 s n)) (sym (g .place)) ∙ mark;
         ends = omega (arith, g .place, last);
         counts = ap (λ n. word 2 s (n + 2)) (sym (g .place)) ∙ eqb-true _ _ (not-false _ (count .0));
       },
@@ -182,7 +183,7 @@ start-sound s at t chain g f =
     by : (m : Mark) → markOf (word 2 s at) ≡ m → GoodReading s (byMark at m chain (unless refusal (endFault s at t) (accepted t)))
     by Chain e = f e
     by Task e = refused s 3 at
-    by End e = unless-sound s (endFault s at t) (accepted t) (end-sound s at t g)
+    by End e = unless-sound s (endFault s at t) (accepted t) (end-sound s at t g e)
     by Unknown e = refused s 3 at
 
 records-sound : (left : ℕ) (s : List ℕ) (at : ℕ) (t : Table) → Bytes s → RowsKept s at t → t .count + left ≤ maxChains → GoodReading s (records left s at t)

@@ -5,9 +5,8 @@ use mathlib.Core.List.{List, [], _∷_, map, List·Permᴰ}
 use lib.Dec.{eqb}
 use native.Mathlib.Omega.{arith}
 use Rattle.search.specs.Choice.{_when_else_}
-use Rattle.search.specs.Lists.{sumOf, Paired}
+use Rattle.search.specs.Lists.{sumOf, Paired, keep}
 use Rattle.search.proofs.Lists.{perm-sum, paired-perm}
-use Rattle.search.proofs.Keeping.{keep}
 use Rattle.search.proofs.Pairing.{paired-keep, paired-weaker}
 use Rattle.table.specs.declared.Row.{Row}
 use Rattle.segments.specs.View.{View}

@@ -10,12 +10,12 @@ use native.Mathlib.Omega.{arith}
 use Rattle.table.specs.Bytes.{Bytes}
 use Rattle.table.specs.Read.{tableOf}
 use Rattle.saving.specs.Save.{seenOf, resultOf, saveFault}
-use Rattle.saving.specs.code.Begins.{Begins}
-use Rattle.saving.proofs.Splices.{begins-length}
+use Rattle.slices.specs.code.Begins.{Begins}
+use Rattle.slices.proofs.Splices.{begins-length}
 use Rattle.saving.proofs.Verdicts.{read-accepted, read-within}
 use Rattle.saving.proofs.Seen.{seen-le, seen-inside, result-length}
 use Rattle.saving.proofs.Faults.{NoFault, passed, save-beyond, save-within, refuses, accepts}
-use Rattle.saving.proofs.After.{bytes-take}
+use Rattle.slices.proofs.Bytes.{bytes-take}
 use Rattle.saving.proofs.save.Statement.{statement}
 use Rattle.saving.proofs.save.Tie as tie
 

@@ -11,7 +11,7 @@ use Rattle.table.specs.Read.{tableOf}
 use Rattle.table.specs.Place.{lengthOf, placeOf}
 use Rattle.table.specs.code.Good.{GoodRow, GoodTable}
 use Rattle.table.specs.declared.Table.{Table}
-use Rattle.table.specs.declared.Mark.the-variants.{Chain, Task}
+use Rattle.table.specs.declared.Mark.the-variants.{Chain, Task, End}
 
 -- the bytes hold the table: each record is there and makes its row, and the end record's 4 bytes are the last and count them
 pub record Holds (s : List ℕ) (t : Table) : Type 0 where
@@ -19,6 +19,7 @@ pub record Holds (s : List ℕ) (t : Table) : Type 0 where
   pub makes : (chain : ℕ) → chain < t .count → rowAt s (placeOf t chain) ≡ rowOf t chain
   pub task-marks : (chain : ℕ) → chain < t .count → (i : ℕ) → i < rowOf t chain .tasks → markOf (word 2 s (afterList (placeOf t chain) (rowOf t chain .listed) + 8 * i)) ≡ Task
   pub inside : (chain : ℕ) → chain < t .count → placeOf t chain + lengthOf (rowOf t chain) ≤ length s
+  pub end-mark : markOf (word 2 s (placeOf t (t .count))) ≡ End
   pub ends : placeOf t (t .count) + 4 ≡ length s
   pub counts : word 2 s (placeOf t (t .count) + 2) ≡ t .count
 

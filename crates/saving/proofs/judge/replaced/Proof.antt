@@ -14,10 +14,11 @@ use Rattle.table.specs.Read.{numberOf, accepted, readTable, tableOf}
 use Rattle.table.specs.Place.{placeOf}
 use Rattle.table.specs.code.Taken.{Taken}
 use Rattle.table.proofs.Stands.{row-there, stands}
-use Rattle.saving.specs.Save.{readFault, seenOf, unfit, splice, resultFault}
-use Rattle.saving.specs.code.Begins.{Begins}
+use Rattle.saving.specs.Save.{readFault, seenOf, unfit, resultFault}
+use Rattle.slices.specs.Slices.{splice}
+use Rattle.slices.specs.code.Begins.{Begins}
 use Rattle.saving.proofs.Verdicts.{read-accepted}
-use Rattle.saving.proofs.Stored.{stored-taken}
+use Rattle.slices.proofs.Stored.{stored-taken}
 use Rattle.saving.proofs.Seen.{seen-le, seen-inside, result-is}
 use Rattle.saving.proofs.Faults.{replace-unseen, replace-unfit, replace-result}
 use Rattle.saving.proofs.judge.replaced.Statement.{statement}

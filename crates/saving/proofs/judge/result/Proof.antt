@@ -8,8 +8,9 @@ use lib.ListN.{length, take}
 use borrow.Author.Needs.{needs}
 use native.Mathlib.Omega.{arith}
 use Rattle.table.specs.Read.{numberOf}
-use Rattle.saving.specs.Save.{readFault, splice}
-use Rattle.saving.proofs.Splices.{splice-length}
+use Rattle.saving.specs.Save.{readFault}
+use Rattle.slices.specs.Slices.{splice}
+use Rattle.slices.proofs.Splices.{splice-length}
 use Rattle.saving.proofs.Verdicts.{read-out}
 use Rattle.saving.proofs.Faults.{result-long, result-read}
 use Rattle.saving.proofs.judge.result.Statement.{statement}

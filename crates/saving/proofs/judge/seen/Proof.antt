@@ -14,7 +14,8 @@ use Rattle.table.specs.code.Taken.{Stands}
 use Rattle.table.specs.Read.{tableOf}
 use Rattle.table.proofs.Standing.{place-none}
 use Rattle.table.proofs.Stands.{length-at, row-there, stands, place-next}
-use Rattle.saving.specs.Save.{same, recordOf}
+use Rattle.slices.specs.Slices.{same}
+use Rattle.slices.specs.Stored.{recordOf}
 use Rattle.saving.proofs.Seen.{seen-is, seen-none}
 use Rattle.saving.proofs.judge.seen.Statement.{statement}
 use Rattle.saving.proofs.judge.seen.Tie as tie

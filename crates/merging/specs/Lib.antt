@@ -1,0 +1,4 @@
+pub mod Versions
+pub mod Rule
+pub mod Merge
+pub mod code

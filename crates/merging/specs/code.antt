@@ -1,0 +1,4 @@
+pub mod Parts
+pub mod Ids
+pub mod Size
+pub mod Judged

@@ -1,0 +1,116 @@
+// The result: how long it is, its bytes, and whether it fits.
+use crate::Merged;
+use crate::states::taken;
+use slices::put;
+use table::Table;
+use table::Verdict;
+use table::put_u32;
+ghost use mathlib.Core.Path.{_≡_};
+ghost use mathlib.Core.List.{_++_, flatten};
+ghost use Prim.Native.Nat.{_+_, _≤_, _<_};
+ghost use lib.Dec.{ltb};
+ghost use lib.ListN.{length};
+ghost use Rattle.search.specs.Choice.{_when_else_};
+ghost use Rattle.slices.specs.code.Begins.{Begins};
+ghost use Rattle.merging.specs.Merge.{versions, endRecord};
+ghost use Rattle.merging.specs.Versions.{three};
+ghost use Rattle.merging.specs.code.Parts.{AllTaken};
+ghost use Rattle.merging.specs.code.Size.{statesOf, sizeOf, resultFrom, PutThere, Fits};
+
+// How many bytes the records taken have in all, and how many they are.
+pub struct Size {
+    pub bytes: usize,
+    pub records: usize,
+}
+
+// What a state of so many bytes counts: 1 for a record, 0 where it is missing.
+fn counted(n: usize) -> usize
+    ensures { λ r. ⌜ r ≡ (1 when ltb 0 n else 0) ⌝ }
+{
+    if 0 < n { 1 } else { 0 }
+}
+
+fn size_of<'a>(ancestor: &[u8], first: &'a [u8], second: &'a [u8], ids: &[u32]) -> Size
+    requires { ⌜ AllTaken (now ancestor) (now first) (now second) × (length (now ids) ≤ 48) ⌝ }
+    ensures { λ r. ⌜ r ≡ sizeOf (statesOf (versions (ancestor .entry) (first .entry) (second .entry)) (now (ids .entry))) ⌝ }
+{
+    let mut bytes: usize = 0;
+    let mut records: usize = 0;
+    let mut i: usize = 0;
+    while i < ids.len() {
+        let n = taken(ancestor, first, second, ids[i]).len();
+        bytes += n;
+        records += counted(n);
+        i += 1;
+    }
+    Size { bytes, records }
+}
+
+// The records taken, one after the other from the first byte on; answers where they end.
+fn put_records<'a>(
+    ancestor: &[u8],
+    first: &'a [u8],
+    second: &'a [u8],
+    ids: &[u32],
+    out: &mut [u8],
+) -> usize
+    requires { ⌜ AllTaken (now ancestor) (now first) (now second) × (length (flatten (statesOf (three (now ancestor) (now first) (now second)) (now ids))) ≤ length (now out)) ⌝ }
+    ensures { λ r. ⌜ PutThere (flatten (statesOf (versions (ancestor .entry) (first .entry) (second .entry)) (now (ids .entry)))) (now (out .entry)) (now (out .exit)) r ⌝ }
+{
+    let mut at: usize = 0;
+    let mut i: usize = 0;
+    while i < ids.len() {
+        let record = taken(ancestor, first, second, ids[i]);
+        put(out, at, record);
+        at = at + record.len();
+        i += 1;
+    }
+    at
+}
+
+// The result, as the first bytes of an array: the records, and the end record with their number.
+fn build<'a>(
+    ancestor: &[u8],
+    first: &'a [u8],
+    second: &'a [u8],
+    ids: &[u32],
+    records: usize,
+    out: &mut [u8],
+)
+    requires { ⌜ AllTaken (now ancestor) (now first) (now second) × (length (flatten (statesOf (three (now ancestor) (now first) (now second)) (now ids))) + 4 ≤ length (now out)) × (records < 65536) ⌝ }
+    ensures { λ _. ⌜ Begins (now (out .exit)) (flatten (statesOf (versions (ancestor .entry) (first .entry) (second .entry)) (now (ids .entry))) ++ endRecord records) ⌝ }
+{
+    let end = put_records(ancestor, first, second, ids, out);
+    put_u32(out, end, 20_037 + 65_536 * (records as u32));
+}
+
+// 24, then a table's numbers on the result, which is built in a place of its own where it is no longer than a table can be; without a fault
+// it becomes the first bytes of `out`.
+pub fn fit<'a>(
+    ancestor: &[u8],
+    first: &'a [u8],
+    second: &'a [u8],
+    ids: &[u32],
+    out: &mut [u8],
+) -> Merged
+    requires { ⌜ AllTaken (now ancestor) (now first) (now second) × (length (now ids) ≤ 48) ⌝ }
+    ensures { λ r. ⌜ Fits (resultFrom (statesOf (versions (ancestor .entry) (first .entry) (second .entry)) (now (ids .entry)))) (now (out .entry)) r (now (out .exit)) ⌝ }
+{
+    let size = size_of(ancestor, first, second, ids);
+    let n = size.bytes + 4;
+    if out.len() < n {
+        return Merged::NoRoom;
+    }
+    if Table::BYTES < n {
+        return Merged::Result(1, 0);
+    }
+    let mut bytes = [0u8; Table::BYTES];
+    build(ancestor, first, second, ids, size.records, &mut bytes);
+    match table::judge(&bytes[..n]) {
+        Verdict::Accepted => {
+            put(out, 0, &bytes[..n]);
+            Merged::Used(n as u32)
+        }
+        Verdict::Refused(number, at) => Merged::Result(number, at),
+    }
+}

@@ -1,0 +1,113 @@
+-- An accepted table is its records: what the reader makes of bytes that are records one after the other. Assumes nothing.
+use Prim.Native.Nat.{ℕ, _+_, _-_, _<_, _≤_}
+use native.Mathlib.Omega.{arith}
+use native.Mathlib.Numerals.{add-one}
+use mathlib.Core.Path.{_≡_, refl, ap, sym, subst, _∙_}
+use mathlib.Core.List.{List, [], _∷_, _++_, map, flatten, append-assoc, append-nil}
+use mathlib.Core.Bool.{_||_}
+use mathlib.Core.Logic.{⊎-elim}
+use lib.ListN.{length, drop, length-append, length-drop, length-set, List·getD-append}
+use lib.Seq.{getD-drop, drop-drop, drop-at, take-suc-set}
+use lib.Dec.{eqb, ltb}
+use Rattle.search.specs.Lists.{All}
+use Rattle.search.proofs.Choice.{when-cases, lt-or-le}
+use Rattle.table.specs.Limits.{maxChains, maxBytes}
+use Rattle.table.specs.Bytes.{word}
+use Rattle.table.specs.Record.{lengthAt, rowAt}
+use Rattle.table.specs.Find.{rows}
+use Rattle.table.specs.Fault.{markOf, chainFault, endFault}
+use Rattle.table.specs.Read.{empty, plus, refusal, accepted, unless, byMark, records, readTable}
+use Rattle.table.specs.declared.Reading.{Reading}
+use Rattle.table.specs.declared.Table.{Table}
+use Rattle.table.specs.declared.Mark.{Mark}
+use Rattle.table.specs.declared.Mark.the-variants.{Chain, Task, End, Unknown}
+use Rattle.table.specs.declared.Verdict.{Verdict}
+use Rattle.table.specs.declared.Verdict.the-variants.{Accepted, Refused}
+use Rattle.table.proofs.Firsts.{not-accepted}
+use Rattle.table.proofs.Faultless.{chain-right}
+use Rattle.table.proofs.Steps.{records-mark, records-full, records-chain}
+use Rattle.slices.proofs.Moved.{SameBytes, length-moved, mark-moved, row-moved}
+use Rattle.slices.proofs.Parts.{Whole, Parts, rowIn}
+
+-- a record stands where the bytes go on with it
+stands : (s : List ℕ) (at : ℕ) (r rest : List ℕ) → drop at s ≡ r ++ rest → Whole r → SameBytes s r at 0 (lengthAt r 0)
+unfolding SameBytes
+stands s at r rest e w i h =
+    let f : 0 + i ≡ i = omega arith in
+    rw (f, ← getD-drop at s i 0, e) (List·getD-append r rest 0 i (omega (arith, w .long)))
+
+-- no fault was found where what follows one was
+unless-passed : (v : Verdict) (r : Reading) → unless refusal v r .verdict ≡ Accepted → (v ≡ Accepted) × (unless refusal v r ≡ r)
+unfolding unless
+unless-passed Accepted r e = (refl, refl)
+unless-passed (Refused n place) r e = absurd (not-accepted e)
+
+module _ (s : List ℕ) where
+  -- the rest of the reading, from the rows of t on
+  abbrev go : ℕ → Table → Reading
+  go at t = records (maxChains - t .count) s at t
+
+  module _ (at : ℕ) (t : Table) (few : t .count ≤ maxChains) (there : at + 2 ≤ length s) (a : go at t .verdict ≡ Accepted) where
+    passes : (r : Reading) → go at t ≡ r → r .verdict ≡ Accepted
+    passes r e = subst (λ (x : Reading). x .verdict ≡ Accepted) e a
+
+    -- a chain's mark: it was read without a fault, and reading went on after it
+    chain-read : markOf (word 2 s at) ≡ Chain → (t .count < maxChains) × (chainFault s at t ≡ Accepted) × (go at t ≡ go (at + lengthAt s at) (plus t (rowAt s at)))
+    chain-read m = ⊎-elim
+        (λ h. let f = records-chain s at t there m h in
+        let g = unless-passed (chainFault s at t) _ (passes _ f) in
+        (h, g .0, f ∙ g .1))
+        (λ h. absurd (not-accepted (passes (refusal 11 at) (records-full s at t there m (omega arith)))))
+        (lt-or-le (t .count) maxChains)
+
+    -- any other: it was the end's, and nothing was added
+    end-read : (markOf (word 2 s at) ≡ Chain → ⊥) → go at t .table ≡ t
+    end-read c = by (markOf (word 2 s at)) refl
+      where
+        marked : (m : Mark) → markOf (word 2 s at) ≡ m → go at t ≡ byMark at m (refusal 11 at) (unless refusal (endFault s at t) (accepted t))
+        marked m e = records-mark s at t there (maxChains - t .count) m e (λ z. c (e ∙ z))
+
+        by : (m : Mark) → markOf (word 2 s at) ≡ m → go at t .table ≡ t
+        by Chain e = absurd (c e)
+        by Task e = absurd (not-accepted (passes (refusal 3 at) (marked Task e)))
+        by End e = ap (λ (r : Reading). r .table) (marked End e ∙ unless-passed (endFault s at t) (accepted t) (passes _ (marked End e)) .1)
+        by Unknown e = absurd (not-accepted (passes (refusal 3 at) (marked Unknown e)))
+
+  -- four bytes are no chain
+  ended : (at : ℕ) (t : Table) → length s ≡ at + 4 → t .count ≤ maxChains → go at t .verdict ≡ Accepted → go at t .table ≡ t
+  ended at t n few a =
+      let there : at + 2 ≤ length s = omega arith in
+      end-read at t few there a
+      (λ m. let f = chain-read at t few there a m .1 in
+      omega (arith, chain-right s at t f .head .there))
+
+  -- each record adds its row
+  grown : (rs : List (List ℕ)) (at : ℕ) (t : Table) (e : List ℕ) → drop at s ≡ flatten rs ++ e → All Whole rs → length e ≡ 4
+      → t .count ≤ maxChains → length (t .row) ≡ maxChains → go at t .verdict ≡ Accepted → rows (go at t .table) ≡ rows t ++ map rowIn rs
+  unfolding flatten
+  grown [] at t e d w n few l a = rw (ended at t (omega (arith, length-drop at s, ap length d)) few a) (sym (append-nil (rows t)))
+  grown (r ∷ rs) at t e d w n few l a =
+      let d′ : drop at s ≡ r ++ (flatten rs ++ e) = d ∙ append-assoc r (flatten rs) e in
+      let h = stands s at r (flatten rs ++ e) d′ (w .0) in
+      let long : at + length r ≤ length s = omega (arith, length-drop at s, ap length d′, length-append r (flatten rs ++ e), length-append (flatten rs) e, w .0 .long) in
+      let c = chain-read at t few (omega (arith, w .0 .long)) a (ap markOf (mark-moved s r at 0 h) ∙ w .0 .mark) in
+      let next = at + lengthAt s at in
+      let more = plus t (rowAt s at) in
+      let size : lengthAt s at ≡ length r = length-moved s r at 0 h ∙ sym (w .0 .long) in
+      let rest : drop next s ≡ flatten rs ++ e = rw (size, ← drop-drop (length r) at s, d′) (drop-at r (flatten rs ++ e) (length r) refl) in
+      let on = grown rs next more e rest (w .1) n (omega (arith, c .0)) (simp length-set l) (passes at t few (omega (arith, w .0 .long)) a (go next more) (c .2)) in
+      let added : rows more ≡ rows t ++ (rowAt s at ∷ []) = rw (add-one, take-suc-set (t .row) (t .count) (rowAt s at) (omega (arith, l, c .0))) in
+      ap (λ (x : Reading). rows (x .table)) (c .2) ∙ on ∙ rw (added, row-moved s r at 0 h, append-assoc)
+
+-- reading starts without a row
+started : (s : List ℕ) (t : Table) → readTable s ≡ accepted t → records maxChains s 0 empty ≡ accepted t
+unfolding readTable
+started s t =
+    when-cases (λ r. r ≡ accepted t → records maxChains s 0 empty ≡ accepted t) (eqb (length s) 0 || ltb maxBytes (length s))
+    (λ e f. absurd (not-accepted (ap (λ (r : Reading). r .verdict) f))) (λ e f. f)
+
+-- the rows of an accepted table are those of its records
+pub parts-rows : (s : List ℕ) (t : Table) → readTable s ≡ accepted t → (rs : List (List ℕ)) (e : List ℕ) → Parts s rs e → rows t ≡ map rowIn rs
+parts-rows s t read rs e p =
+    let f = started s t read in
+    ap (λ (r : Reading). rows (r .table)) (sym f) ∙ grown s rs 0 empty e (p .bytes) (p .whole) (p .last) (omega arith) refl (ap (λ (r : Reading). r .verdict) f)
