@@ -118,7 +118,7 @@ fn put_conflicts(ancestor: &[u8], first: &[u8], second: &[u8]) -> bool {
     line && put_ids(ancestor, first, second)
 }
 
-fn put_merged(ancestor: &[u8], first: &[u8], second: &[u8]) -> bool {
+fn put_merged<'a>(ancestor: &[u8], first: &'a [u8], second: &'a [u8]) -> bool {
     let mut out = [0u8; ROOM];
     match merging::merge(ancestor, first, second, &mut out) {
         Merged::Used(n) => {

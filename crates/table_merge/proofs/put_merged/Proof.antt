@@ -4,11 +4,12 @@ use mathlib.Core.Path.{sym}
 use lib.ListN.{length}
 use lib.Seq.{length-take-le}
 use borrow.Author.Needs.{needs}
+use Rattle.table_merge.proofs.Within.{used-within}
 use Rattle.table_merge.proofs.put_merged.Statement.{statement}
 use Rattle.table_merge.proofs.put_merged.Tie as tie
 
 within : (c : tie.After-known-told) → c .before .n .given .0 .0 ≤ length (c .before .before .before .before .merge .last .1 .1 .1 .0)
-within c = c .before .before .before .before .merge .ensures (c .before .n .given .0 .0) (c .before .n .given .1)
+within c = used-within (c .before .before .before .before .merge .ensures) (c .before .n .given .0 .0) (c .before .n .given .1)
 
 slice-aggregate-merge : tie.Need-slice-aggregate-merge
 slice-aggregate-merge c = search needs
