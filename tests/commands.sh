@@ -46,7 +46,7 @@ help_and_links() {
     expect 0 "a report" "*built the report program in*" "*rt check report" "$room/links/two" report examples/sample.table
 }
 
-# says SCRIPT: what the programs of report and check do.
+# says SCRIPT: what the programs of report, check and merge do.
 says() {
     echo "$1" >"$room/says"
 }
@@ -88,10 +88,95 @@ reports() {
     expect 2 "" "mishtodran: standard output cannot be written" "" sh -c './mishtodran report >/dev/full'
 }
 
+# holds TEXT: what RESULT holds after a merge. Nothing is left beside it.
+holds() {
+    is "RESULT" "$(cat "$copy/merged/result")" "$1"
+    is "what is beside RESULT" "$(ls -A "$copy/merged")" result
+}
+
+# interrupted SIGNAL WORDS..: a merge that is ended so in the middle, with all that it has started, as a terminal does it. In
+# the gate this script runs in the background, where some signals are ignored.
+interrupted() {
+    local signal=$1 group
+    shift
+    rm -f "$room/started"
+    mkdir "$room/temporary"
+    set -m
+    in_copy env --default-signal="$signal" TMPDIR="$room/temporary" "$@" >"$room/out" 2>&1 &
+    group=$!
+    set +m
+    until [ -e "$room/started" ]; do
+        kill -0 "$group" 2>/dev/null || found "the merge ended before it was interrupted: $(cat "$room/out")"
+        sleep 0.05
+    done
+    kill -s "$signal" -- "-$group"
+    wait "$group" 2>/dev/null && found "a merge that is interrupted by $signal ends with 0"
+    while kill -0 -- "-$group" 2>/dev/null; do
+        sleep 0.05
+    done
+    holds "as it was"
+    rmdir "$room/temporary" || found "a merge that is interrupted by $signal leaves a temporary folder"
+}
+
+merges() {
+    local merge=(./mishtodran merge examples/{sample,sample,case_study}.table merged/result) conflict signal tool
+    mkdir "$copy/merged"
+    says 'cat "$3"'
+    expect 0 "" "*built the merge program in*" "*rt check table_merge" "${merge[@]}"
+    cmp "$copy/merged/result" "$copy/examples/case_study.table" || found "the result is not what the program gives"
+    expect 0 "" "" "" "${merge[@]}"
+    says 'echo a note >&2 && cat "$3"'
+    expect 0 "" "a note" "" "${merge[@]}"
+    says 'wc -c'
+    expect 0 "" "" "" sh -c 'echo more | ./mishtodran merge examples/sample.table examples/sample.table examples/sample.table merged/result'
+    holds 0
+    echo as it was >"$copy/merged/result"
+    conflict=$'refused 32: a sentence\nconflict: chain 7'
+    says "echo '$conflict' >&2"
+    expect 1 "" "$conflict" "" "${merge[@]}"
+    holds "as it was"
+    says "echo a note >&2 && echo '$conflict' >&2"
+    expect 1 "" "a note"$'\n'"$conflict" "" "${merge[@]}"
+    holds "as it was"
+    says 'echo first copy: refused 32: no >&2'
+    expect 2 "" $'first copy: refused 32: no\nmishtodran: there is no result' "" "${merge[@]}"
+    holds "as it was"
+    says :
+    expect 2 "" "mishtodran: there is no result" "" "${merge[@]}"
+    holds "as it was"
+    says 'echo half && exit 3'
+    expect 2 "" "mishtodran: there is no result" "" "${merge[@]}"
+    holds "as it was"
+    says 'echo half && kill -9 $$'
+    expect 2 "" "*mishtodran: there is no result" "" "${merge[@]}"
+    holds "as it was"
+    says 'cat "$3"'
+    expect 2 "" "cat: *mishtodran: there is no result" "" \
+        bash -o pipefail -c '(trap "" XFSZ && ulimit -f 0 && "$@") 2>&1 | cat >&2' sh "${merge[@]}"
+    holds "as it was"
+    says 'echo half && echo >"$ROOM/started" && sleep 9'
+    for signal in INT TERM HUP; do
+        interrupted "$signal" "${merge[@]}"
+    done
+    says 'echo new'
+    for tool in chmod mv; do
+        mv "$tools/$tool" "$room/$tool"
+        stand_in "$tools/$tool" <<<'exit 1'
+        expect 2 "" "mishtodran: merged/result cannot be written" "" "${merge[@]}"
+        holds "as it was"
+        stand_in "$tools/$tool" <<<'kill -s TERM "$PPID" && exec "$ROOM/'"$tool"'" "$@"'
+        expect 0 "" "" "" "${merge[@]}"
+        holds new
+        mv "$room/$tool" "$tools/$tool"
+        echo as it was >"$copy/merged/result"
+    done
+    says 'echo a report'
+}
+
 # What the library is built from, and when it is built again.
 builds() {
     local built="rt check *saving*"$'\n'"rt staticlib editor"
-    expect 0 "library: *" "mishtodran: building the library: 10 crates*crate 9 of 10 is proved: *built the library in*" "$built" ./mishtodran lib
+    expect 0 "library: *" "mishtodran: building the library: 12 crates*crate 11 of 12 is proved: *built the library in*" "$built" ./mishtodran lib
     expect 0 "library: *" "" "" ./mishtodran lib
     echo "/* more */" >>"$copy/include/mishtodran.h"
     expect 0 "library: *" "" "" ./mishtodran lib
@@ -234,7 +319,7 @@ machine_aarch64() {
 
 # The gate's packages: named, installed before anything is proved, and what the package manager says where it fails.
 packages() {
-    local missing="gcc-x86-64-linux-gnu python3 shellcheck"
+    local missing="gcc-x86-64-linux-gnu git python3 shellcheck"
     rm "$tools/x86_64-linux-gnu-gcc" "$tools/id"
     stand_in "$tools/id" <<<'echo 1000'
     expect 2 "" "gate: these packages are missing, and only root can install them, with apt-get: $missing" "" .ci/run
@@ -243,13 +328,13 @@ packages() {
     stand_in "$tools/apt-get" <<<'echo "$1: no network" >&2 && exit 100'
     expect 2 "" "gate: installing the packages that are missing: $missing"$'\n'"gate: they could not be installed; the package manager said:"$'\n'"update: no network" "" .ci/run
     rm "$tools/gcc" "$tools/cc" "$tools/qemu-x86_64-static"
-    expect 2 "" "gate: installing the packages that are missing: gcc-x86-64-linux-gnu qemu-user gcc python3 shellcheck*" "" .ci/run
+    expect 2 "" "gate: installing the packages that are missing: gcc-x86-64-linux-gnu qemu-user gcc git python3 shellcheck*" "" .ci/run
     machine x86_64
-    expect 2 "" "gate: installing the packages that are missing: gcc python3 shellcheck*" "" .ci/run
+    expect 2 "" "gate: installing the packages that are missing: gcc git python3 shellcheck*" "" .ci/run
     compilers gcc cc
-    expect 2 "" "gate: installing the packages that are missing: python3 shellcheck*" "" .ci/run
+    expect 2 "" "gate: installing the packages that are missing: git python3 shellcheck*" "" .ci/run
     stand_in "$tools/apt-get" <<<'echo "apt-get $*" >>"$ROOM/called"'
-    expect 2 "" "gate: installing the packages that are missing: python3 shellcheck*" "apt-get update"$'\n'"apt-get install -y python3 shellcheck" .ci/run
+    expect 2 "" "gate: installing the packages that are missing: git python3 shellcheck*" "apt-get update"$'\n'"apt-get install -y git python3 shellcheck" .ci/run
 }
 
 # GLPK is fetched whole or not at all, and what the package manager says is shown.
@@ -268,11 +353,13 @@ glpk() {
 
 # The gate over checks that are stood in for: it locks while it proves, ends with a check's status, and its last line is rt's.
 gate() {
-    local checks=("$copy"/{tests/{wrong_uses,commands,table_commands,run_c}.sh,compare/{sanitized,run,run_report}.sh}) one
-    mkdir -p "$copy/crates/sample" "$copy/crates/report"
-    cp "$copy/examples/sample.table" "$copy/crates/sample/stdin"
-    cp "$copy/examples/sample.table" "$copy/crates/report/stdin"
-    for one in "$tools"/{shellcheck,python3} "${checks[@]}"; do
+    local checks=("$copy"/{tests/{wrong_uses,commands,table_commands,merge_command,run_c}.sh,compare/{sanitized,run,run_report}.sh})
+    local samples=(crates/{sample/stdin,report/stdin,table_merge/data/ancestor.table}) one
+    mkdir -p "$copy"/crates/{sample,report,table_merge/data}
+    for one in "${samples[@]}"; do
+        cp "$copy/examples/sample.table" "$copy/$one"
+    done
+    for one in "$tools"/{git,shellcheck,python3} "${checks[@]}"; do
         stand_in "$one" <<<':'
     done
     at_once .ci/run "./mishtodran lib"
@@ -293,10 +380,10 @@ gate() {
     touch "$room/unformatted"
     expect 1 "*" "*gate: some files are not in rt's layout" "*" .ci/run
     rm "$room/unformatted"
-    for one in sample report; do
-        echo >>"$copy/crates/$one/stdin"
-        expect 1 "*" "*gate: crates/$one/stdin is not examples/sample.table" "*" .ci/run
-        cp "$copy/examples/sample.table" "$copy/crates/$one/stdin"
+    for one in "${samples[@]}"; do
+        echo >>"$copy/$one"
+        expect 1 "*" "*gate: $one is not examples/sample.table" "*" .ci/run
+        cp "$copy/examples/sample.table" "$copy/$one"
     done
     rm -r "$copy/target"
     touch "$room/makes_nothing"
@@ -315,6 +402,7 @@ gate() {
 help_and_links
 reports
 checks
+merges
 builds
 builds_that_go_wrong
 two_at_once

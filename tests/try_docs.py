@@ -1,6 +1,6 @@
 #!/usr/bin/env python3
-"""Holds the docs, and the sentences of `./mishtodran check`, against what they speak of: the header's refusals, fields, entries
-and version, the bytes of the sample, and the line for a damaged table.
+"""Holds the docs, and the sentences of `./mishtodran check` and `merge`, against what they speak of: the header's refusals, fields,
+entries and version, the bytes of the sample, and the lines for a damaged table and a conflict.
 
 Usage: try_docs.py
 
@@ -76,16 +76,21 @@ def entries():
     return lines
 
 
+# The numbers that have a sentence: a table's, and a merge's own.
+SAID = NUMBERS | {24, 32}
+
+
 def sentences():
-    """Lines for the sentences of `./mishtodran check` that are not the header's, and for docs that show another line."""
-    said = re.findall(r'^ +(\d+) => put\(b"(.*)"\),$', text_of("crates/table_check/src/sentence.rt"), re.M)
-    due = [(number, what) for _, number, what in REFUSALS if int(number) in NUMBERS]
+    """Lines for the sentences of `./mishtodran check` and `merge` that are not the header's, and for docs that show another
+    line."""
+    said = re.findall(r'^ +(\d+) => put\(\s*to,\s*b"(.*)",?\s*\),$', text_of("crates/verdict_text/src/sentence.rt"), re.M)
+    due = [(number, what) for _, number, what in REFUSALS if int(number) in SAID]
     lines = [f"sentence.rt has not the header's {number}: {what}" for number, what in due if (number, what) not in said]
-    if len(said) != len(NUMBERS):
-        lines.append(f"sentence.rt has {len(said)} sentences, and a table {len(NUMBERS)} numbers")
-    shown = f"    {text_of('crates/table_check/stdout')}"
-    return lines + [f"{name} does not show the line for the damaged table" for name in ("README.md", "docs/REFUSALS.md")
-                    if shown not in text_of(name)]
+    if len(said) != len(SAID):
+        lines.append(f"sentence.rt has {len(said)} sentences for {len(SAID)} numbers")
+    damaged, conflict = f"    {text_of('crates/table_check/stdout')}", f"    refused 32: {dict(due).get('32')}\n"
+    shown = [("README.md", damaged), ("docs/REFUSALS.md", damaged), ("README.md", conflict)]
+    return lines + [f"{name} does not show the line '{line.strip()}'" for name, line in shown if line not in text_of(name)]
 
 
 def drawing():

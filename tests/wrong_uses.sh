@@ -40,6 +40,33 @@ for command in report check; do
     wrong 2 "mishtodran: standard input is closed" bash -c "./mishtodran $command <&-"
     wrong 2 "mishtodran: standard output is closed" bash -c "./mishtodran $command examples/sample.table >&-"
 done
+
+# A merge of three files into a fourth. No mode stops root, so what a mode forbids is tried as another user.
+user=()
+[ "$(id -u)" != 0 ] || user=("$(command -v setpriv)" --reuid=65534 --regid=65534 --clear-groups)
+(cd "$copy" && cp examples/sample.table t && touch unread unwritten && mkdir shut && ln -s loop loop &&
+    chmod -R a+rX "$room" && chmod 0 unread && chmod 444 unwritten && chmod 555 shut) || fail "$room cannot be written"
+usage="mishtodran: usage: ./mishtodran merge ANCESTOR FIRST SECOND RESULT"
+wrong 2 "$usage" ./mishtodran merge
+wrong 2 "$usage" ./mishtodran merge t t t
+wrong 2 "$usage" ./mishtodran merge t t t new new
+for file in none loop ""; do
+    wrong 2 "mishtodran: there is no file $file" ./mishtodran merge "$file" t t new
+    wrong 2 "mishtodran: there is no file $file" ./mishtodran merge t "$file" t new
+    wrong 2 "mishtodran: there is no file $file" ./mishtodran merge t t "$file" new
+done
+wrong 2 "mishtodran: examples is a folder" ./mishtodran merge examples t t new
+wrong 2 "mishtodran: unread cannot be read" "${user[@]}" ./mishtodran merge t unread t new
+wrong 2 "mishtodran: examples is a folder" ./mishtodran merge t t t examples
+for file in /dev/null new/; do
+    wrong 2 "mishtodran: $file is not a file that can be replaced" ./mishtodran merge t t t "$file"
+done
+for file in none/new loop ""; do
+    wrong 2 "mishtodran: $file cannot be written" ./mishtodran merge t t t "$file"
+done
+for file in unwritten shut/new; do
+    wrong 2 "mishtodran: $file cannot be written" "${user[@]}" ./mishtodran merge t t t "$file"
+done
 wrong 2 "mishtodran: usage: ./mishtodran lib" ./mishtodran lib target
 wrong 2 "mishtodran: usage: ./mishtodran test" ./mishtodran test all
 wrong 2 "mishtodran: usage: ./mishtodran compare N [SEED]" ./mishtodran compare
@@ -87,6 +114,7 @@ wrong 2 "run_c: usage: tests/run_c.sh LIBRARY [INCLUDE]" tests/run_c.sh
 wrong 2 "run_c: there is no library none.a" tests/run_c.sh none.a
 wrong 2 "run_c: there is no mishtodran.h in examples" tests/run_c.sh lib.a examples
 wrong 2 "table_commands: usage: tests/table_commands.sh" tests/table_commands.sh all
+wrong 2 "merge_command: usage: tests/merge_command.sh" tests/merge_command.sh all
 wrong 2 "gate: usage: .ci/run" .ci/run all
 
 # The C programs by themselves, built for this machine.

@@ -1,5 +1,4 @@
-// What a program is given on standard input, read into a buffer that its caller lends.
-use libc::STDIN_FILENO;
+// What a program is given in an open file, read into a buffer that its caller lends.
 ghost use mathlib.Core.Path.{_≡_};
 ghost use Prim.Native.Nat.{ℕ, _≤_};
 ghost use lib.ListN.{length};
@@ -10,13 +9,13 @@ pub enum Input {
     Failed,
 }
 
-// Reads until the input ends or the buffer is full.
-pub fn take_in(buffer: &mut [u8]) -> Input
+// Reads until the file ends or the buffer is full.
+pub fn take_in(from: i32, buffer: &mut [u8]) -> Input
     ensures { λ r. ⌜ ((n : ℕ) → r ≡ Input.Bytes n → n ≤ length (now (buffer .exit))) ⌝ }
 {
     let mut used: usize = 0;
     while used < buffer.len() {
-        let got = libc::read(STDIN_FILENO, &mut buffer[used..]);
+        let got = libc::read(from, &mut buffer[used..]);
         if got < 0 {
             return Input::Failed;
         }

@@ -2,6 +2,7 @@
 use input::Input;
 use input::take_in;
 use libc::STDERR_FILENO;
+use libc::STDIN_FILENO;
 use libc::STDOUT_FILENO;
 use report_text::LONGEST;
 use table::Table;
@@ -20,7 +21,7 @@ fn print_report(stored: &[u8]) {
 // One byte more than the longest table has room, so that a longer one is seen to be too long.
 fn main() {
     let mut buffer = [0u8; Table::BYTES + 1];
-    match take_in(&mut buffer) {
+    match take_in(STDIN_FILENO, &mut buffer) {
         Input::Bytes(n) => print_report(&buffer[..n]),
         Input::Failed => {
             io::write_all(STDERR_FILENO, b"report: standard input could not be read\n");

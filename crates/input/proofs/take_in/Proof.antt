@@ -8,10 +8,10 @@ use Rattle.input.proofs.take_in.Statement.{statement}
 use Rattle.input.proofs.take_in.Tie as tie
 
 abbrev Inv-loop : tie.InvT-loop
-Inv-loop buffer₀ used₀ buffer used = (used ≤ length buffer) × (length buffer ≡ length buffer₀)
+Inv-loop from buffer₀ used₀ buffer used = (used ≤ length buffer) × (length buffer ≡ length buffer₀)
 
 abbrev μ-loop : tie.MeasureT-loop
-μ-loop buffer₀ used₀ buffer used = length buffer - used
+μ-loop from buffer₀ used₀ buffer used = length buffer - used
 
 loop-holds : tie.Need-loop-holds Inv-loop μ-loop
 loop-holds c = search needs

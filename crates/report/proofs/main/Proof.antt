@@ -8,7 +8,7 @@ use Rattle.report.proofs.main.Statement.{statement}
 use Rattle.report.proofs.main.Tie as tie
 
 -- what was read is within the buffer
-within : (c : tie.After-known-told) → c .before .n .given .0 .0 ≤ length (c .before .before .before .before .take-in .last .0)
+within : (c : tie.After-known-told) → c .before .n .given .0 .0 ≤ length (c .before .before .before .before .take-in .last .1 .0)
 within c = c .before .before .before .before .take-in .ensures (c .before .n .given .0 .0) (c .before .n .given .1)
 
 slice-aggregate-take-in : tie.Need-slice-aggregate-take-in

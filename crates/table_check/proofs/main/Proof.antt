@@ -7,7 +7,7 @@ use borrow.Author.Needs.{needs}
 use Rattle.table_check.proofs.main.Statement.{statement}
 use Rattle.table_check.proofs.main.Tie as tie
 
-within : (c : tie.After-known-told) → c .before .n .given .0 .0 ≤ length (c .before .before .before .before .take-in .last .0)
+within : (c : tie.After-known-told) → c .before .n .given .0 .0 ≤ length (c .before .before .before .before .take-in .last .1 .0)
 within c = c .before .before .before .before .take-in .ensures (c .before .n .given .0 .0) (c .before .n .given .1)
 
 slice-aggregate-take-in : tie.Need-slice-aggregate-take-in
@@ -31,11 +31,11 @@ print-line-requires c κs = search needs
 enum-told : tie.Need-enum-told
 enum-told c = search needs
 
-slice-aggregate-write-all : tie.Need-slice-aggregate-write-all
-slice-aggregate-write-all c = search needs
+slice-aggregate-put : tie.Need-slice-aggregate-put
+slice-aggregate-put c = search needs
 
-write-all-requires : tie.Need-write-all-requires
-write-all-requires c κs = search needs
+put-requires : tie.Need-put-requires
+put-requires c κs = search needs
 
 returns : tie.Need-returns
 returns c = search needs
@@ -54,7 +54,7 @@ main-spec =
     slice-aggregate-print-line
     print-line-requires
     enum-told
-    slice-aggregate-write-all
-    write-all-requires
+    slice-aggregate-put
+    put-requires
     returns
     returns-2)

@@ -2,8 +2,8 @@
 use Prim.Native.Nat.{_+_, _-_}
 use mathlib.Core.Path.{_≡_}
 use borrow.Author.Needs.{needs}
-use Rattle.table_check.proofs.place.place_of.Statement.{statement}
-use Rattle.table_check.proofs.place.place_of.Tie as tie
+use Rattle.verdict_text.proofs.place.place_of.Statement.{statement}
+use Rattle.verdict_text.proofs.place.place_of.Tie as tie
 
 abbrev Inv-loop : tie.InvT-loop
 Inv-loop s at record₀ start₀ offset₀ «record» start offset = start + offset ≡ at

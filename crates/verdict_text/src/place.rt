@@ -91,95 +91,95 @@ fn place_of(s: &[u8], at: usize) -> Place {
 }
 
 // A field of a chain's fixed part.
-fn put_fixed(offset: usize) -> bool {
+fn put_fixed(to: i32, offset: usize) -> bool {
     match offset {
-        0 | 1 => put(b"mark"),
-        2 | 3 => put(b"id"),
-        4 => put(b"kind"),
-        5 => put(b"overload"),
-        6..=9 => put(b"deadline"),
-        10..=13 => put(b"gap"),
-        14 => put(b"list length"),
-        _ => put(b"task count"),
+        0 | 1 => put(to, b"mark"),
+        2 | 3 => put(to, b"id"),
+        4 => put(to, b"kind"),
+        5 => put(to, b"overload"),
+        6..=9 => put(to, b"deadline"),
+        10..=13 => put(to, b"gap"),
+        14 => put(to, b"list length"),
+        _ => put(to, b"task count"),
     }
 }
 
 // A field of a chain's tasks, by the offset from the first of them.
-fn put_task(offset: usize) -> bool {
-    let task = put(b"task ") && put_number(offset / 8 + 1);
+fn put_task(to: i32, offset: usize) -> bool {
+    let task = put(to, b"task ") && put_number(to, offset / 8 + 1);
     match offset % 8 {
-        0 | 1 => task && put(b", mark"),
-        2 | 3 => task && put(b", priority"),
-        _ => task && put(b", cost"),
+        0 | 1 => task && put(to, b", mark"),
+        2 | 3 => task && put(to, b", priority"),
+        _ => task && put(to, b", cost"),
     }
 }
 
 // A field of a chain record with so many distances.
-fn put_chain(listed: usize, offset: usize) -> bool {
+fn put_chain(to: i32, listed: usize, offset: usize) -> bool {
     if offset < 16 {
-        return put_fixed(offset);
+        return put_fixed(to, offset);
     }
     let after = offset - 16;
     if after / 4 < listed {
-        put(b"distance ") && put_number(after / 4 + 1)
+        put(to, b"distance ") && put_number(to, after / 4 + 1)
     } else {
-        put_task(after - 4 * listed)
+        put_task(to, after - 4 * listed)
     }
 }
 
-fn put_end(offset: usize) -> bool {
+fn put_end(to: i32, offset: usize) -> bool {
     if offset < 4 {
-        put(b"end record, count")
+        put(to, b"end record, count")
     } else {
-        put(b"after the end record")
+        put(to, b"after the end record")
     }
 }
 
-fn put_field(s: &[u8], p: Place) -> bool {
+fn put_field(to: i32, s: &[u8], p: Place) -> bool {
     match record_at(s, p.start) {
         Record::Chain => {
-            let chain = put(b"chain record ") && put_number(p.record) && put(b", ");
-            chain && put_chain(listed(s, p.start), p.offset)
+            let chain = put(to, b"chain record ") && put_number(to, p.record) && put(to, b", ");
+            chain && put_chain(to, listed(s, p.start), p.offset)
         }
-        Record::End => put_end(p.offset),
-        _ => put(b"record ") && put_number(p.record) && put(b", mark"),
+        Record::End => put_end(to, p.offset),
+        _ => put(to, b"record ") && put_number(to, p.record) && put(to, b", mark"),
     }
 }
 
 // Where the bytes run out before a mark: no byte of it is left, or one.
-fn put_no_mark(p: Place) -> bool {
+fn put_no_mark(to: i32, p: Place) -> bool {
     if p.offset == 0 {
-        put(b"before the end record")
+        put(to, b"before the end record")
     } else {
-        put(b"in the mark of record ") && put_number(p.record)
+        put(to, b"in the mark of record ") && put_number(to, p.record)
     }
 }
 
 // Where the bytes run out.
-fn put_missing(s: &[u8], p: Place) -> bool {
+fn put_missing(to: i32, s: &[u8], p: Place) -> bool {
     match record_at(s, p.start) {
-        Record::Chain => put(b"in chain record ") && put_number(p.record),
-        Record::End => put(b"in the end record"),
-        _ => put_no_mark(p),
+        Record::Chain => put(to, b"in chain record ") && put_number(to, p.record),
+        Record::End => put(to, b"in the end record"),
+        _ => put_no_mark(to, p),
     }
 }
 
-fn put_length(n: usize) -> bool {
+fn put_length(to: i32, n: usize) -> bool {
     if n == 0 {
-        put(b"the table has 0 bytes")
+        put(to, b"the table has 0 bytes")
     } else {
-        put(b"the table has more than 1,284 bytes")
+        put(to, b"the table has more than 1,284 bytes")
     }
 }
 
 // The place that a refusal of this number has at this offset.
-pub(crate) fn put_place(s: &[u8], number: u32, at: usize) -> bool {
+pub(crate) fn put_place(to: i32, s: &[u8], number: u32, at: usize) -> bool {
     match number {
-        1 => put_length(s.len()),
+        1 => put_length(to, s.len()),
         2 => {
-            let after = put(b"after ") && put_counted(at, b" byte") && put(b", ");
-            after && put_missing(s, place_of(s, at))
+            let after = put(to, b"after ") && put_counted(to, at, b" byte") && put(to, b", ");
+            after && put_missing(to, s, place_of(s, at))
         }
-        _ => put_field(s, place_of(s, at)),
+        _ => put_field(to, s, place_of(s, at)),
     }
 }

@@ -1,8 +1,8 @@
 -- The mark is there.
 use borrow.Author.Tests.{not-false}
 use borrow.Author.Needs.{needs}
-use Rattle.table_check.proofs.place.record_at.Statement.{statement}
-use Rattle.table_check.proofs.place.record_at.Tie as tie
+use Rattle.verdict_text.proofs.place.record_at.Statement.{statement}
+use Rattle.verdict_text.proofs.place.record_at.Tie as tie
 
 is-there-requires : tie.Need-is-there-requires
 is-there-requires c κs = search needs

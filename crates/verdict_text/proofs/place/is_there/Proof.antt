@@ -5,8 +5,8 @@ use lib.ListN.{length}
 use native.Mathlib.Omega.{arith}
 use borrow.Author.Tests.{leb-true}
 use borrow.Author.Needs.{needs}
-use Rattle.table_check.proofs.place.is_there.Statement.{statement}
-use Rattle.table_check.proofs.place.is_there.Tie as tie
+use Rattle.verdict_text.proofs.place.is_there.Statement.{statement}
+use Rattle.verdict_text.proofs.place.is_there.Tie as tie
 
 sub-result : tie.Need-sub-result
 sub-result c = search needs
