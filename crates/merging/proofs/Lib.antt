@@ -11,3 +11,4 @@ pub mod Copies
 pub mod Merges
 pub mod Outcomes
 pub mod Tables
+pub mod Promises

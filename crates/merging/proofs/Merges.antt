@@ -146,12 +146,22 @@ module _ (v : Versions) (e : Edited v) where
   unlisted s bytes verdict id h =
       state-picked s bytes verdict id ∙ pick-none id (recordsIn s bytes verdict) (ap (λ (l : List ℕ). among l id) (ids-borne s bytes verdict) ∙ h)
 
-  pub taken-unlisted : (id : ℕ) → among (order v) id ≡ false → takenOf v id ≡ []
-  taken-unlisted id h =
-      let both = or-none (among (idsOf (v .ancestor)) id || among (idsOf (v .first)) id) (among (idsOf (v .second)) id) (sym (among-order id) ∙ h) in
-      let first = unlisted (v .first) (e .of-first) (e .all .first) id (or-none (among (idsOf (v .ancestor)) id) (among (idsOf (v .first)) id) (both .0) .1) in
-      let second = unlisted (v .second) (e .of-second) (e .all .second) id (both .1) in
-      by-alike (stateOf (v .ancestor) id) (stateOf (v .first) id) (stateOf (v .second) id) _ _ _ (same-yes _ _ (first ∙ sym second)) ∙ first
+  module _ (id : ℕ) (h : among (order v) id ≡ false) where
+    none : (stateOf (v .first) id ≡ []) × (stateOf (v .second) id ≡ [])
+    none =
+        let both = or-none (among (idsOf (v .ancestor)) id || among (idsOf (v .first)) id) (among (idsOf (v .second)) id) (sym (among-order id) ∙ h) in (
+          unlisted (v .first) (e .of-first) (e .all .first) id (or-none (among (idsOf (v .ancestor)) id) (among (idsOf (v .first)) id) (both .0) .1),
+          unlisted (v .second) (e .of-second) (e .all .second) id (both .1),
+        )
+
+    alike : same (stateOf (v .first) id) (stateOf (v .second) id) ≡ true
+    alike = same-yes _ _ (none .0 ∙ sym (none .1))
+
+    pub taken-unlisted : takenOf v id ≡ []
+    taken-unlisted = by-alike (stateOf (v .ancestor) id) (stateOf (v .first) id) (stateOf (v .second) id) _ _ _ alike ∙ none .0
+
+    pub unlisted-alike : conflictOf v id ≡ false
+    unlisted-alike = by-alike (stateOf (v .ancestor) id) (stateOf (v .first) id) (stateOf (v .second) id) _ _ _ alike
 
   -- a record that is taken bears its id
   bears : (s : List ℕ) (bytes : Bytes s) (verdict : readTable s .verdict ≡ Accepted) (id : ℕ) → isRecord (stateOf s id) ≡ true → idIn (stateOf s id) ≡ id

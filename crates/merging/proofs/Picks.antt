@@ -202,8 +202,8 @@ pick-perm (r ∷ rs) qs d d′ a b e =
     let is : pick n qs ≡ r = sym (e n) ∙ pick-here n r rs refl in
     let front : List·Permᴰ qs (r ∷ without n qs) = subst (λ (x : List ℕ). List·Permᴰ qs (x ∷ without n qs)) is (pull n qs d′ (ap isRecord is ∙ a .0)) in
     let rest : (id : ℕ) → pick id rs ≡ pick id (without n qs) = λ id. one-or-not n id
-        (λ same. subst (λ (m : ℕ). pick m rs ≡ pick m (without n qs)) same (pick-none n rs (d .0) ∙ sym (pick-without n qs)))
-        (λ no. sym (pick-on id r rs no) ∙ e id ∙ sym (pick-others n id qs no)) in
+    (λ same. subst (λ (m : ℕ). pick m rs ≡ pick m (without n qs)) same (pick-none n rs (d .0) ∙ sym (pick-without n qs)))
+    (λ no. sym (pick-on id r rs no) ∙ e id ∙ sym (pick-others n id qs no)) in
     let alone : Alone (map idIn (without n qs)) = subst Alone (keep-map idIn (λ m. not (eqb m n)) (λ q. not (eqb (idIn q) n)) qs (all-each _ (λ q. refl) qs)) (alone-keep (λ m. not (eqb m n)) (map idIn qs) d′) in
     List·Permᴰ·trans (List·Permᴰ·cons refl (pick-perm rs (without n qs) (d .1) alone (a .1) (all-keep _ (λ q. isRecord q ≡ true) qs b) rest)) (Permᴰ·symm front)
 

@@ -65,7 +65,7 @@ records-of P s most h zero chain l = tt
 records-of P s most h (suc n) chain l = (h chain (omega arith), records-of P s most h n (chain + 1) (omega arith))
 
 -- bytes
-bytes-of : (n x : ℕ) → Bytes (bytesOf n x)
+pub bytes-of : (n x : ℕ) → Bytes (bytesOf n x)
 unfolding bytesOf
 bytes-of zero x i = omega arith
 bytes-of (suc n) x zero = omega arith
@@ -77,7 +77,7 @@ bytes-flatten [] h i = omega arith
 bytes-flatten (r ∷ rs) h i = bytes-append r (flatten rs) (h .0) (bytes-flatten rs (h .1)) i
 
 -- sums over records
-flatten-length : (rs : List (List ℕ)) → length (flatten rs) ≡ sumOf length rs
+pub flatten-length : (rs : List (List ℕ)) → length (flatten rs) ≡ sumOf length rs
 unfolding flatten sumOf
 flatten-length [] = refl
 flatten-length (r ∷ rs) = length-append r (flatten rs) ∙ ap (λ n. length r + n) (flatten-length rs)
@@ -96,11 +96,11 @@ joined-length : (l r : List ℕ) → length (joined l r) ≤ length l + length r
 joined-length l r = omega (arith, length-append l (keep (λ n. not (among l n)) r), keep-length (λ n. not (among l n)) r)
 
 -- the end record
-end-mark : (n : ℕ) → markOf (word 2 (endRecord n) 0) ≡ End
+pub end-mark : (n : ℕ) → markOf (word 2 (endRecord n) 0) ≡ End
 unfolding markOf _when_else_
 end-mark n = ap markOf (word-bytes 2 20037 [] (bytesOf 2 n) (omega arith))
 
-end-count : (n : ℕ) → n < 65536 → word 2 (endRecord n) 2 ≡ n
+pub end-count : (n : ℕ) → n < 65536 → word 2 (endRecord n) 2 ≡ n
 end-count n h =
     ap (λ (l : List ℕ). word 2 (bytesOf 2 20037 ++ l) 2) (sym (append-nil (bytesOf 2 n)))
     ∙ ap (word 2 (bytesOf 2 20037 ++ (bytesOf 2 n ++ []))) (sym (length-bytes 2 20037)) ∙ word-bytes 2 n (bytesOf 2 20037) [] (omega (arith, h))
@@ -146,8 +146,19 @@ module _ (v : Versions) (e : Edited v) where
       let s = taken (v .second) (e .of-second) (e .all .second) in
       let x = idsOf (v .ancestor) in
       let y = joined x (idsOf (v .first)) in
-      omega (arith, keep-length isRecord (map (takenOf v) (order v)), length-map (order v) (takenOf v), joined-length y (idsOf (v .second)), joined-length x (idsOf (v .first)),
-      ids-length a, ids-length f, ids-length s, a .good .few, f .good .few, s .good .few)
+      omega (
+        arith,
+        keep-length isRecord (map (takenOf v) (order v)),
+        length-map (order v) (takenOf v),
+        joined-length y (idsOf (v .second)),
+        joined-length x (idsOf (v .first)),
+        ids-length a,
+        ids-length f,
+        ids-length s,
+        a .good .few,
+        f .good .few,
+        s .good .few,
+      )
 
   apart : (i j : ℕ) → i < length (takenRecords v) → j < length (takenRecords v) → idIn (getD (takenRecords v) i []) ≡ idIn (getD (takenRecords v) j []) → i ≡ j
   apart i j a b h =

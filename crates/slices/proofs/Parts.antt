@@ -29,7 +29,7 @@ abbrev pub rowIn : List ℕ → Row
 rowIn r = rowAt r 0
 
 -- lists of lists
-flatten-append : (a b : List (List ℕ)) → flatten (a ++ b) ≡ flatten a ++ flatten b
+pub flatten-append : (a b : List (List ℕ)) → flatten (a ++ b) ≡ flatten a ++ flatten b
 unfolding flatten
 flatten-append [] b = refl
 flatten-append (r ∷ a) b = rw (flatten-append a b, append-assoc)
