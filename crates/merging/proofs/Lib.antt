@@ -12,3 +12,4 @@ pub mod Merges
 pub mod Outcomes
 pub mod Tables
 pub mod Promises
+pub mod Equals

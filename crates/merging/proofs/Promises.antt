@@ -135,7 +135,7 @@ keep-append {A} p (a ∷ l) r = by (p a) (keep-append p l r)
     by true on = ap (λ (x : List A). a ∷ x) on
     by false on = on
 
-map-alike : {A B : Type 0} (f g : A → B) → ((a : A) → f a ≡ g a) → (l : List A) → map f l ≡ map g l
+pub map-alike : {A B : Type 0} (f g : A → B) → ((a : A) → f a ≡ g a) → (l : List A) → map f l ≡ map g l
 map-alike f g h [] = refl
 map-alike f g h (a ∷ l) = ap₂ _∷_ (h a) (map-alike f g h l)
 

@@ -96,9 +96,12 @@ joined-length : (l r : List ℕ) → length (joined l r) ≤ length l + length r
 joined-length l r = omega (arith, length-append l (keep (λ n. not (among l n)) r), keep-length (λ n. not (among l n)) r)
 
 -- the end record
-pub end-mark : (n : ℕ) → markOf (word 2 (endRecord n) 0) ≡ End
+pub end-mark-word : (n : ℕ) → word 2 (endRecord n) 0 ≡ 20037
+end-mark-word n = word-bytes 2 20037 [] (bytesOf 2 n) (omega arith)
+
+end-mark : (n : ℕ) → markOf (word 2 (endRecord n) 0) ≡ End
 unfolding markOf _when_else_
-end-mark n = ap markOf (word-bytes 2 20037 [] (bytesOf 2 n) (omega arith))
+end-mark n = ap markOf (end-mark-word n)
 
 pub end-count : (n : ℕ) → n < 65536 → word 2 (endRecord n) 2 ≡ n
 end-count n h =

@@ -1,0 +1,124 @@
+-- Three equal tables give the same bytes. Assumes nothing.
+use Prim.Native.Nat.{ℕ, zero, suc, _+_, _-_, _<_, _≤_}
+use native.Mathlib.Omega.{arith}
+use mathlib.Core.Path.{_≡_, refl, ap, ap₂, sym, _∙_}
+use mathlib.Core.List.{List, [], _∷_, _++_, map, flatten, append-nil}
+use mathlib.Core.Bool.{Bool, true, false, not, _||_}
+use mathlib.Core.Logic.{⊎-elim}
+use lib.Dec.{eqb}
+use lib.ListN.{length, getD, drop, length-drop}
+use lib.Seq.{ext-getD, getD-drop}
+use borrow.Author.Tests.{eqb-true, eq-eqb}
+use Rattle.search.specs.Choice.{_when_else_}
+use Rattle.search.specs.Lists.{some, keep, All}
+use Rattle.search.proofs.Choice.{when-yes, when-no, lt-or-le}
+use Rattle.table.specs.Bytes.{word, bytesOf, Bytes}
+use Rattle.table.specs.Fault.{markOf}
+use Rattle.table.specs.Place.{placeOf}
+use Rattle.table.specs.Read.{readTable, tableOf}
+use Rattle.table.specs.declared.Mark.{Mark}
+use Rattle.table.specs.declared.Mark.the-variants.{Chain, Task, End, Unknown}
+use Rattle.table.specs.declared.Verdict.the-variants.{Accepted}
+use Rattle.table.proofs.Words.{word-same}
+use Rattle.table.proofs.Accepted.{taken}
+use Rattle.slices.proofs.Bytes.{bytes-append}
+use Rattle.slices.proofs.Records.{length-records}
+use Rattle.slices.proofs.Sameness.{same-yes}
+use Rattle.merging.specs.Versions.{three, stateOf, idsOf}
+use Rattle.merging.specs.Rule.{takenOf, among, joined, order}
+use Rattle.merging.specs.Merge.{isRecord, takenRecords, endRecord, resultOf}
+use Rattle.merging.proofs.Rules.{by-alike}
+use Rattle.merging.proofs.Results.{end-length}
+use Rattle.merging.proofs.Picks.{idIn, pick, among-here, pick-all}
+use Rattle.merging.proofs.Copies.{recordsIn, in-parts, state-picked, ids-borne, records-alone, all-records}
+use Rattle.merging.proofs.Tables.{bytes-of, end-mark-word, end-count}
+use Rattle.merging.proofs.Promises.{map-alike}
+
+-- numbers joined to themselves
+none-new : (k l : List ℕ) → ((n : ℕ) → among k n ≡ true → among l n ≡ true) → keep (λ n. not (among l n)) k ≡ []
+unfolding keep some
+none-new [] l h = refl
+none-new (n ∷ k) l h =
+    when-no _ _ (ap not (h n (ap (λ (t : Bool). t || among k n) (eq-eqb n n refl)))) ∙ none-new k l (λ m e. h m (or-later (eqb n m) e))
+  where
+    or-later : (a : Bool) {b : Bool} → b ≡ true → (a || b) ≡ true
+    or-later true e = refl
+    or-later false e = e
+
+joined-same : (l : List ℕ) → joined l l ≡ l
+joined-same l = ap (λ (r : List ℕ). l ++ r) (none-new l l (λ n e. e)) ∙ append-nil l
+
+-- records are all kept
+keep-every : (rs : List (List ℕ)) → All (λ r. isRecord r ≡ true) rs → keep isRecord rs ≡ rs
+unfolding keep
+keep-every [] h = refl
+keep-every (r ∷ rs) h = when-yes _ _ (h .0) ∙ ap (λ (l : List (List ℕ)). r ∷ l) (keep-every rs (h .1))
+
+-- the end's mark is one number
+rank : Mark → ℕ
+rank Chain = 0
+rank Task = 1
+rank End = 2
+rank Unknown = 3
+
+end-word : (w : ℕ) → markOf w ≡ End → w ≡ 20037
+unfolding markOf _when_else_ rank
+end-word w e = by (eqb w 18499) (eqb w 19284) (eqb w 20037) refl e
+  where
+    by : (a b c : Bool) → eqb w 20037 ≡ c → (Chain when a else Task when b else End when c else Unknown) ≡ End → w ≡ 20037
+    by true b c f e = absurd (omega (arith, ap rank e))
+    by false true c f e = absurd (omega (arith, ap rank e))
+    by false false true f e = eqb-true w 20037 f
+    by false false false f e = absurd (omega (arith, ap rank e))
+
+module _ (s : List ℕ) (bytes : Bytes s) (verdict : readTable s .verdict ≡ Accepted) where
+  abbrev rs : List (List ℕ)
+  rs = recordsIn s bytes verdict
+
+  abbrev end : ℕ
+  end = placeOf (tableOf s) (tableOf s .count)
+
+  -- the last four bytes are the end record with their number
+  count-is : length rs ≡ tableOf s .count
+  count-is = length-records s (tableOf s .count) 0
+
+  end-bytes : Bytes (endRecord (length rs))
+  end-bytes = bytes-append (bytesOf 2 20037) (bytesOf 2 (length rs)) (bytes-of 2 20037) (bytes-of 2 (length rs))
+
+  same-mark : word 2 (endRecord (length rs)) 0 ≡ word 2 s end
+  same-mark = end-mark-word (length rs) ∙ sym (end-word (word 2 s end) (taken s bytes verdict .holds .end-mark))
+
+  same-count : word 2 (endRecord (length rs)) 2 ≡ word 2 s (end + 2)
+  same-count = end-count (length rs) (omega (arith, count-is, taken s bytes verdict .good .few)) ∙ count-is ∙ sym (taken s bytes verdict .holds .counts)
+
+  same-byte : (i : ℕ) → i < 4 → getD (endRecord (length rs)) i 0 ≡ getD s (end + i) 0
+  same-byte i h = ⊎-elim
+      (λ l. let z : 0 + i ≡ i = omega arith in
+      rw z at (word-same 2 (endRecord (length rs)) s 0 end end-bytes bytes same-mark i l))
+      (λ l. let z : 2 + (i - 2) ≡ i = omega arith in
+      let y : end + 2 + (i - 2) ≡ end + i = omega arith in
+      rw (z, y) at (word-same 2 (endRecord (length rs)) s 2 (end + 2) end-bytes bytes same-count (i - 2) (omega arith)))
+      (lt-or-le i 2)
+
+  end-is : endRecord (length rs) ≡ drop end s
+  end-is =
+      let n = end-length (length rs) in
+      ext-getD 0 (endRecord (length rs)) (drop end s) (n ∙ omega (arith, length-drop end s, taken s bytes verdict .holds .ends))
+      (λ i h. same-byte i (omega (arith, h, n)) ∙ sym (getD-drop end s i 0))
+
+  -- so nothing is changed
+  pub equal-records : takenRecords (three s s s) ≡ rs
+  unfolding takenRecords order
+  equal-records =
+      let v = three s s s in
+      let ids : joined (joined (idsOf s) (idsOf s)) (idsOf s) ≡ idsOf s = ap (λ (l : List ℕ). joined l (idsOf s)) (joined-same (idsOf s)) ∙ joined-same (idsOf s) in
+      let own : (id : ℕ) → takenOf v id ≡ pick id rs = λ id. by-alike (stateOf s id) (stateOf s id) (stateOf s id) _ _ _ (same-yes _ _ refl) ∙ state-picked s bytes verdict id in
+      ap (λ (l : List ℕ). keep isRecord (map (takenOf v) l)) (ids ∙ sym (ids-borne s bytes verdict))
+      ∙ ap (keep isRecord) (map-alike (takenOf v) (λ id. pick id rs) own (map idIn rs) ∙ pick-all rs (records-alone s bytes verdict))
+      ∙ keep-every rs (all-records s bytes verdict)
+
+  pub equal-result : resultOf (three s s s) ≡ s
+  unfolding resultOf
+  equal-result =
+      ap (λ (l : List (List ℕ)). flatten l ++ endRecord (length l)) equal-records
+      ∙ ap (λ (l : List ℕ). flatten rs ++ l) end-is ∙ sym (in-parts s bytes verdict .bytes)
