@@ -34,8 +34,14 @@ use Rattle.misses.specs.declared.Answer.{Answer as Misses}
 use Rattle.misses.specs.declared.Answer.the-variants.{Refused as NoMisses}
 use Rattle.saving.specs.Save as save
 use Rattle.saving.specs.declared.Saved.the-variants.{Used, Refused as NoSave}
+use Rattle.merging.specs.Versions.{Versions}
+use Rattle.merging.specs.Rule.{conflictAbove}
+use Rattle.merging.specs.Merge as merge
+use Rattle.merging.specs.declared.Merged.{Merged}
+use Rattle.merging.specs.declared.Merged.the-variants.{Used as Length, Ancestor, First, Second, Conflict, Result}
+use Rattle.merging.specs.declared.Found.the-variants.{Id, Refused as NotFound}
 use Rattle.editor.specs.Entry.{latencyFigures, verdictFigures}
-use Rattle.demands.specs.Entries.{CheckRefusal, LatencyRefusal, MissesRefusal, SegmentRefusal, SaveRefusal, OneAnswer}
+use Rattle.demands.specs.Entries.{CheckRefusal, LatencyRefusal, MissesRefusal, SegmentRefusal, SaveRefusal, MergeRefusal, OneAnswer}
 use Rattle.demands.proofs.Numbers.{table-number, save-number}
 
 module _ (Refusal : ℕ → Type 0) (n : ℕ) where
@@ -147,3 +153,39 @@ save-one buffer used old new = by (save.saveFault buffer used old new) (save-num
     by : (f : ℕ) → ((f ≡ 0 → ⊥) → SaveRefusal f) → (n : ℕ) → OneAnswer SaveRefusal 1 (save.numberOf (byNumber NoSave f (Used n))) (save.valuesOf (byNumber NoSave f (Used n)))
     by zero r n = answers SaveRefusal 1 _ refl
     by (suc f) r n = refuses SaveRefusal 1 (suc f) (omega arith) (r (λ z. omega (arith, z)))
+
+-- a merge, and its conflicts
+abbrev OneMerge : Merged → Type 0
+OneMerge a = OneAnswer MergeRefusal 1 (merge.numberOf a) (merge.valuesOf a)
+
+fitted-one : (room : ℕ) (result : List ℕ) → OneMerge (merge.fitted room result)
+unfolding merge.fitted read.unless
+fitted-one room result = when-cases OneMerge _ (λ e. refuses MergeRefusal 1 24 (lit≤ tt) (inr (inl refl))) (λ e. by (readTable result .verdict) refl)
+  where
+    by : (v : Verdict) → readTable result .verdict ≡ v → OneMerge (read.unless Result v (Length (length result)))
+    by Accepted e = answers MergeRefusal 1 _ refl
+    by (Faulty f place) e = faulty MergeRefusal 1 (λ n h. inl h) result f place e
+
+pub merge-one : (room : ℕ) (v : Versions) → OneMerge (merge.mergedOf room v)
+unfolding merge.mergedOf read.unless byNumber
+merge-one room v = by (readTable (v .ancestor) .verdict) refl (readTable (v .first) .verdict) refl (readTable (v .second) .verdict) refl (conflictAbove v 0)
+  where
+    by : (a : Verdict) → readTable (v .ancestor) .verdict ≡ a → (b : Verdict) → readTable (v .first) .verdict ≡ b → (c : Verdict) → readTable (v .second) .verdict ≡ c → (id : ℕ)
+        → OneMerge (read.unless Ancestor a (read.unless First b (read.unless Second c (byNumber Conflict id (merge.fitted room (merge.resultOf v))))))
+    by (Faulty f place) e b g c h id = faulty MergeRefusal 1 (λ n h. inl h) (v .ancestor) f place e
+    by Accepted e (Faulty f place) g c h id = faulty MergeRefusal 1 (λ n h. inl h) (v .first) f place g
+    by Accepted e Accepted g (Faulty f place) h id = faulty MergeRefusal 1 (λ n h. inl h) (v .second) f place h
+    by Accepted e Accepted g Accepted h zero = fitted-one room (merge.resultOf v)
+    by Accepted e Accepted g Accepted h (suc id) = refuses MergeRefusal 1 32 (lit≤ tt) (inr (inr refl))
+
+pub conflict-one : (v : Versions) (above : ℕ) → OneAnswer TableRefusal 1 (merge.foundNumber (merge.foundOf v above)) (merge.foundValues (merge.foundOf v above))
+unfolding merge.foundOf
+conflict-one v above = by (readTable (v .ancestor) .verdict) refl (readTable (v .first) .verdict) refl (readTable (v .second) .verdict) refl
+  where
+    by : (a : Verdict) → readTable (v .ancestor) .verdict ≡ a → (b : Verdict) → readTable (v .first) .verdict ≡ b → (c : Verdict) → readTable (v .second) .verdict ≡ c
+        → OneAnswer TableRefusal 1 (merge.foundNumber (byVerdict NotFound a (byVerdict NotFound b (byVerdict NotFound c (Id (conflictAbove v above))))))
+        (merge.foundValues (byVerdict NotFound a (byVerdict NotFound b (byVerdict NotFound c (Id (conflictAbove v above))))))
+    by (Faulty f place) e b g c h = faulty TableRefusal 1 (λ n h. h) (v .ancestor) f place e
+    by Accepted e (Faulty f place) g c h = faulty TableRefusal 1 (λ n h. h) (v .first) f place g
+    by Accepted e Accepted g (Faulty f place) h = faulty TableRefusal 1 (λ n h. h) (v .second) f place h
+    by Accepted e Accepted g Accepted h = answers TableRefusal 1 _ refl

@@ -15,10 +15,13 @@ use Rattle.table.specs.Field.{TableRefusal}
 use Rattle.segments.specs.Query.{segmentOf, partOf, offsetOf}
 use Rattle.saving.specs.Save as save
 use Rattle.saving.proofs.After.{saved-number}
+use Rattle.merging.specs.Versions.{Versions}
+use Rattle.merging.specs.Merge as merge
+use Rattle.merging.specs.declared.Merged.{Merged}
 use Rattle.report_text.specs.Report.{reportOf}
-use Rattle.editor.specs.Entry.{figureBytes, returned, leftBy, tooLong, Answered, SaveEntry, ReportEntry}
-use Rattle.demands.specs.Entries.{SaveRefusal, ReportRefusal, CheckRefusal, AtEntry, OneAnswer, Query, Call, OnePart, LatencyRefusal, MissesRefusal, SegmentRefusal, EveryEntry}
-use Rattle.demands.proofs.Answers.{verdict-one, check-one, latency-one, misses-one, segment-one, save-one}
+use Rattle.editor.specs.Entry.{figureBytes, returned, leftBy, tooLong, Answered, SaveEntry, MergeEntry, ReportEntry}
+use Rattle.demands.specs.Entries.{SaveRefusal, MergeRefusal, ReportRefusal, CheckRefusal, AtEntry, OneAnswer, Query, Call, OnePart, OneChosen, LatencyRefusal, MissesRefusal, SegmentRefusal, EveryEntry}
+use Rattle.demands.proofs.Answers.{verdict-one, check-one, latency-one, misses-one, segment-one, save-one, merge-one, conflict-one}
 
 -- a statement that names the answer
 query : {A : Type 0} (right : A) (Refusal : ℕ → Type 0) (n : ℕ) (number : A → ℕ) (figures : A → List ℕ) → OneAnswer Refusal n (number right) (figures right) → Query (λ a. a ≡ right) Refusal n number figures
@@ -46,6 +49,33 @@ one-part table chain against number =
     let answer = segmentOf (now table) chain against number in
     record {
       taken = (record { ptr = (ptr table .0, offsetOf answer + ptr table .1); name = table .name; now = partOf (now table) answer }, record { bytes = refl; place = refl });
+      one = λ x y. (x .bytes ∙ sym (y .bytes), x .place ∙ sym (y .place));
+    }
+
+-- the merge of the library: its answer, and the whole buffer
+module _ (v : Versions) (buffer : List ℕ) where
+  abbrev mergeAfter : List ℕ
+  mergeAfter = merge.bufferAfter (merge.mergedOf (length buffer) v) (merge.resultOf v) buffer
+
+  -- a refused merge leaves the buffer
+  merge-leaves : (merge.numberOf (merge.mergedOf (length buffer) v) ≡ 0 → ⊥) → mergeAfter ≡ buffer
+  merge-leaves h = when-no _ _ (ne-eqb (merge.numberOf (merge.mergedOf (length buffer) v)) 0 h)
+
+  merge-call : Call (λ after a. merge.Merges v buffer a after) MergeRefusal merge.numberOf buffer
+  merge-call = record {
+    taken = (mergeAfter, merge.mergedOf (length buffer) v, record { answers = refl; leaves = refl });
+    one = λ {x} {y} {r} {q} a b. let e = a .answers ∙ sym (b .answers) in (a .leaves ∙ ap (λ (m : Merged). merge.bufferAfter m (merge.resultOf v) buffer) e ∙ sym (b .leaves), e);
+    refused = λ {x} {r} a h.
+        let n = ap merge.numberOf (a .answers) in
+        (subst MergeRefusal (sym n) (merge-one (length buffer) v .refused (λ e. h (n ∙ e)) .0), a .leaves ∙ when-no _ _ (ne-eqb (merge.numberOf r) 0 h));
+  }
+
+-- the record taken for an id
+one-chosen : (ancestor first second : RefT (List ℕ)) (id : ℕ) → OneChosen ancestor first second id
+one-chosen ancestor first second id =
+    let v = merge.versions ancestor first second in
+    record {
+      taken = (record { ptr = merge.chosenPlace v id (ptr first) (ptr second); name = first .name; now = merge.chosenOf v id }, record { bytes = refl; place = refl });
       one = λ x y. (x .bytes ∙ sym (y .bytes), x .place ∙ sym (y .place));
     }
 
@@ -94,6 +124,26 @@ module _ (buffer : List ℕ) (used : ℕ) (old new answer : List ℕ) where
           (λ l. when-no _ _ (le-ltb (length answer) 4 l) ∙ save-leaves buffer used old new (λ e. h (when-no _ _ (le-ltb (length answer) 4 l) ∙ e)))
           (lt-or-le (length answer) 4)
 
+-- and so does the merge entry
+module _ (v : Versions) (buffer answer : List ℕ) where
+  abbrev merged : List ℕ
+  merged = buffer when ltb (length answer) 4 else mergeAfter v buffer
+
+  pub merge-entry : Call {A = List ℕ × List ℕ} (λ after r. MergeEntry v buffer answer (after .0) (after .1) r) (AtEntry MergeRefusal) (λ r. r) (buffer, answer)
+  merge-entry =
+      let c = answered MergeRefusal 1 _ _ (merge-one (length buffer) v) answer in
+      record {
+        taken = ((merged, c .taken .0), c .taken .1, record { answers = c .taken .2; leaves = refl });
+        one = λ x y. let e = c .one (x .answers) (y .answers) in (ap₂ (λ a b. (a, b)) (x .leaves ∙ sym (y .leaves)) (e .0), e .1);
+        refused = λ x h. let f = c .refused (x .answers) h in (f .0, ap₂ (λ a b. (a, b)) (x .leaves ∙ table (λ e. h (x .answers .returns ∙ e))) (f .1));
+      }
+    where
+      table : (returned 1 (merge.numberOf (merge.mergedOf (length buffer) v)) answer ≡ 0 → ⊥) → merged ≡ buffer
+      table h = ⊎-elim
+          (λ l. when-yes _ _ (lt-ltb (length answer) 4 l))
+          (λ l. when-no _ _ (le-ltb (length answer) 4 l) ∙ merge-leaves v buffer (λ e. h (when-no _ _ (le-ltb (length answer) 4 l) ∙ e)))
+          (lt-or-le (length answer) 4)
+
 -- and so does the report entry: the text's buffer and the answer's
 module _ (s text answer : List ℕ) where
   report-one : OneAnswer ReportRefusal 1 (24 when tooLong s text else 0) ([] when tooLong s text else length (reportOf s) ∷ [])
@@ -128,12 +178,17 @@ every-entry = record {
   segment = λ s chain against number. query _ SegmentRefusal 2 _ _ (segment-one s chain against number);
   part = one-part;
   save = save-call;
+  merge = merge-call;
+  conflict = λ v above. query _ TableRefusal 1 _ _ (conflict-one v above);
+  chosen = one-chosen;
   report = λ s before. record { one = λ a b. (a .leaves ∙ sym (b .leaves), a .answers ∙ sym (b .answers)) };
   latency-entry = λ s id before. entry (λ x r a. record { answers = a }) (λ x r e. e .answers) (answered LatencyRefusal 4 _ _ (latency-one s id) before);
   misses-entry = λ s id k before. entry (λ x r a. record { answers = a }) (λ x r e. e .answers) (answered MissesRefusal 1 _ _ (misses-one s id k) before);
   segment-entry = λ s chain against number before.
       entry (λ x r a. record { answers = a }) (λ x r e. e .answers) (answered SegmentRefusal 2 _ _ (segment-one s chain against number) before);
+  conflict-entry = λ v above before. entry (λ x r a. record { answers = a }) (λ x r e. e .answers) (answered TableRefusal 1 _ _ (conflict-one v above) before);
   save-entry = save-entry;
+  merge-entry = merge-entry;
   report-entry = report-entry;
   check-entry = λ s before. entry (λ x r a. record { answers = a }) (λ x r e. e .answers) (answered CheckRefusal 2 _ _ (check-one s) before);
   version-entry = λ e f. e ∙ sym f;

@@ -13,6 +13,7 @@ pub mod Regroupings
 pub mod Others
 pub mod Saves
 pub mod Calls
+pub mod Merges
 pub mod Tables
 pub mod StarredWindows
 pub mod StarredMisses

@@ -21,6 +21,7 @@ use Rattle.editor.specs.Entry.{LatencyEntry, MissesEntry}
 use Rattle.demands.specs.Chains.{Has, chainOf, othersOf}
 use Rattle.demands.specs.Entries.{EveryEntry}
 use Rattle.demands.specs.Saves.{AcceptedEdit, SeenRecords}
+use Rattle.demands.specs.Merges.{MergeOfCopies}
 use Rattle.demands.specs.Arrivals.{ArrivalRules}
 use Rattle.demands.specs.Figures.{Exactly}
 use Rattle.demands.specs.Misses.{MeansOf, Says, Right}
@@ -37,6 +38,8 @@ pub record Demand1 : Type 0 where
   pub places : (s : List ℕ) {n place : ℕ} → readTable s .verdict ≡ Refused n place → Placed s n place × Blames s n place
   -- a save that starts from a record other than the stored one is refused; a record changed away and back counts as the one seen
   pub saves : SeenRecords
+  -- a merge of two edited copies loses no edit of either, or is refused; the copies can be swapped (02, request 4)
+  pub merges : MergeOfCopies
 
 -- every figure equals the published chain analysis as document 01 fixes it
 pub record Demand2 : Type 0 where

@@ -14,15 +14,17 @@ use Rattle.segments.specs.declared.Answer.{Answer as Segment}
 use Rattle.windows.specs.Latency.{latencyOf, numberOf as latencyNumber}
 use Rattle.misses.specs.Misses.{missesOf, numberOf as missesNumber, valuesOf as missesFigures}
 use Rattle.saving.specs.Save.{Saves, numberOf as saveNumber}
+use Rattle.merging.specs.Versions.{Versions}
+use Rattle.merging.specs.Merge.{Merges, foundOf, foundNumber, foundValues, Chosen, numberOf as mergeNumber}
 use Rattle.report_text.specs.Report.{Reported}
-use Rattle.editor.specs.Entry.{latencyFigures, LatencyEntry, MissesEntry, SegmentEntry, SaveEntry, CheckEntry, ReportEntry, version}
+use Rattle.editor.specs.Entry.{latencyFigures, LatencyEntry, MissesEntry, SegmentEntry, SaveEntry, CheckEntry, MergeEntry, ConflictEntry, ReportEntry, version}
 
 -- n lies between low and high, both included
 abbrev pub Between : ℕ → ℕ → ℕ → Type 0
 Between low high n = (low ≤ n) × (n ≤ high)
 
--- the numbers that each query and a save can be refused with, a table's own among them, then those of a report and of the check, which
--- has none; a C entry can also be refused with 27
+-- the numbers that each query, a save and a merge can be refused with, a table's own among them, then those of a report and of the check,
+-- which has none; what asks for conflicts is refused with a table's own only; a C entry can also be refused with 27
 abbrev pub LatencyRefusal : ℕ → Type 0
 LatencyRefusal n = TableRefusal n ⊎ (n ≡ 12) ⊎ Between 16 17 n
 
@@ -34,6 +36,9 @@ SegmentRefusal n = TableRefusal n ⊎ (n ≡ 12) ⊎ Between 25 26 n
 
 abbrev pub SaveRefusal : ℕ → Type 0
 SaveRefusal n = TableRefusal n ⊎ Between 22 24 n
+
+abbrev pub MergeRefusal : ℕ → Type 0
+MergeRefusal n = TableRefusal n ⊎ (n ≡ 24) ⊎ (n ≡ 32)
 
 abbrev pub ReportRefusal : ℕ → Type 0
 ReportRefusal n = n ≡ 24
@@ -71,6 +76,11 @@ pub record OnePart (table : RefT (List ℕ)) (answer : Segment) : Type 0 where
   pub taken : (r : RefT (List ℕ)) × HandedBack table r answer
   pub one : {r q : RefT (List ℕ)} → HandedBack table r answer → HandedBack table q answer → (now r ≡ now q) × (ptr r ≡ ptr q)
 
+-- the record taken for an id, as a part of one of the lent copies: there is one, and its bytes and its place are the only ones
+pub record OneChosen (ancestor first second : RefT (List ℕ)) (id : ℕ) : Type 0 where
+  pub taken : (r : RefT (List ℕ)) × Chosen ancestor first second id r
+  pub one : {r q : RefT (List ℕ)} → Chosen ancestor first second id r → Chosen ancestor first second id q → (now r ≡ now q) × (ptr r ≡ ptr q)
+
 -- every entry of the library and of C
 pub record EveryEntry : Type 0 where
   -- `table::judge`, `table::read`
@@ -84,15 +94,23 @@ pub record EveryEntry : Type 0 where
   pub part : (table : RefT (List ℕ)) (id against number : ℕ) → OnePart table (segmentOf (now table) id against number)
   -- `saving::save`
   pub save : (buffer : List ℕ) (used : ℕ) (old new : List ℕ) → Call (λ after a. Saves buffer used old new a after) SaveRefusal saveNumber buffer
+  -- `merging::merge`, `merging::conflict`, `merging::chosen`
+  pub merge : (v : Versions) (buffer : List ℕ) → Call (λ after a. Merges v buffer a after) MergeRefusal mergeNumber buffer
+  pub conflict : (v : Versions) (above : ℕ) → Query (λ a. a ≡ foundOf v above) TableRefusal 1 foundNumber foundValues
+  pub chosen : (ancestor first second : RefT (List ℕ)) (id : ℕ) → OneChosen ancestor first second id
   -- `report_text::report`
   pub report : (s before : List ℕ) → OneResult (Reported s before)
   -- `mishtodran_latency`, `mishtodran_misses`, `mishtodran_segment`
   pub latency-entry : (s : List ℕ) (id : ℕ) (before : List ℕ) → Call (LatencyEntry s id before) (AtEntry LatencyRefusal) (λ r. r) before
   pub misses-entry : (s : List ℕ) (id k : ℕ) (before : List ℕ) → Call (MissesEntry s id k before) (AtEntry MissesRefusal) (λ r. r) before
   pub segment-entry : (s : List ℕ) (id against number : ℕ) (before : List ℕ) → Call (SegmentEntry s id against number before) (AtEntry SegmentRefusal) (λ r. r) before
-  -- `mishtodran_save` and `mishtodran_report`, which are lent two buffers to be written
+  -- `mishtodran_conflict`
+  pub conflict-entry : (v : Versions) (above : ℕ) (before : List ℕ) → Call (ConflictEntry v above before) (AtEntry TableRefusal) (λ r. r) before
+  -- `mishtodran_save`, `mishtodran_merge` and `mishtodran_report`, which are lent two buffers to be written
   pub save-entry : (buffer : List ℕ) (used : ℕ) (old new answer : List ℕ)
       → Call {A = List ℕ × List ℕ} (λ after r. SaveEntry buffer used old new answer (after .0) (after .1) r) (AtEntry SaveRefusal) (λ r. r) (buffer, answer)
+  pub merge-entry : (v : Versions) (buffer answer : List ℕ)
+      → Call {A = List ℕ × List ℕ} (λ after r. MergeEntry v buffer answer (after .0) (after .1) r) (AtEntry MergeRefusal) (λ r. r) (buffer, answer)
   pub report-entry : (s text answer : List ℕ)
       → Call {A = List ℕ × List ℕ} (λ after r. ReportEntry s text answer (after .0) (after .1) r) (AtEntry ReportRefusal) (λ r. r) (text, answer)
   -- `mishtodran_check`, which no table refuses

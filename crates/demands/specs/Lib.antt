@@ -7,5 +7,6 @@ pub mod Equation
 pub mod Figures
 pub mod Misses
 pub mod Others
+pub mod Merges
 pub mod Starred
 pub mod Witness

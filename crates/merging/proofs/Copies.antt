@@ -1,12 +1,11 @@
 -- An accepted table as its records: the state of an id is the record that is picked for it, and its ids stand alone. Assumes nothing.
-use Prim.Native.Nat.{ℕ, zero, suc, _+_, _<_, _≤_}
+use Prim.Native.Nat.{ℕ, zero, suc, _+_, _<_}
 use native.Mathlib.Omega.{arith}
 use mathlib.Core.Path.{_≡_, refl, ap, ap₂, sym, subst, _∙_}
-use mathlib.Core.List.{List, [], _∷_, _++_, map}
-use mathlib.Core.Bool.{Bool, true, false, not, _||_}
-use mathlib.Core.Logic.{⊎-elim}
+use mathlib.Core.List.{List, [], _∷_, map}
+use mathlib.Core.Bool.{Bool, true, false, _||_}
 use lib.Dec.{eqb, ltb}
-use lib.ListN.{length, getD, take, drop, length-map}
+use lib.ListN.{length, getD, drop, length-map}
 use native.Mathlib.Numerals.{add-one}
 use lib.Seq.{ext-getD}
 use borrow.Author.Tests.{eqb-true, eqb-false, eq-eqb, ne-eqb, lt-ltb, le-ltb}
@@ -16,7 +15,7 @@ use Rattle.search.specs.Lists.{some, All}
 use Rattle.search.proofs.Lists.{all-map}
 use Rattle.search.proofs.Choice.{when-yes, when-no, true-not-false}
 use Rattle.table.specs.Bytes.{Bytes}
-use Rattle.table.specs.Find.{rowOf, rows, findOf}
+use Rattle.table.specs.Find.{rowOf, findOf}
 use Rattle.table.specs.Read.{accepted, readTable, tableOf}
 use Rattle.table.specs.Place.{placeOf}
 use Rattle.table.specs.declared.Table.{Table}
@@ -30,7 +29,6 @@ use Rattle.slices.proofs.Records.{recordsFrom, length-records, records-at, reco
 use Rattle.merging.specs.Versions.{stateOf, idsOf}
 use Rattle.merging.specs.Rule.{among}
 use Rattle.merging.specs.Merge.{isRecord}
-use Rattle.merging.proofs.Lookup.{state-first, state-missing}
 use Rattle.merging.proofs.Orders.{ids-length, ids-at}
 use Rattle.merging.proofs.Picks.{idIn, pick, Alone, or-none, pick-here, pick-on, pick-none}
 

@@ -1,7 +1,7 @@
 -- Three equal tables give the same bytes. Assumes nothing.
-use Prim.Native.Nat.{ℕ, zero, suc, _+_, _-_, _<_, _≤_}
+use Prim.Native.Nat.{ℕ, _+_, _-_, _<_}
 use native.Mathlib.Omega.{arith}
-use mathlib.Core.Path.{_≡_, refl, ap, ap₂, sym, _∙_}
+use mathlib.Core.Path.{_≡_, refl, ap, sym, _∙_}
 use mathlib.Core.List.{List, [], _∷_, _++_, map, flatten, append-nil}
 use mathlib.Core.Bool.{Bool, true, false, not, _||_}
 use mathlib.Core.Logic.{⊎-elim}
@@ -29,7 +29,7 @@ use Rattle.merging.specs.Rule.{takenOf, among, joined, order}
 use Rattle.merging.specs.Merge.{isRecord, takenRecords, endRecord, resultOf}
 use Rattle.merging.proofs.Rules.{by-alike}
 use Rattle.merging.proofs.Results.{end-length}
-use Rattle.merging.proofs.Picks.{idIn, pick, among-here, pick-all}
+use Rattle.merging.proofs.Picks.{idIn, pick, pick-all}
 use Rattle.merging.proofs.Copies.{recordsIn, in-parts, state-picked, ids-borne, records-alone, all-records}
 use Rattle.merging.proofs.Tables.{bytes-of, end-mark-word, end-count}
 use Rattle.merging.proofs.Promises.{map-alike}

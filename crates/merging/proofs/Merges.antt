@@ -1,15 +1,14 @@
 -- What the merge of three accepted tables takes, id by id, and in which order. Assumes nothing.
-use Prim.Native.Nat.{ℕ, _<_, _≤_}
+use Prim.Native.Nat.{ℕ}
 use native.Mathlib.Omega.{arith}
-use mathlib.Core.Path.{_≡_, refl, ap, ap₂, sym, subst, _∙_}
+use mathlib.Core.Path.{_≡_, refl, ap, ap₂, sym, _∙_}
 use mathlib.Core.List.{List, [], _∷_, _++_, map, List·Permᴰ}
 use mathlib.Core.Bool.{Bool, true, false, not, _||_}
 use lib.Dec.{eqb}
-use lib.ListN.{length}
 use borrow.Author.Tests.{eqb-true, eq-eqb, ltb-true}
 use Rattle.search.specs.Choice.{_when_else_}
 use Rattle.search.specs.Lists.{some, keep, All}
-use Rattle.search.proofs.Choice.{when-yes, when-no, when-cases, true-not-false}
+use Rattle.search.proofs.Choice.{when-yes, when-no, true-not-false}
 use Rattle.table.specs.Bytes.{Bytes}
 use Rattle.table.specs.Read.{readTable}
 use Rattle.table.specs.declared.Verdict.the-variants.{Accepted}
@@ -21,7 +20,7 @@ use Rattle.merging.specs.Merge.{isRecord, takenRecords}
 use Rattle.merging.specs.code.Judged.{AllAccepted}
 use Rattle.merging.proofs.Rules.{by-alike, by-second, by-first, by-neither}
 use Rattle.merging.proofs.Sizes.{by-cases}
-use Rattle.merging.proofs.Picks.{idIn, pick, Alone, or-none, pick-bears, pick-none, alone-keep, among-keep, pick-kept, alone-kept, all-kept, pick-perm}
+use Rattle.merging.proofs.Picks.{idIn, pick, Alone, or-none, pick-bears, pick-none, alone-keep, pick-kept, alone-kept, all-kept, pick-perm}
 use Rattle.merging.proofs.Copies.{recordsIn, state-picked, ids-borne, ids-alone}
 
 -- three accepted tables, of bytes

@@ -1,31 +1,33 @@
 -- What is promised of a merge: its conflicts, the copies swapped, an unchanged copy, three equal tables. Assumes nothing.
-use Prim.Native.Nat.{ℕ, zero, suc, _+_, _<_, _≤_}
+use Prim.Native.Nat.{ℕ, _+_, _<_, _≤_}
 use native.Mathlib.Omega.{arith}
 use mathlib.Core.Path.{_≡_, refl, ap, ap₂, sym, subst, _∙_}
 use mathlib.Core.List.{List, [], _∷_, _++_, map, flatten, append-assoc, map-append, List·Permᴰ, Permᴰ·map}
 use mathlib.Core.Bool.{Bool, true, false, not, _&&_}
 use mathlib.Core.Logic.{_⊎_, ⊎-elim}
 use lib.Dec.{ltb}
-use lib.ListN.{length, drop}
-use borrow.Author.Tests.{ltb-true, lt-ltb}
+use lib.ListN.{length}
+use borrow.Author.Tests.{ltb-true, lt-ltb, eqb-true}
 use Rattle.search.specs.Choice.{_when_else_}
 use Rattle.search.specs.Lists.{keep}
 use Rattle.search.proofs.Choice.{true-not-false, lt-or-le}
 use Rattle.search.proofs.Lists.{perm-sum}
 use Rattle.table.specs.Bytes.{Bytes}
-use Rattle.table.specs.Find.{rows}
+use Rattle.table.specs.Find.{rowOf, rows}
 use Rattle.table.specs.Read.{readTable, tableOf}
 use Rattle.table.specs.declared.Verdict.{Verdict}
 use Rattle.table.specs.declared.Verdict.the-variants.{Accepted, Refused}
 use Rattle.table.proofs.Firsts.{not-accepted}
+use Rattle.table.proofs.Accepted.{taken}
 use Rattle.slices.specs.Slices.{same}
 use Rattle.slices.proofs.Parts.{rowIn, flatten-append}
 use Rattle.slices.proofs.Sameness.{same-true, same-yes, same-no}
 use Rattle.merging.specs.Versions.{Versions, swapped, stateOf, idsOf}
 use Rattle.merging.specs.Rule.{byStates, takenOf, conflictOf, among, order, conflictAbove}
-use Rattle.merging.specs.Merge.{isRecord, takenRecords, endRecord, resultOf}
+use Rattle.merging.specs.Merge.{isRecord, takenRecords, staying, endRecord, resultOf}
 use Rattle.merging.proofs.Leasts.{least-le, least-is}
 use Rattle.merging.proofs.Rules.{by-alike, by-second, by-first, by-neither}
+use Rattle.merging.proofs.Lookup.{state-missing}
 use Rattle.merging.proofs.Picks.{pick-perm}
 use Rattle.merging.proofs.Copies.{recordsIn, state-picked, records-alone, all-records}
 use Rattle.merging.proofs.Merges.{Edited, conflict-swapped, taken-swapped, unlisted-alike, taken-picked, taken-alone, taken-records, edited-swapped, swapped-perm}
@@ -40,10 +42,10 @@ pub record Differ (was first second : List ℕ) : Type 0 where
   pub of-second : second ≡ was → ⊥
 
 module _ (was first second : List ℕ) where
-  differ-conflict : Differ was first second → byStates was first second false false true ≡ true
+  pub differ-conflict : Differ was first second → byStates was first second false false true ≡ true
   differ-conflict d = by-neither was first second _ _ _ (same-no _ _ (d .copies)) (same-no _ _ (d .of-first)) (same-no _ _ (d .of-second))
 
-  conflict-differ : byStates was first second false false true ≡ true → Differ was first second
+  pub conflict-differ : byStates was first second false false true ≡ true → Differ was first second
   conflict-differ e = record {
     copies = λ f. true-not-false e (by-alike was first second _ _ _ (same-yes _ _ f));
     of-first = λ f. not-first f (same first second) refl;
@@ -139,10 +141,6 @@ pub map-alike : {A B : Type 0} (f g : A → B) → ((a : A) → f a ≡ g a) →
 map-alike f g h [] = refl
 map-alike f g h (a ∷ l) = ap₂ _∷_ (h a) (map-alike f g h l)
 
--- the ancestor's records that stay, one after the other
-abbrev pub staying : Versions → List ℕ
-staying v = flatten (keep isRecord (map (takenOf v) (idsOf (v .ancestor))))
-
 pub staying-first : (v : Versions) → (rest : List ℕ) × (resultOf v ≡ staying v ++ rest)
 unfolding resultOf takenRecords order
 staying-first v =
@@ -199,3 +197,11 @@ pub no-conflict : (v : Versions) → Edited v → ((id : ℕ) → conflictOf v i
 no-conflict v e none above = ⊎-elim
     (λ h. absurd (true-not-false (found-conflict v e above h .1) (none (conflictAbove v above))))
     (λ h. omega (arith, h)) (lt-or-le 0 (conflictAbove v above))
+
+-- no table has the id 0
+pub zero-alike : (v : Versions) → Edited v → conflictOf v 0 ≡ false
+zero-alike v e =
+    let none : (s : List ℕ) → Bytes s → readTable s .verdict ≡ Accepted → stateOf s 0 ≡ [] = λ s bytes verdict.
+    state-missing s 0 (λ j h f. omega (arith, taken s bytes verdict .good .row j h .id, eqb-true (rowOf (tableOf s) j .id) 0 f)) in
+    by-alike (stateOf (v .ancestor) 0) (stateOf (v .first) 0) (stateOf (v .second) 0) _ _ _
+    (same-yes _ _ (none (v .first) (e .of-first) (e .all .first) ∙ sym (none (v .second) (e .of-second) (e .all .second))))

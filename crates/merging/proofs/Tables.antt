@@ -1,5 +1,5 @@
 -- The result as a table: its records, its bytes, the state of each id, and why it can be refused. Assumes nothing.
-use Prim.Native.Nat.{ℕ, zero, suc, _+_, _%_, _/_, _<_, _≤_}
+use Prim.Native.Nat.{ℕ, zero, suc, _+_, _/_, _<_, _≤_}
 use native.Mathlib.Omega.{arith}
 use mathlib.Core.Path.{_≡_, refl, ap, sym, subst, _∙_}
 use mathlib.Core.List.{List, [], _∷_, _++_, map, flatten, append-nil, List·Permᴰ}

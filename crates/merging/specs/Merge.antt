@@ -10,7 +10,7 @@ use Rattle.search.specs.Choice.{_when_else_, byNumber}
 use Rattle.search.specs.Lists.{keep}
 use Rattle.table.specs.Bytes.{bytesOf}
 use Rattle.table.specs.Read.{unless, readTable}
-use Rattle.merging.specs.Versions.{Versions, three, byVersions, startOf}
+use Rattle.merging.specs.Versions.{Versions, three, byVersions, startOf, idsOf}
 use Rattle.merging.specs.Rule.{byRule, takenOf, order, conflictAbove}
 use Rattle.merging.specs.declared.Merged.{Merged}
 use Rattle.merging.specs.declared.Merged.the-variants.{Used, Ancestor, First, Second, Conflict, NoRoom, Result}
@@ -46,6 +46,10 @@ isRecord state = ltb 0 (length state)
 -- the records taken, in the order of the result
 unfoldable pub takenRecords : Versions → List (List ℕ)
 takenRecords v = keep isRecord (map (takenOf v) (order v))
+
+-- those of them that the ancestor has too, one after the other: they stand first
+abbrev pub staying : Versions → List ℕ
+staying v = flatten (keep isRecord (map (takenOf v) (idsOf (v .ancestor))))
 
 -- the end record: its mark `EN`, and the number of chains
 abbrev pub endRecord : ℕ → List ℕ

@@ -1,0 +1,182 @@
+-- What is promised of a merge, in the demands' words. Assumes nothing.
+use Prim.Native.Nat.{ℕ, _<_, _≤_}
+use native.Mathlib.Omega.{arith}
+use mathlib.Core.Path.{_≡_, refl, ap, sym, subst, _∙_}
+use mathlib.Core.List.{List, [], _++_}
+use mathlib.Core.Bool.{true, false}
+use mathlib.Core.Logic.{_⊎_, inl, inr, ⊎-elim}
+use lib.ListN.{length}
+use Rattle.search.proofs.Choice.{true-not-false, lt-or-le}
+use Rattle.slices.proofs.Sound.{TooMuch}
+use Rattle.merging.specs.Versions.{Versions, three, swapped, stateOf}
+use Rattle.merging.specs.Rule.{takenOf, conflictOf, conflictAbove}
+use Rattle.merging.specs.Merge.{resultOf, mergedOf, foundOf, chosenOf}
+use Rattle.merging.specs.declared.Merged.the-variants.{Used}
+use Rattle.merging.specs.declared.Found.{Found}
+use Rattle.merging.specs.declared.Found.the-variants.{Id, Refused}
+use Rattle.merging.specs.code.Judged.{AllAccepted}
+use Rattle.slices.proofs.Sameness.{same-yes}
+use Rattle.merging.proofs.Judgements.{asked}
+use Rattle.merging.proofs.Rules.{by-alike}
+use Rattle.merging.proofs.Outcomes.{used-says, conflict-says, room-says, result-says, used-given, conflict-given, room-given, result-given}
+use Rattle.merging.proofs.Merges.{taken-swapped}
+use Rattle.merging.proofs.Merges as laws
+use Rattle.merging.proofs.Tables.{refused-for, result-bytes, result-state}
+use Rattle.merging.proofs.Promises.{differ-conflict, conflict-differ, found-conflict, found-least, swapped-conflicts, swapped-length, swapped-accepted, swapped-rows, swapped-refused, staying-first, staying-swapped, given-accepted, given-length, first-unchanged, second-unchanged, none-differ, no-conflict, zero-alike}
+use Rattle.merging.proofs.Equals.{equal-result}
+use Rattle.demands.specs.Chains.{IsTable}
+use Rattle.demands.specs.Merges.{Edited, InConflict, Smallest, MergedInto, NoEditLost, SwappedCopies, UnchangedCopies, MergeOfCopies}
+use Rattle.demands.proofs.Others.{reordered}
+
+module _ {v : Versions} (e : Edited v) where
+  all : AllAccepted v
+  all = record { ancestor = e .ancestor .accepted; first = e .first .accepted; second = e .second .accepted }
+
+  known : laws.Edited v
+  known = record { all = all; of-ancestor = e .ancestor .bytes; of-first = e .first .bytes; of-second = e .second .bytes }
+
+  -- in conflict by the rule, and in the demands' words
+  in-conflict : (id : ℕ) → conflictOf v id ≡ true → InConflict v id
+  in-conflict id h = let d = conflict-differ (stateOf (v .ancestor) id) (stateOf (v .first) id) (stateOf (v .second) id) h in
+      record { copies = d .copies; in-first = d .of-first; in-second = d .of-second }
+
+  by-rule : (id : ℕ) → InConflict v id → conflictOf v id ≡ true
+  by-rule id d =
+      differ-conflict (stateOf (v .ancestor) id) (stateOf (v .first) id) (stateOf (v .second) id) (record { copies = d .copies; of-first = d .in-first; of-second = d .in-second })
+
+  not-zero : (id : ℕ) → InConflict v id → 0 < id
+  not-zero id d = ⊎-elim (λ h. h)
+      (λ h. let z : id ≡ 0 = omega arith in absurd (true-not-false (by-rule id d) (ap (conflictOf v) z ∙ zero-alike v known)))
+      (lt-or-le 0 id)
+
+  -- what is found above a number
+  smallest : (above id : ℕ) → conflictAbove v above ≡ id → 0 < id → Smallest v above id
+  smallest above id c h =
+      let f = found-conflict v known above (omega (arith, c, h)) in
+      record {
+        greater = omega (arith, c, f .0);
+        conflict = in-conflict id (subst (λ n. conflictOf v n ≡ true) c (f .1));
+        least = λ other g d. omega (arith, c, found-least v known above other g (by-rule other d) .1);
+      }
+
+  is-found : (above id : ℕ) → Smallest v above id → conflictAbove v above ≡ id
+  is-found above id s =
+      let f = found-least v known above id (s .greater) (by-rule id (s .conflict)) in
+      let g = found-conflict v known above (f .0) in
+      omega (arith, f .1, s .least (conflictAbove v above) (g .0) (in-conflict (conflictAbove v above) (g .1)))
+
+  answer : (above : ℕ) → foundOf v above ≡ Id (conflictAbove v above)
+  unfolding foundOf
+  answer above = asked v Refused (Id (conflictAbove v above)) all
+
+-- an id that is answered is the one found
+value : Found → ℕ
+value (Id id) = id
+value (Refused n) = n
+
+answered : {v : Versions} (e : Edited v) (above id : ℕ) → foundOf v above ≡ Id id → conflictAbove v above ≡ id
+unfolding value
+answered e above id h = ap value (sym (answer e above) ∙ h)
+
+-- the state that is taken, in an accepted result
+result-taken : {v : Versions} {room n : ℕ} → MergedInto room v n → (id : ℕ) → stateOf (resultOf v) id ≡ takenOf v id
+result-taken {v} {room} m id = result-state v (known (m .edited)) (used-says room v (all (m .edited)) (m .answered) .2) id
+
+pub edit-kept : NoEditLost
+unfolding chosenOf
+edit-kept = record {
+  table = λ {v} {room} m. let u = used-says room v (all (m .edited)) (m .answered) in
+      (record { bytes = result-bytes v (known (m .edited)); accepted = u .2 }, u .3, omega (arith, u .1, u .3));
+  alike = λ {v} m id h. result-taken m id ∙ by-alike (stateOf (v .ancestor) id) (stateOf (v .first) id) (stateOf (v .second) id) _ _ _ (same-yes _ _ h);
+  first-changed = λ {v} m id h. result-taken m id ∙ second-unchanged (stateOf (v .ancestor) id) (stateOf (v .first) id) (stateOf (v .second) id) h;
+  second-changed = λ {v} m id h. result-taken m id ∙ first-unchanged (stateOf (v .ancestor) id) (stateOf (v .first) id) (stateOf (v .second) id) h;
+  no-conflict = λ {v} {room} m id d. let u = used-says room v (all (m .edited)) (m .answered) in
+      omega (arith, u .0, found-least v (known (m .edited)) 0 id (not-zero (m .edited) id d) (by-rule (m .edited) id d) .0);
+  chosen = λ {v} m id. asked v (λ n. []) (takenOf v id) (all (m .edited)) ∙ sym (result-taken m id);
+  conflict = λ {v} e room id. (
+    λ h. let c = conflict-says room v (all e) h in
+        let s = smallest e 0 id (c .0) (c .1) in
+        (s .conflict, λ other d. s .least other (not-zero e other d) d),
+    λ d. let s : Smallest v 0 id = record { greater = not-zero e id (d .0); conflict = d .0; least = λ other g h. d .1 other h } in
+        conflict-given room v (all e) id (is-found e 0 id s) (s .greater),
+  );
+  found = λ {v} e above id. (
+    λ h. smallest e above id (answered e above id (h .0)) (h .1),
+    λ s. (answer e above ∙ ap Id (is-found e above id s), omega (arith, s .greater)),
+  );
+  none = λ {v} e above. (
+    λ h id g d. omega (arith, answered e above 0 h, found-least v (known e) above id g (by-rule e id d) .0),
+    λ h. answer e above ∙ ap Id (⊎-elim
+        (λ l. let f = found-conflict v (known e) above l in absurd (h (conflictAbove v above) (f .0) (in-conflict e (conflictAbove v above) (f .1))))
+        (λ l. omega (arith, l)) (lt-or-le 0 (conflictAbove v above))),
+  );
+  numbers = λ {v} e room h. number (refused-for v (known e) (result-says room v (all e) h .2));
+}
+  where
+    number : {rs : List (List ℕ)} {n : ℕ} → TooMuch rs n → (n ≡ 1) ⊎ (n ≡ 9) ⊎ (n ≡ 11)
+    number (TooMuch.bytes f h) = inl f
+    number (TooMuch.tasks f h) = inr (inl f)
+    number (TooMuch.chains f h) = inr (inr f)
+    number (TooMuch.none f h) = inr (inr f)
+
+-- the copies swapped
+turned : {v : Versions} → Edited v → Edited (swapped v)
+turned e = record { ancestor = e .ancestor; first = e .second; second = e .first }
+
+pub copies-swapped : SwappedCopies
+copies-swapped = record {
+  conflicts = λ {v} e above. answer (turned e) above ∙ ap Id (swapped-conflicts v (known e) above) ∙ sym (answer e above);
+  long = λ {v} e. swapped-length v (known e);
+  conflict = λ {v} e room {id} h. let c = conflict-says room v (all e) h in conflict-given room (swapped v) (all (turned e)) id (swapped-conflicts v (known e) 0 ∙ c .0) (c .1);
+  no-room = λ {v} e room h. let c = room-says room v (all e) h in
+      room-given room (swapped v) (all (turned e)) (swapped-conflicts v (known e) 0 ∙ c .0) (omega (arith, c .1, swapped-length v (known e)));
+  refused = λ {v} e room h. let c = result-says room v (all e) h in
+      let r = swapped-refused v (known e) (c .2) in
+      (r .0, r .1, result-given room (swapped v) (all (turned e)) (swapped-conflicts v (known e) 0 ∙ c .0) (omega (arith, c .1, swapped-length v (known e))) (r .2));
+  accepted = λ {v} {room} m. merged v room m;
+  states = λ {v} {room} m id. let u = used-says room v (all (m .edited)) (m .answered) in
+      result-state (swapped v) (known (turned (m .edited))) (swapped-accepted v (known (m .edited)) (u .2)) id ∙ taken-swapped v id ∙ sym (result-taken m id);
+  places = λ v. let one = staying-first v in
+      let two = staying-first (swapped v) in
+      (one .0, two .0, one .1, two .1 ∙ ap (λ (l : List ℕ). l ++ two .0) (staying-swapped v));
+  figures = λ {v} {room} m. let u = used-says room v (all (m .edited)) (m .answered) in
+      reordered (record {
+        one = record { bytes = result-bytes v (known (m .edited)); accepted = u .2 };
+        two = record { bytes = result-bytes (swapped v) (known (turned (m .edited))); accepted = swapped-accepted v (known (m .edited)) (u .2) };
+        rows = swapped-rows v (known (m .edited)) (u .2);
+      });
+}
+  where
+    merged : (v : Versions) (room : ℕ) {n : ℕ} → MergedInto room v n → mergedOf room (swapped v) ≡ Used n
+    merged v room m = let u = used-says room v (all (m .edited)) (m .answered) in
+        used-given room (swapped v) (all (turned (m .edited))) (swapped-conflicts v (known (m .edited)) 0 ∙ u .0) (omega (arith, u .1, swapped-length v (known (m .edited)))) (swapped-accepted v (known (m .edited)) (u .2))
+        ∙ ap Used (swapped-length v (known (m .edited)) ∙ sym (u .3))
+
+-- an unchanged copy
+module _ {v : Versions} (e : Edited v) {s : List ℕ} (t : IsTable s) (gives : (id : ℕ) → takenOf v id ≡ stateOf s id) (none : (id : ℕ) → conflictOf v id ≡ false) {room : ℕ} (h : length s ≤ room) where
+  copy-given : (mergedOf room v ≡ Used (length s)) × ((id : ℕ) → stateOf (resultOf v) id ≡ stateOf s id)
+  copy-given =
+      let read = given-accepted v (known e) s (t .bytes) (t .accepted) gives in
+      let long = given-length v (known e) s (t .bytes) (t .accepted) gives in (
+        used-given room v (all e) (no-conflict v (known e) none 0) (omega (arith, long, h)) read ∙ ap Used long,
+        λ id. result-state v (known e) read id ∙ gives id,
+      )
+
+pub copy-unchanged : UnchangedCopies
+copy-unchanged = record {
+  first = λ {v} e same h. copy-given e (e .second)
+      (λ id. first-unchanged (stateOf (v .ancestor) id) (stateOf (v .first) id) (stateOf (v .second) id) (ap (λ (s : List ℕ). stateOf s id) same))
+      (λ id. none-differ (stateOf (v .ancestor) id) (stateOf (v .first) id) (stateOf (v .second) id) (inl (ap (λ (s : List ℕ). stateOf s id) same))) h;
+  second = λ {v} e same h. copy-given e (e .first)
+      (λ id. second-unchanged (stateOf (v .ancestor) id) (stateOf (v .first) id) (stateOf (v .second) id) (ap (λ (s : List ℕ). stateOf s id) same))
+      (λ id. none-differ (stateOf (v .ancestor) id) (stateOf (v .first) id) (stateOf (v .second) id) (inr (ap (λ (s : List ℕ). stateOf s id) same))) h;
+  both = λ {s} t h. (
+    copy-given {v = three s s s} (record { ancestor = t; first = t; second = t }) t
+        (λ id. first-unchanged (stateOf s id) (stateOf s id) (stateOf s id) refl)
+        (λ id. none-differ (stateOf s id) (stateOf s id) (stateOf s id) (inl refl)) h .0,
+    equal-result s (t .bytes) (t .accepted),
+  );
+}
+
+pub merge-of-copies : MergeOfCopies
+merge-of-copies = record { lost = edit-kept; swapped-copies = copies-swapped; unchanged = copy-unchanged }

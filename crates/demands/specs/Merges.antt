@@ -1,0 +1,89 @@
+-- Merging two edited copies of a table, given their common ancestor (02, request 4): no edit is lost, the copies can be swapped, and an
+-- unchanged copy gives the other.
+use Prim.Native.Nat.{ℕ, _<_, _≤_}
+use mathlib.Core.Path.{_≡_}
+use mathlib.Core.List.{List, _++_}
+use mathlib.Core.Logic.{_⊎_}
+use lib.ListN.{length}
+use Rattle.merging.specs.Versions.{Versions, three, swapped, stateOf}
+use Rattle.merging.specs.Merge.{staying, resultOf, mergedOf, foundOf, chosenOf}
+use Rattle.merging.specs.declared.Merged.the-variants.{Used, Conflict, NoRoom, Result}
+use Rattle.merging.specs.declared.Found.the-variants.{Id}
+use Rattle.demands.specs.Chains.{IsTable}
+use Rattle.demands.specs.Figures.{Exactly}
+use Rattle.demands.specs.Others.{Unmoved}
+
+-- three accepted tables
+pub record Edited (v : Versions) : Type 0 where
+  pub ancestor : IsTable (v .ancestor)
+  pub first : IsTable (v .first)
+  pub second : IsTable (v .second)
+
+-- an id is changed differently on both sides: no two of its three states are the same. A state is the record's bytes, none where it is
+-- missing
+pub record InConflict (v : Versions) (id : ℕ) : Type 0 where
+  pub copies : stateOf (v .first) id ≡ stateOf (v .second) id → ⊥
+  pub in-first : stateOf (v .first) id ≡ stateOf (v .ancestor) id → ⊥
+  pub in-second : stateOf (v .second) id ≡ stateOf (v .ancestor) id → ⊥
+
+-- the smallest id greater than some number that is
+pub record Smallest (v : Versions) (above id : ℕ) : Type 0 where
+  pub greater : above < id
+  pub conflict : InConflict v id
+  pub least : (other : ℕ) → above < other → InConflict v other → id ≤ other
+
+-- they are merged into a buffer with so much room: n bytes
+pub record MergedInto (room : ℕ) (v : Versions) (n : ℕ) : Type 0 where
+  pub edited : Edited v
+  pub answered : mergedOf room v ≡ Used n
+
+pub record NoEditLost : Type 0 where
+  -- the result of an accepted merge is an accepted table, as long as is answered, which fits
+  pub table : {v : Versions} {room n : ℕ} → MergedInto room v n → IsTable (resultOf v) × (n ≡ length (resultOf v)) × (n ≤ room)
+  -- per id: both copies in the same state, that one
+  pub alike : {v : Versions} {room n : ℕ} → MergedInto room v n → (id : ℕ) → stateOf (v .first) id ≡ stateOf (v .second) id → stateOf (resultOf v) id ≡ stateOf (v .first) id
+  -- what one side changed and the other did not stands in the result, byte for byte; so does what one side removed or added
+  pub first-changed : {v : Versions} {room n : ℕ} → MergedInto room v n → (id : ℕ) → stateOf (v .second) id ≡ stateOf (v .ancestor) id → stateOf (resultOf v) id ≡ stateOf (v .first) id
+  pub second-changed : {v : Versions} {room n : ℕ} → MergedInto room v n → (id : ℕ) → stateOf (v .first) id ≡ stateOf (v .ancestor) id → stateOf (resultOf v) id ≡ stateOf (v .second) id
+  -- there is no fourth case
+  pub no-conflict : {v : Versions} {room n : ℕ} → MergedInto room v n → (id : ℕ) → InConflict v id → ⊥
+  -- and the record taken for an id is the one that is handed back
+  pub chosen : {v : Versions} {room n : ℕ} → MergedInto room v n → (id : ℕ) → chosenOf v id ≡ stateOf (resultOf v) id
+  -- 32 is given exactly when some id is changed differently on both sides, with the smallest
+  pub conflict : {v : Versions} → Edited v → (room id : ℕ) → Exactly (mergedOf room v ≡ Conflict id) (InConflict v id × ((other : ℕ) → InConflict v other → id ≤ other))
+  -- asked for the conflicts above a number, the smallest of them is answered, and 0 exactly where there is none
+  pub found : {v : Versions} → Edited v → (above id : ℕ) → Exactly ((foundOf v above ≡ Id id) × (0 < id)) (Smallest v above id)
+  pub none : {v : Versions} → Edited v → (above : ℕ) → Exactly (foundOf v above ≡ Id 0) ((id : ℕ) → above < id → InConflict v id → ⊥)
+  -- of a table's numbers a result can only meet 1, 9 and 11
+  pub numbers : {v : Versions} → Edited v → (room : ℕ) {n place : ℕ} → mergedOf room v ≡ Result n place → (n ≡ 1) ⊎ (n ≡ 9) ⊎ (n ≡ 11)
+
+pub record SwappedCopies : Type 0 where
+  -- the same conflicts, and the same length
+  pub conflicts : {v : Versions} → Edited v → (above : ℕ) → foundOf (swapped v) above ≡ foundOf v above
+  pub long : {v : Versions} → Edited v → length (resultOf (swapped v)) ≡ length (resultOf v)
+  -- refused one way, refused the other: 32 and 24 alike, a result perhaps with another number
+  pub conflict : {v : Versions} → Edited v → (room : ℕ) {id : ℕ} → mergedOf room v ≡ Conflict id → mergedOf room (swapped v) ≡ Conflict id
+  pub no-room : {v : Versions} → Edited v → (room : ℕ) → mergedOf room v ≡ NoRoom → mergedOf room (swapped v) ≡ NoRoom
+  pub refused : {v : Versions} → Edited v → (room : ℕ) {n place : ℕ} → mergedOf room v ≡ Result n place → (m : ℕ) × (at : ℕ) × (mergedOf room (swapped v) ≡ Result m at)
+  -- else accepted alike, with the same records
+  pub accepted : {v : Versions} {room n : ℕ} → MergedInto room v n → mergedOf room (swapped v) ≡ Used n
+  pub states : {v : Versions} {room n : ℕ} → MergedInto room v n → (id : ℕ) → stateOf (resultOf (swapped v)) id ≡ stateOf (resultOf v) id
+  -- those of the ancestor in the same order and places: both results begin with them
+  pub places : (v : Versions) → (rest : List ℕ) × (other : List ℕ) × (resultOf v ≡ staying v ++ rest) × (resultOf (swapped v) ≡ staying v ++ other)
+  -- so every id has the same latency and misses in both
+  pub figures : {v : Versions} {room n : ℕ} → MergedInto room v n → (id : ℕ) → Unmoved (resultOf v) (resultOf (swapped v)) id
+
+pub record UnchangedCopies : Type 0 where
+  -- merging with an unchanged copy gives the other copy's records, all of them and no other, wherever that copy has room
+  pub first : {v : Versions} → Edited v → v .first ≡ v .ancestor → {room : ℕ} → length (v .second) ≤ room
+      → (mergedOf room v ≡ Used (length (v .second))) × ((id : ℕ) → stateOf (resultOf v) id ≡ stateOf (v .second) id)
+  pub second : {v : Versions} → Edited v → v .second ≡ v .ancestor → {room : ℕ} → length (v .first) ≤ room
+      → (mergedOf room v ≡ Used (length (v .first))) × ((id : ℕ) → stateOf (resultOf v) id ≡ stateOf (v .first) id)
+  -- three equal tables give the same bytes
+  pub both : {s : List ℕ} → IsTable s → {room : ℕ} → length s ≤ room → (mergedOf room (three s s s) ≡ Used (length s)) × (resultOf (three s s s) ≡ s)
+
+-- all of it
+pub record MergeOfCopies : Type 0 where
+  pub lost : NoEditLost
+  pub swapped-copies : SwappedCopies
+  pub unchanged : UnchangedCopies
