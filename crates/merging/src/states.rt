@@ -58,7 +58,8 @@ pub fn taken<'a>(ancestor: &[u8], first: &'a [u8], second: &'a [u8], id: u32) ->
         return in_second;
     }
     if same(in_second, was) {
-        return in_first;
+        in_first
+    } else {
+        &first[..0]
     }
-    &first[..0]
 }

@@ -59,6 +59,9 @@ returns-2 c = let a = c .before .before .before .before .before .before .before 
 same-requires-3 : tie.Need-same-requires-3
 same-requires-3 c κs = search needs
 
+slice-aggregate-result : tie.Need-slice-aggregate-result
+slice-aggregate-result c = search needs
+
 returns-3 : tie.Need-returns-3
 returns-3 c = let a = c .before .before .before .before .before .before .before .before .before .before .before .before .args in
     let was = stateOf (now (a .ancestor)) (a .id) in
@@ -71,9 +74,6 @@ returns-3 c = let a = c .before .before .before .before .before .before .before 
       bytes = c .before .before .before .before .before .before .before .before .state .ensures .bytes ∙ sym (by-first was in-first in-second _ _ _ differ changed is);
       place = c .before .before .before .before .before .before .before .before .state .ensures .place ∙ sym (by-first was in-first in-second _ _ _ differ changed is);
     }
-
-slice-aggregate-result : tie.Need-slice-aggregate-result
-slice-aggregate-result c = search needs
 
 returns-4 : tie.Need-returns-4
 returns-4 c = let a = c .before .before .before .before .before .before .before .before .before .before .before .before .before .args in
@@ -100,6 +100,6 @@ taken-spec =
     same-requires-2
     returns-2
     same-requires-3
-    returns-3
     slice-aggregate-result
+    returns-3
     returns-4)
