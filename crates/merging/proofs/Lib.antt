@@ -13,3 +13,4 @@ pub mod Outcomes
 pub mod Tables
 pub mod Promises
 pub mod Equals
+pub mod Within

@@ -4,7 +4,7 @@ use mathlib.Core.Path.{sym}
 use lib.ListN.{length}
 use lib.Seq.{length-take-le}
 use borrow.Author.Needs.{needs}
-use Rattle.table_merge.proofs.Within.{used-within}
+use Rattle.merging.proofs.Within.{used-within}
 use Rattle.table_merge.proofs.put_merged.Statement.{statement}
 use Rattle.table_merge.proofs.put_merged.Tie as tie
 
