@@ -15,7 +15,7 @@
  * Stack: a call takes less than MISHTODRAN_STACK_BYTES. This is measured, not proved.
  *
  * Duration: every call ends; how soon is measured, not proved. On an x86-64 machine of 2 GHz, a check, a segment or a
- * save takes about a microsecond at most, and any call on an ordinary table less than a millisecond. The slowest tables
+ * save takes about a microsecond at most, a merge some, and any call on an ordinary table less than a millisecond. The slowest tables
  * that we know have full lists whose last distance is 1, before windows of almost 10,000,000 ticks: there a latency or
  * misses take 3 seconds, and a report 50. An editor that must not stand still makes these calls in a thread of its own.
  */
