@@ -23,6 +23,7 @@ use Rattle.table.specs.declared.Verdict.{Verdict}
 use Rattle.table.specs.declared.Verdict.the-variants.{Accepted}
 use Rattle.table.specs.code.Taken.{Taken}
 use Rattle.table.proofs.Accepted.{taken}
+use Rattle.table.proofs.Firsts.{none-or}
 use Rattle.slices.specs.Stored.{recordOf}
 use Rattle.slices.proofs.Parts.{Parts, map-at}
 use Rattle.slices.proofs.Records.{recordsFrom, length-records, records-at, record-id, parts-of}
@@ -30,7 +31,7 @@ use Rattle.merging.specs.Versions.{stateOf, idsOf}
 use Rattle.merging.specs.Rule.{among}
 use Rattle.merging.specs.Merge.{isRecord}
 use Rattle.merging.proofs.Orders.{ids-length, ids-at}
-use Rattle.merging.proofs.Picks.{idIn, pick, Alone, or-none, pick-here, pick-on, pick-none}
+use Rattle.merging.proofs.Picks.{idIn, pick, Alone, pick-here, pick-on, pick-none}
 
 -- numbers that differ at any two places stand alone
 fresh : (n : ℕ) (l : List ℕ) → ((j : ℕ) → j < length l → getD l j 0 ≡ n → ⊥) → among l n ≡ false
@@ -41,8 +42,8 @@ fresh n (m ∷ l) g = ap₂ _||_ (ne-eqb m n (g 0 (omega arith))) (fresh n l (λ
 there : (l : List ℕ) {n : ℕ} (j : ℕ) → j < length l → getD l j 0 ≡ n → among l n ≡ false → ⊥
 unfolding some
 there [] j h e f = absurd (omega arith)
-there (m ∷ l) {n} zero h e f = true-not-false (eq-eqb m n e) (or-none (eqb m n) (among l n) f .0)
-there (m ∷ l) {n} (suc j) h e f = there l j (omega arith) e (or-none (eqb m n) (among l n) f .1)
+there (m ∷ l) {n} zero h e f = true-not-false (eq-eqb m n e) (none-or (eqb m n) (among l n) f .0)
+there (m ∷ l) {n} (suc j) h e f = there l j (omega arith) e (none-or (eqb m n) (among l n) f .1)
 
 pub alone-at : (l : List ℕ) → ((i j : ℕ) → i < length l → j < length l → getD l i 0 ≡ getD l j 0 → i ≡ j) → Alone l
 unfolding Alone

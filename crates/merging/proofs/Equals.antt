@@ -19,6 +19,7 @@ use Rattle.table.specs.Read.{readTable, tableOf}
 use Rattle.table.specs.declared.Mark.{Mark}
 use Rattle.table.specs.declared.Mark.the-variants.{Chain, Task, End, Unknown}
 use Rattle.table.specs.declared.Verdict.the-variants.{Accepted}
+use Rattle.table.proofs.Firsts.{or-right}
 use Rattle.table.proofs.Words.{word-same}
 use Rattle.table.proofs.Accepted.{taken}
 use Rattle.slices.proofs.Bytes.{bytes-append}
@@ -39,11 +40,7 @@ none-new : (k l : List ℕ) → ((n : ℕ) → among k n ≡ true → among l n 
 unfolding keep some
 none-new [] l h = refl
 none-new (n ∷ k) l h =
-    when-no _ _ (ap not (h n (ap (λ (t : Bool). t || among k n) (eq-eqb n n refl)))) ∙ none-new k l (λ m e. h m (or-later (eqb n m) e))
-  where
-    or-later : (a : Bool) {b : Bool} → b ≡ true → (a || b) ≡ true
-    or-later true e = refl
-    or-later false e = e
+    when-no _ _ (ap not (h n (ap (λ (t : Bool). t || among k n) (eq-eqb n n refl)))) ∙ none-new k l (λ m e. h m (or-right (eqb n m) (among k m) e))
 
 joined-same : (l : List ℕ) → joined l l ≡ l
 joined-same l = ap (λ (r : List ℕ). l ++ r) (none-new l l (λ n e. e)) ∙ append-nil l

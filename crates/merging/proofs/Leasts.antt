@@ -10,6 +10,7 @@ use borrow.Author.Tests.{ne-eqb, eqb-true, eq-eqb}
 use Rattle.search.specs.Choice.{_when_else_}
 use Rattle.search.specs.Lists.{some}
 use Rattle.search.proofs.Choice.{when-yes, when-no, true-not-false}
+use Rattle.table.proofs.Firsts.{or-right, or-cases}
 use Rattle.merging.specs.Rule.{among, lesser, least}
 
 pub lesser-left : (n : ℕ) → lesser 0 n ≡ n
@@ -52,11 +53,6 @@ lesser-one (suc n) (suc m) = let e = lesser-both (suc n) (suc m) (omega arith) (
     le-or-le (suc a) zero = inr (omega arith)
     le-or-le (suc a) (suc b) = ⊎-elim (λ h. inl (omega arith)) (λ h. inr (omega arith)) (le-or-le a b)
 
--- membership
-or-true : (a b : Bool) → (a || b) ≡ true → (a ≡ true) ⊎ (b ≡ true)
-or-true true b e = inl refl
-or-true false b e = inr e
-
 module _ (p : ℕ → Bool) where
   -- nothing that passes is smaller
   pub least-le : (l : List ℕ) (n : ℕ) → among l n ≡ true → p n ≡ true → 0 < n → (0 < least p l) × (least p l ≤ n)
@@ -71,7 +67,7 @@ module _ (p : ℕ → Bool) where
       (λ later. let f = least-le l n later e z in
       let g = lesser-le (m when p m else 0) (least p l) .1 (f .0) in
       (g .0, omega (arith, g .1, f .1)))
-      (or-true (eqb m n) (among l n) h)
+      (or-cases (eqb m n) (among l n) h)
 
   -- and it is one of them, and passes
   IsOne : List ℕ → ℕ → Type 0
@@ -79,11 +75,7 @@ module _ (p : ℕ → Bool) where
 
   one-more : (m : ℕ) (l : List ℕ) (n : ℕ) → IsOne l n → IsOne (m ∷ l) n
   unfolding some IsOne
-  one-more m l n h = (or-later (eqb m n) (h .0), h .1)
-    where
-      or-later : (a : Bool) {b : Bool} → b ≡ true → (a || b) ≡ true
-      or-later true e = refl
-      or-later false e = e
+  one-more m l n h = (or-right (eqb m n) (among l n) (h .0), h .1)
 
   here : (m : ℕ) (l : List ℕ) → p m ≡ true → IsOne (m ∷ l) m
   unfolding some IsOne

@@ -12,6 +12,7 @@ use Rattle.search.proofs.Choice.{when-yes, when-no, true-not-false}
 use Rattle.table.specs.Bytes.{Bytes}
 use Rattle.table.specs.Read.{readTable}
 use Rattle.table.specs.declared.Verdict.the-variants.{Accepted}
+use Rattle.table.proofs.Firsts.{none-or, or-right}
 use Rattle.slices.specs.Slices.{same}
 use Rattle.slices.proofs.Sameness.{same-true, same-yes, same-no}
 use Rattle.merging.specs.Versions.{Versions, swapped, stateOf, idsOf}
@@ -20,7 +21,7 @@ use Rattle.merging.specs.Merge.{isRecord, takenRecords}
 use Rattle.merging.specs.code.Judged.{AllAccepted}
 use Rattle.merging.proofs.Rules.{by-alike, by-second, by-first, by-neither}
 use Rattle.merging.proofs.Sizes.{by-cases}
-use Rattle.merging.proofs.Picks.{idIn, pick, Alone, or-none, pick-bears, pick-none, alone-keep, pick-kept, alone-kept, all-kept, pick-perm}
+use Rattle.merging.proofs.Picks.{idIn, pick, Alone, pick-bears, pick-none, alone-keep, pick-kept, alone-kept, all-kept, pick-perm}
 use Rattle.merging.proofs.Copies.{recordsIn, state-picked, ids-borne, ids-alone}
 
 -- three accepted tables, of bytes
@@ -115,12 +116,8 @@ module _ (l r : List ℕ) where
   alone-append [] a b h = b
   alone-append (n ∷ k) a b h = (
     among-append k l n ∙ ap₂ _||_ (a .0) (h n (ap (λ (t : Bool). t || among k n) (eq-eqb n n refl))),
-    alone-append k (a .1) b (λ m e. h m (or-later (eqb n m) e)),
+    alone-append k (a .1) b (λ m e. h m (or-right (eqb n m) (among k m) e)),
   )
-    where
-      or-later : (a : Bool) {b : Bool} → b ≡ true → (a || b) ≡ true
-      or-later true e = refl
-      or-later false e = e
 
 alone-joined : (l r : List ℕ) → Alone l → Alone r → Alone (joined l r)
 alone-joined l r a b =
@@ -148,8 +145,8 @@ module _ (v : Versions) (e : Edited v) where
   module _ (id : ℕ) (h : among (order v) id ≡ false) where
     none : (stateOf (v .first) id ≡ []) × (stateOf (v .second) id ≡ [])
     none =
-        let both = or-none (among (idsOf (v .ancestor)) id || among (idsOf (v .first)) id) (among (idsOf (v .second)) id) (sym (among-order id) ∙ h) in (
-          unlisted (v .first) (e .of-first) (e .all .first) id (or-none (among (idsOf (v .ancestor)) id) (among (idsOf (v .first)) id) (both .0) .1),
+        let both = none-or (among (idsOf (v .ancestor)) id || among (idsOf (v .first)) id) (among (idsOf (v .second)) id) (sym (among-order id) ∙ h) in (
+          unlisted (v .first) (e .of-first) (e .all .first) id (none-or (among (idsOf (v .ancestor)) id) (among (idsOf (v .first)) id) (both .0) .1),
           unlisted (v .second) (e .of-second) (e .all .second) id (both .1),
         )
 

@@ -2,8 +2,7 @@
 use Prim.Native.Nat.{ℕ, _+_, _<_}
 use native.Mathlib.Omega.{arith}
 use mathlib.Core.Path.{_≡_, refl, ap, _∙_}
-use mathlib.Core.List.{List, [], _∷_, _++_}
-use mathlib.Core.Bool.{Bool, true, false}
+use mathlib.Core.List.{List, [], _∷_}
 use lib.ListN.{length, drop, getD, length-take, length-map, List·getD-map}
 use lib.Seq.{getD-take}
 use Rattle.search.specs.Choice.{_when_else_}
@@ -16,15 +15,6 @@ use Rattle.table.specs.declared.Row.{Row}
 use Rattle.merging.specs.Versions.{idsOf}
 use Rattle.merging.specs.Rule.{joined}
 use Rattle.merging.proofs.Rest.{rest}
-
--- one more of a list that passes, or not
-pub keep-first : {A : Type 0} (p : A → Bool) (a : A) (l : List A) → (a ∷ [] when p a else []) ++ keep p l ≡ keep p (a ∷ l)
-unfolding keep _when_else_
-keep-first {A} p a l = by (p a)
-  where
-    by : (t : Bool) → (a ∷ [] when t else []) ++ keep p l ≡ (a ∷ keep p l when t else keep p l)
-    by true = refl
-    by false = refl
 
 -- joined to none, they are all
 pub joined-none : (l : List ℕ) → joined [] l ≡ l

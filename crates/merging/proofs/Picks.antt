@@ -10,10 +10,11 @@ use lib.ListN.{length}
 use borrow.Author.Tests.{eqb-true, eqb-false, eq-eqb, ne-eqb, ltb-true, ltb-false}
 use Rattle.search.specs.Choice.{_when_else_}
 use Rattle.search.specs.Lists.{some, keep, All}
-use Rattle.search.proofs.Choice.{when-yes, when-no, when-cases, true-not-false}
+use Rattle.search.proofs.Choice.{when-yes, when-no, when-cases}
 use Rattle.search.proofs.Keeping.{keep-map, all-keep}
 use Rattle.search.proofs.Pairing.{all-each}
 use Rattle.table.specs.Record.{idAt}
+use Rattle.table.proofs.Firsts.{none-or}
 use Rattle.merging.specs.Rule.{among}
 use Rattle.merging.specs.Merge.{isRecord}
 
@@ -32,15 +33,11 @@ Alone [] = Unit {0}
 Alone (n ∷ l) = (among l n ≡ false) × Alone l
 
 -- those that pass a test
-pub or-none : (a b : Bool) → (a || b) ≡ false → (a ≡ false) × (b ≡ false)
-or-none true b e = absurd (true-not-false refl e)
-or-none false b e = (refl, e)
-
 pub among-keep : (p : ℕ → Bool) (l : List ℕ) (n : ℕ) → among l n ≡ false → among (keep p l) n ≡ false
 unfolding some keep
 among-keep p [] n h = refl
 among-keep p (m ∷ l) n h =
-    let g = or-none (eqb m n) (among l n) h in
+    let g = none-or (eqb m n) (among l n) h in
     let on = among-keep p l n (g .1) in
     when-cases (λ r. among r n ≡ false) (p m) (λ e. ap (λ (t : Bool). t || among (keep p l) n) (g .0) ∙ on) (λ e. on)
 
@@ -156,13 +153,13 @@ module _ (n : ℕ) (r : List ℕ) (rs : List (List ℕ)) where
 pub pick-none : (id : ℕ) (rs : List (List ℕ)) → among (map idIn rs) id ≡ false → pick id rs ≡ []
 unfolding some pick
 pick-none id [] h = refl
-pick-none id (r ∷ rs) h = let g = or-none (eqb (idIn r) id) (among (map idIn rs) id) h in pick-on id r rs (eqb-false _ _ (g .0)) ∙ pick-none id rs (g .1)
+pick-none id (r ∷ rs) h = let g = none-or (eqb (idIn r) id) (among (map idIn rs) id) h in pick-on id r rs (eqb-false _ _ (g .0)) ∙ pick-none id rs (g .1)
 
 without-none : (n : ℕ) (rs : List (List ℕ)) → among (map idIn rs) n ≡ false → without n rs ≡ rs
 unfolding some keep
 without-none n [] h = refl
 without-none n (r ∷ rs) h =
-    let g = or-none (eqb (idIn r) n) (among (map idIn rs) n) h in
+    let g = none-or (eqb (idIn r) n) (among (map idIn rs) n) h in
     without-on n r rs (eqb-false _ _ (g .0)) ∙ ap (λ (l : List (List ℕ)). r ∷ l) (without-none n rs (g .1))
 
 pick-without : (n : ℕ) (rs : List (List ℕ)) → pick n (without n rs) ≡ []
@@ -211,7 +208,7 @@ pick-perm (r ∷ rs) qs d d′ a b e =
 apart : (n : ℕ) (rs : List (List ℕ)) → among (map idIn rs) n ≡ false → All (λ r. idIn r ≡ n → ⊥) rs
 unfolding some
 apart n [] h = tt
-apart n (r ∷ rs) h = let g = or-none (eqb (idIn r) n) (among (map idIn rs) n) h in (eqb-false _ _ (g .0), apart n rs (g .1))
+apart n (r ∷ rs) h = let g = none-or (eqb (idIn r) n) (among (map idIn rs) n) h in (eqb-false _ _ (g .0), apart n rs (g .1))
 
 own : (f : ℕ → List ℕ) (rs : List (List ℕ)) → All (λ r. f (idIn r) ≡ r) rs → map f (map idIn rs) ≡ rs
 own f [] h = refl

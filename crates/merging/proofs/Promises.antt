@@ -8,9 +8,9 @@ use mathlib.Core.Logic.{_⊎_, ⊎-elim}
 use lib.Dec.{ltb}
 use lib.ListN.{length}
 use borrow.Author.Tests.{ltb-true, lt-ltb, eqb-true}
-use Rattle.search.specs.Choice.{_when_else_}
 use Rattle.search.specs.Lists.{keep}
 use Rattle.search.proofs.Choice.{true-not-false, lt-or-le}
+use Rattle.search.proofs.Keeping.{keep-append}
 use Rattle.search.proofs.Lists.{perm-sum}
 use Rattle.table.specs.Bytes.{Bytes}
 use Rattle.table.specs.Find.{rowOf, rows}
@@ -128,15 +128,6 @@ swapped-refused v e h = by (readTable (resultOf (swapped v)) .verdict) refl
     by (Refused m q) f = (m, q, f)
 
 -- the ancestor's records that stay stand first in both
-keep-append : {A : Type 0} (p : A → Bool) (l r : List A) → keep p (l ++ r) ≡ keep p l ++ keep p r
-unfolding keep _when_else_
-keep-append p [] r = refl
-keep-append {A} p (a ∷ l) r = by (p a) (keep-append p l r)
-  where
-    by : (t : Bool) → keep p (l ++ r) ≡ keep p l ++ keep p r → (a ∷ keep p (l ++ r) when t else keep p (l ++ r)) ≡ (a ∷ keep p l when t else keep p l) ++ keep p r
-    by true on = ap (λ (x : List A). a ∷ x) on
-    by false on = on
-
 pub map-alike : {A B : Type 0} (f g : A → B) → ((a : A) → f a ≡ g a) → (l : List A) → map f l ≡ map g l
 map-alike f g h [] = refl
 map-alike f g h (a ∷ l) = ap₂ _∷_ (h a) (map-alike f g h l)

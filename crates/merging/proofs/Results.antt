@@ -1,9 +1,8 @@
 -- The result's end record, its length, and what is answered of it. Assumes nothing.
-use Prim.Native.Nat.{ℕ, suc, _+_, _*_, _/_, _%_, _<_, _≤_}
+use Prim.Native.Nat.{ℕ, _+_, _*_, _/_, _%_, _<_, _≤_}
 use native.Mathlib.Omega.{arith}
 use mathlib.Core.Path.{_≡_, refl, ap, sym, _∙_}
 use mathlib.Core.List.{List, [], _∷_, _++_, flatten}
-use mathlib.Core.Bool.{Bool}
 use lib.Dec.{eqb}
 use lib.ListN.{length, drop, length-append}
 use borrow.Author.Tests.{lt-ltb, le-ltb, ltb-false, eq-eqb, ne-eqb}
@@ -45,13 +44,6 @@ end-length n = refl
 -- how long all of it is
 pub result-length : (states : List (List ℕ)) → length (resultFrom states) ≡ length (flatten states) + 4
 result-length states = length-append (flatten states) (endRecord (length (keep isRecord states))) ∙ ap (λ n. length (flatten states) + n) (end-length (length (keep isRecord states)))
-
-pub keep-length : {A : Type 0} (p : A → Bool) (l : List A) → length (keep p l) ≤ length l
-unfolding keep
-keep-length p [] = omega arith
-keep-length p (a ∷ l) =
-    let h = keep-length p l in
-    when-cases {x = a ∷ keep p l} {y = keep p l} (λ r. length r ≤ suc (length l)) (p a) (λ e. omega (arith, h)) (λ e. omega (arith, h))
 
 pub states-short : {ancestor first second : List ℕ} → AllTaken ancestor first second → (ids : List ℕ) → length (flatten (statesOf (three ancestor first second) ids)) ≤ 176 * length ids
 unfolding flatten

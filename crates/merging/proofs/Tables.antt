@@ -12,7 +12,8 @@ use borrow.Author.Tests.{ltb-true, lt-ltb}
 use Rattle.search.specs.Choice.{_when_else_}
 use Rattle.search.specs.Lists.{sumOf, All, keep}
 use Rattle.search.proofs.Choice.{when-cases, lt-or-le}
-use Rattle.search.proofs.Lists.{all-map, perm-sum}
+use Rattle.search.proofs.Keeping.{keep-length}
+use Rattle.search.proofs.Lists.{all-map, perm-sum, perm-length, sum-map}
 use Rattle.table.specs.Limits.{maxBytes}
 use Rattle.table.specs.Bytes.{word, bytesOf, Bytes}
 use Rattle.table.specs.Record.{tasksAt, rowAt}
@@ -41,7 +42,7 @@ use Rattle.merging.specs.Versions.{Versions, stateOf, idsOf}
 use Rattle.merging.specs.Rule.{takenOf, among, joined, order}
 use Rattle.merging.specs.Merge.{isRecord, takenRecords, endRecord, resultOf}
 use Rattle.merging.proofs.Sizes.{by-cases}
-use Rattle.merging.proofs.Results.{end-length, keep-length}
+use Rattle.merging.proofs.Results.{end-length}
 use Rattle.merging.proofs.Orders.{ids-length}
 use Rattle.merging.proofs.Picks.{idIn, pick}
 use Rattle.merging.proofs.Copies.{read-as, recordsIn, in-parts, state-picked, alone-apart}
@@ -81,16 +82,6 @@ pub flatten-length : (rs : List (List ℕ)) → length (flatten rs) ≡ sumOf le
 unfolding flatten sumOf
 flatten-length [] = refl
 flatten-length (r ∷ rs) = length-append r (flatten rs) ∙ ap (λ n. length r + n) (flatten-length rs)
-
-sum-map : {A B : Type 0} (f : B → ℕ) (g : A → B) (l : List A) → sumOf f (map g l) ≡ sumOf (λ a. f (g a)) l
-unfolding sumOf
-sum-map f g [] = refl
-sum-map f g (a ∷ l) = ap (λ n. f (g a) + n) (sum-map f g l)
-
-ones : {A : Type 0} (l : List A) → length l ≡ sumOf (λ a. 1) l
-unfolding sumOf
-ones [] = refl
-ones (a ∷ l) = omega (arith, ones l)
 
 joined-length : (l r : List ℕ) → length (joined l r) ≤ length l + length r
 joined-length l r = omega (arith, length-append l (keep (λ n. not (among l n)) r), keep-length (λ n. not (among l n)) r)
@@ -223,7 +214,7 @@ module _ (v : Versions) (e : Edited v) where
         ∙ sym (taken s bytes verdict .good .tasks)
 
     same-count : length (takenRecords v) ≡ tableOf s .count
-    same-count = ones (takenRecords v) ∙ sym (perm-sum (λ r. 1) p) ∙ sym (ones rs) ∙ length-records s (tableOf s .count) 0
+    same-count = sym (perm-length p) ∙ length-records s (tableOf s .count) 0
 
     pub accepted-again : readTable (resultOf v) .verdict ≡ Accepted
     accepted-again = by (readTable (resultOf v) .verdict) refl

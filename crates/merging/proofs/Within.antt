@@ -6,7 +6,7 @@ use mathlib.Core.List.{List, _++_}
 use lib.Dec.{ltb}
 use lib.ListN.{length, drop, length-append}
 use borrow.Author.Tests.{eq-eqb}
-use Rattle.search.specs.Choice.{_when_else_, byNumber}
+use Rattle.search.specs.Choice.{byNumber}
 use Rattle.search.proofs.Choice.{when-yes, when-cases}
 use Rattle.table.specs.Read.{unless, readTable}
 use Rattle.table.specs.declared.Verdict.{Verdict}

@@ -1,5 +1,5 @@
 -- Those of a list that pass a test: in another order, of what the elements give, and where none, all or one passes. Assumes nothing.
-use Prim.Native.Nat.{ℕ, zero, suc, _+_, _<_}
+use Prim.Native.Nat.{ℕ, zero, suc, _+_, _<_, _≤_}
 use mathlib.Core.Path.{_≡_, refl, ap, _∙_}
 use mathlib.Core.List.{List, [], _∷_, _++_, map, List·Permᴰ, List·Permᴰ·nil, List·Permᴰ·cons, List·Permᴰ·swap, List·Permᴰ·trans, Permᴰ·refl}
 use mathlib.Core.Bool.{Bool, true, false}
@@ -33,6 +33,31 @@ module _ {A : Type 0} (p : A → Bool) where
   unfolding keep
   all-keep P [] h = tt
   all-keep P (a ∷ l) h = when-cases (All P) (p a) (λ e. (h .0, all-keep P l (h .1))) (λ e. all-keep P l (h .1))
+
+  -- one by one, of two lists, and how many
+  pub keep-first : (a : A) (l : List A) → (a ∷ [] when p a else []) ++ keep p l ≡ keep p (a ∷ l)
+  unfolding keep _when_else_
+  keep-first a l = by (p a)
+    where
+      by : (t : Bool) → (a ∷ [] when t else []) ++ keep p l ≡ (a ∷ keep p l when t else keep p l)
+      by true = refl
+      by false = refl
+
+  pub keep-append : (l r : List A) → keep p (l ++ r) ≡ keep p l ++ keep p r
+  unfolding keep _when_else_
+  keep-append [] r = refl
+  keep-append (a ∷ l) r = by (p a) (keep-append l r)
+    where
+      by : (t : Bool) → keep p (l ++ r) ≡ keep p l ++ keep p r → (a ∷ keep p (l ++ r) when t else keep p (l ++ r)) ≡ (a ∷ keep p l when t else keep p l) ++ keep p r
+      by true on = ap (λ (x : List A). a ∷ x) on
+      by false on = on
+
+  pub keep-length : (l : List A) → length (keep p l) ≤ length l
+  unfolding keep
+  keep-length [] = omega arith
+  keep-length (a ∷ l) =
+      let h = keep-length l in
+      when-cases {x = a ∷ keep p l} {y = keep p l} (λ r. length r ≤ suc (length l)) (p a) (λ e. omega (arith, h)) (λ e. omega (arith, h))
 
 -- the same test, before and after
 pub keep-map : {A B : Type 0} (f : A → B) (p : B → Bool) (q : A → Bool) (l : List A) → All (λ a. p (f a) ≡ q a) l → keep p (map f l) ≡ map f (keep q l)

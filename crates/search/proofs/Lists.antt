@@ -1,5 +1,5 @@
 -- Laws of sums, maxima and tests over a list: bounds, an end, and that no order of the elements moves them. Assumes nothing.
-use Prim.Native.Nat.{ℕ, max, _+_, _*_, _≤_}
+use Prim.Native.Nat.{ℕ, suc, max, _+_, _*_, _≤_}
 use mathlib.Core.Path.{_≡_, refl, ap, ap₂, subst, _∙_}
 use mathlib.Core.List.{List, [], _∷_, _++_, map, List·Permᴰ, List·Permᴰ·nil, List·Permᴰ·cons, List·Permᴰ·swap, List·Permᴰ·trans, Permᴰ·map}
 use native.Mathlib.Omega.{arith}
@@ -49,6 +49,12 @@ module _ {A : Type 0} where
   perm-sum f (List·Permᴰ·swap e g) = omega (arith, ap f e, ap f g)
   perm-sum f (List·Permᴰ·trans p q) = perm-sum f p ∙ perm-sum f q
 
+  pub perm-length : {l r : List A} → List·Permᴰ l r → length l ≡ length r
+  perm-length List·Permᴰ·nil = refl
+  perm-length (List·Permᴰ·cons e p) = ap suc (perm-length p)
+  perm-length (List·Permᴰ·swap e g) = refl
+  perm-length (List·Permᴰ·trans p q) = perm-length p ∙ perm-length q
+
   pub perm-most : (f : A → ℕ) {l r : List A} → List·Permᴰ l r → mostOf f l ≡ mostOf f r
   unfolding mostOf
   perm-most f List·Permᴰ·nil = refl
@@ -61,6 +67,12 @@ module _ {A : Type 0} where
   perm-all P (List·Permᴰ·cons e p) h = (subst P e (h .0), perm-all P p (h .1))
   perm-all P (List·Permᴰ·swap e g) h = (subst P g (h .1 .0), (subst P e (h .0), h .1 .1))
   perm-all P (List·Permᴰ·trans p q) h = perm-all P q (perm-all P p h)
+
+-- of what the elements give
+pub sum-map : {A B : Type 0} (f : B → ℕ) (g : A → B) (l : List A) → sumOf f (map g l) ≡ sumOf (λ a. f (g a)) l
+unfolding sumOf
+sum-map f g [] = refl
+sum-map f g (a ∷ l) = ap (λ n. f (g a) + n) (sum-map f g l)
 
 -- pairs alike in what f and g give of them: the two lists give the same in some order
 module _ {A B C : Type 0} (f : A → C) (g : B → C) where

@@ -9,6 +9,7 @@ use lib.Seq.{drop-length}
 use native.Mathlib.Omega.{arith}
 use Rattle.search.specs.Choice.{_when_else_}
 use Rattle.search.specs.Lists.{keep}
+use Rattle.search.proofs.Keeping.{keep-first}
 use Rattle.table.specs.Record.{rowAt}
 use Rattle.table.specs.Find.{rowOf}
 use Rattle.table.specs.Place.{placeOf}
@@ -19,7 +20,7 @@ use Rattle.table.proofs.Standing.{place-none}
 use Rattle.table.proofs.Stands.{row-there, stands, place-next}
 use Rattle.merging.specs.Versions.{idsOf}
 use Rattle.merging.specs.Rule.{among, joined}
-use Rattle.merging.proofs.Orders.{keep-first, ids-length, ids-rest}
+use Rattle.merging.proofs.Orders.{ids-length, ids-rest}
 use Rattle.merging.proofs.order.join.Statement.{statement}
 use Rattle.merging.proofs.order.join.Tie as tie
 

@@ -7,6 +7,7 @@ use lib.ListN.{length, take, length-map}
 use native.Mathlib.Omega.{arith}
 use Rattle.table.specs.Read.{readTable}
 use Rattle.table.specs.declared.Verdict.the-variants.{Accepted}
+use Rattle.search.proofs.Keeping.{keep-length}
 use Rattle.slices.proofs.Splices.{splice-first}
 use Rattle.slices.specs.Slices.{splice}
 use Rattle.slices.specs.code.Begins.{Begins}
@@ -14,7 +15,7 @@ use Rattle.merging.specs.Rule.{takenOf}
 use Rattle.merging.specs.Merge.{versions, isRecord}
 use Rattle.merging.specs.declared.result.Size.{Size}
 use Rattle.merging.specs.code.Size.{statesOf, resultFrom}
-use Rattle.merging.proofs.Results.{result-length, keep-length, states-short, fits-not, fits-long, fits-refused, fits-accepted}
+use Rattle.merging.proofs.Results.{result-length, states-short, fits-not, fits-long, fits-refused, fits-accepted}
 use borrow.Author.Needs.{needs}
 use Rattle.merging.proofs.result.fit.Statement.{statement}
 use Rattle.merging.proofs.result.fit.Tie as tie
