@@ -2,11 +2,12 @@
 -- unchanged copy gives the other.
 use Prim.Native.Nat.{ℕ, _<_, _≤_}
 use mathlib.Core.Path.{_≡_}
-use mathlib.Core.List.{List, _++_}
+use mathlib.Core.List.{List, [], _++_}
 use mathlib.Core.Logic.{_⊎_}
-use lib.ListN.{length}
+use lib.ListN.{length, take, drop}
 use Rattle.merging.specs.Versions.{Versions, three, swapped, stateOf}
-use Rattle.merging.specs.Merge.{staying, resultOf, mergedOf, foundOf, chosenOf}
+use Rattle.merging.specs.Rule.{takenOf}
+use Rattle.merging.specs.Merge.{staying, resultOf, mergedOf, Merges, foundOf, chosenOf}
 use Rattle.merging.specs.declared.Merged.the-variants.{Used, Conflict, NoRoom, Result}
 use Rattle.merging.specs.declared.Found.the-variants.{Id}
 use Rattle.demands.specs.Chains.{IsTable}
@@ -14,7 +15,7 @@ use Rattle.demands.specs.Figures.{Exactly}
 use Rattle.demands.specs.Others.{Unmoved}
 
 -- three accepted tables
-pub record Edited (v : Versions) : Type 0 where
+pub record AllTables (v : Versions) : Type 0 where
   pub ancestor : IsTable (v .ancestor)
   pub first : IsTable (v .first)
   pub second : IsTable (v .second)
@@ -34,12 +35,14 @@ pub record Smallest (v : Versions) (above id : ℕ) : Type 0 where
 
 -- they are merged into a buffer with so much room: n bytes
 pub record MergedInto (room : ℕ) (v : Versions) (n : ℕ) : Type 0 where
-  pub edited : Edited v
+  pub tables : AllTables v
   pub answered : mergedOf room v ≡ Used n
 
 pub record NoEditLost : Type 0 where
   -- the result of an accepted merge is an accepted table, as long as is answered, which fits
   pub table : {v : Versions} {room n : ℕ} → MergedInto room v n → IsTable (resultOf v) × (n ≡ length (resultOf v)) × (n ≤ room)
+  -- the buffer then begins with the result, and the rest of it is as it was
+  pub written : {v : Versions} {buffer after : List ℕ} {n : ℕ} → Merges v buffer (Used n) after → (take n after ≡ resultOf v) × (drop n after ≡ drop n buffer)
   -- per id: both copies in the same state, that one
   pub alike : {v : Versions} {room n : ℕ} → MergedInto room v n → (id : ℕ) → stateOf (v .first) id ≡ stateOf (v .second) id → stateOf (resultOf v) id ≡ stateOf (v .first) id
   -- what one side changed and the other did not stands in the result, byte for byte; so does what one side removed or added
@@ -50,21 +53,25 @@ pub record NoEditLost : Type 0 where
   -- and the record taken for an id is the one that is handed back
   pub chosen : {v : Versions} {room n : ℕ} → MergedInto room v n → (id : ℕ) → chosenOf v id ≡ stateOf (resultOf v) id
   -- 32 is given exactly when some id is changed differently on both sides, with the smallest
-  pub conflict : {v : Versions} → Edited v → (room id : ℕ) → Exactly (mergedOf room v ≡ Conflict id) (InConflict v id × ((other : ℕ) → InConflict v other → id ≤ other))
+  pub conflict : {v : Versions} → AllTables v → (room id : ℕ) → Exactly (mergedOf room v ≡ Conflict id) (InConflict v id × ((other : ℕ) → InConflict v other → id ≤ other))
+  -- asked for the conflicts above 0, that id is answered
+  pub told : {v : Versions} → AllTables v → (room id : ℕ) → mergedOf room v ≡ Conflict id → foundOf v 0 ≡ Id id
   -- asked for the conflicts above a number, the smallest of them is answered, and 0 exactly where there is none
-  pub found : {v : Versions} → Edited v → (above id : ℕ) → Exactly ((foundOf v above ≡ Id id) × (0 < id)) (Smallest v above id)
-  pub none : {v : Versions} → Edited v → (above : ℕ) → Exactly (foundOf v above ≡ Id 0) ((id : ℕ) → above < id → InConflict v id → ⊥)
+  pub found : {v : Versions} → AllTables v → (above id : ℕ) → Exactly ((foundOf v above ≡ Id id) × (0 < id)) (Smallest v above id)
+  pub none : {v : Versions} → AllTables v → (above : ℕ) → Exactly (foundOf v above ≡ Id 0) ((id : ℕ) → above < id → InConflict v id → ⊥)
+  -- a result that loses every chain is refused with 11
+  pub emptied : {v : Versions} → AllTables v → ((id : ℕ) → InConflict v id → ⊥) → ((id : ℕ) → takenOf v id ≡ []) → (room : ℕ) → 4 ≤ room → (place : ℕ) × (mergedOf room v ≡ Result 11 place)
   -- of a table's numbers a result can only meet 1, 9 and 11
-  pub numbers : {v : Versions} → Edited v → (room : ℕ) {n place : ℕ} → mergedOf room v ≡ Result n place → (n ≡ 1) ⊎ (n ≡ 9) ⊎ (n ≡ 11)
+  pub numbers : {v : Versions} → AllTables v → (room : ℕ) {n place : ℕ} → mergedOf room v ≡ Result n place → (n ≡ 1) ⊎ (n ≡ 9) ⊎ (n ≡ 11)
 
 pub record SwappedCopies : Type 0 where
   -- the same conflicts, and the same length
-  pub conflicts : {v : Versions} → Edited v → (above : ℕ) → foundOf (swapped v) above ≡ foundOf v above
-  pub long : {v : Versions} → Edited v → length (resultOf (swapped v)) ≡ length (resultOf v)
+  pub conflicts : {v : Versions} → AllTables v → (above : ℕ) → foundOf (swapped v) above ≡ foundOf v above
+  pub long : {v : Versions} → AllTables v → length (resultOf (swapped v)) ≡ length (resultOf v)
   -- refused one way, refused the other: 32 and 24 alike, a result perhaps with another number
-  pub conflict : {v : Versions} → Edited v → (room : ℕ) {id : ℕ} → mergedOf room v ≡ Conflict id → mergedOf room (swapped v) ≡ Conflict id
-  pub no-room : {v : Versions} → Edited v → (room : ℕ) → mergedOf room v ≡ NoRoom → mergedOf room (swapped v) ≡ NoRoom
-  pub refused : {v : Versions} → Edited v → (room : ℕ) {n place : ℕ} → mergedOf room v ≡ Result n place → (m : ℕ) × (at : ℕ) × (mergedOf room (swapped v) ≡ Result m at)
+  pub conflict : {v : Versions} → AllTables v → (room : ℕ) {id : ℕ} → mergedOf room v ≡ Conflict id → mergedOf room (swapped v) ≡ Conflict id
+  pub no-room : {v : Versions} → AllTables v → (room : ℕ) → mergedOf room v ≡ NoRoom → mergedOf room (swapped v) ≡ NoRoom
+  pub refused : {v : Versions} → AllTables v → (room : ℕ) {n place : ℕ} → mergedOf room v ≡ Result n place → (m : ℕ) × (at : ℕ) × (mergedOf room (swapped v) ≡ Result m at)
   -- else accepted alike, with the same records
   pub accepted : {v : Versions} {room n : ℕ} → MergedInto room v n → mergedOf room (swapped v) ≡ Used n
   pub states : {v : Versions} {room n : ℕ} → MergedInto room v n → (id : ℕ) → stateOf (resultOf (swapped v)) id ≡ stateOf (resultOf v) id
@@ -74,16 +81,17 @@ pub record SwappedCopies : Type 0 where
   pub figures : {v : Versions} {room n : ℕ} → MergedInto room v n → (id : ℕ) → Unmoved (resultOf v) (resultOf (swapped v)) id
 
 pub record UnchangedCopies : Type 0 where
-  -- merging with an unchanged copy gives the other copy's records, all of them and no other, wherever that copy has room
-  pub first : {v : Versions} → Edited v → v .first ≡ v .ancestor → {room : ℕ} → length (v .second) ≤ room
+  -- merging with an unchanged copy, whose records may have moved, gives the other copy's records, all of them and no other, wherever that
+  -- copy has room
+  pub first : {v : Versions} → AllTables v → ((id : ℕ) → stateOf (v .first) id ≡ stateOf (v .ancestor) id) → {room : ℕ} → length (v .second) ≤ room
       → (mergedOf room v ≡ Used (length (v .second))) × ((id : ℕ) → stateOf (resultOf v) id ≡ stateOf (v .second) id)
-  pub second : {v : Versions} → Edited v → v .second ≡ v .ancestor → {room : ℕ} → length (v .first) ≤ room
+  pub second : {v : Versions} → AllTables v → ((id : ℕ) → stateOf (v .second) id ≡ stateOf (v .ancestor) id) → {room : ℕ} → length (v .first) ≤ room
       → (mergedOf room v ≡ Used (length (v .first))) × ((id : ℕ) → stateOf (resultOf v) id ≡ stateOf (v .first) id)
   -- three equal tables give the same bytes
   pub both : {s : List ℕ} → IsTable s → {room : ℕ} → length s ≤ room → (mergedOf room (three s s s) ≡ Used (length s)) × (resultOf (three s s s) ≡ s)
 
 -- all of it
 pub record MergeOfCopies : Type 0 where
-  pub lost : NoEditLost
+  pub kept : NoEditLost
   pub swapped-copies : SwappedCopies
   pub unchanged : UnchangedCopies

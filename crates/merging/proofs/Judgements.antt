@@ -10,7 +10,7 @@ use Rattle.search.proofs.Choice.{when-no}
 use Rattle.table.specs.Bytes.{Bytes}
 use Rattle.table.specs.Read.{unless, readTable}
 use Rattle.table.specs.declared.Verdict.{Verdict}
-use Rattle.table.specs.declared.Verdict.the-variants.{Accepted as Taken, Refused as Faulty}
+use Rattle.table.specs.declared.Verdict.the-variants.{Accepted as Faultless, Refused as Faulty}
 use Rattle.table.proofs.Accepted.{taken}
 use Rattle.table.proofs.Fields.{some-number}
 use Rattle.merging.specs.Versions.{Versions, three, byVersions}
@@ -32,8 +32,8 @@ all-taken {ancestor} {first} {second} a b c d =
 Says : Versions → Judged → Type 0
 Says v Accepted = AllAccepted v
 Says v (Ancestor n place) = readTable (v .ancestor) .verdict ≡ Faulty n place
-Says v (First n place) = (readTable (v .ancestor) .verdict ≡ Taken) × (readTable (v .first) .verdict ≡ Faulty n place)
-Says v (Second n place) = (readTable (v .ancestor) .verdict ≡ Taken) × (readTable (v .first) .verdict ≡ Taken) × (readTable (v .second) .verdict ≡ Faulty n place)
+Says v (First n place) = (readTable (v .ancestor) .verdict ≡ Faultless) × (readTable (v .first) .verdict ≡ Faulty n place)
+Says v (Second n place) = (readTable (v .ancestor) .verdict ≡ Faultless) × (readTable (v .first) .verdict ≡ Faultless) × (readTable (v .second) .verdict ≡ Faulty n place)
 
 module _ (v : Versions) where
   says : Says v (judgedOf v)
@@ -43,9 +43,9 @@ module _ (v : Versions) where
       by : (a b c : Verdict) → readTable (v .ancestor) .verdict ≡ a → readTable (v .first) .verdict ≡ b → readTable (v .second) .verdict ≡ c
           → Says v (unless Ancestor a (unless First b (unless Second c Accepted)))
       by (Faulty n place) b c e f g = e
-      by Taken (Faulty n place) c e f g = (e, f)
-      by Taken Taken (Faulty n place) e f g = (e, f, g)
-      by Taken Taken Taken e f g = record { ancestor = e; first = f; second = g }
+      by Faultless (Faulty n place) c e f g = (e, f)
+      by Faultless Faultless (Faulty n place) e f g = (e, f, g)
+      by Faultless Faultless Faultless e f g = record { ancestor = e; first = f; second = g }
 
   says-as : {j : Judged} → judgedOf v ≡ j → Says v j
   says-as e = rw (← e) says

@@ -59,6 +59,16 @@ unfolding keep
 kept-of P g h [] = tt
 kept-of P g h (id ∷ ids) = when-cases (All P) (isRecord (g id)) (λ e. (h id e, kept-of P g h ids)) (λ e. kept-of P g h ids)
 
+-- where no state is a record, none is kept
+none-kept : (states : List (List ℕ)) → All (λ r. r ≡ []) states → keep isRecord states ≡ []
+unfolding keep _when_else_
+none-kept [] h = refl
+none-kept (r ∷ rs) h = ap (λ (x : List ℕ). r ∷ keep isRecord rs when isRecord x else keep isRecord rs) (h .0) ∙ none-kept rs (h .1)
+
+all-given : (g : ℕ → List ℕ) → ((id : ℕ) → g id ≡ []) → (ids : List ℕ) → All (λ r. r ≡ []) (map g ids)
+all-given g h [] = tt
+all-given g h (id ∷ ids) = (h id, all-given g h ids)
+
 -- what holds of each stored record
 records-of : (P : List ℕ → Type 0) (s : List ℕ) (most : ℕ) → ((chain : ℕ) → chain < most → P (recordOf s chain)) → (n chain : ℕ) → chain + n ≤ most → All P (recordsFrom s n chain)
 unfolding recordsFrom
@@ -194,6 +204,29 @@ module _ (v : Versions) (e : Edited v) where
 
     pub result-rows : rows t ≡ map rowIn (takenRecords v)
     result-rows = parts-rows (resultOf v) t (read-as (resultOf v) result-bytes verdict) (takenRecords v) (endRecord (length (takenRecords v))) result-parts
+
+  -- where nothing is taken: an end record alone, which is refused with 11
+  module _ (missing : (id : ℕ) → takenOf v id ≡ []) where
+    none-taken : takenRecords v ≡ []
+    unfolding takenRecords
+    none-taken = none-kept (map (takenOf v) (order v)) (all-given (takenOf v) missing (order v))
+
+    pub emptied-refused : (place : ℕ) × (readTable (resultOf v) .verdict ≡ Refused 11 place) × (length (resultOf v) ≤ 4)
+    unfolding flatten sumOf
+    emptied-refused = by (readTable (resultOf v) .verdict) refl
+      where
+        short : length (flatten (takenRecords v)) ≡ 0
+        short = ap (λ (rs : List (List ℕ)). length (flatten rs)) none-taken
+
+        number : {n : ℕ} → TooMuch (takenRecords v) n → n ≡ 11
+        number (TooMuch.bytes f h) = absurd (omega (arith, h, short))
+        number (TooMuch.tasks f h) = absurd (omega (arith, h, ap (sumOf (λ (r : List ℕ). tasksAt r 0)) none-taken))
+        number (TooMuch.chains f h) = absurd (omega (arith, h, ap length none-taken))
+        number (TooMuch.none f h) = f
+
+        by : (w : Verdict) → readTable (resultOf v) .verdict ≡ w → (place : ℕ) × (readTable (resultOf v) .verdict ≡ Refused 11 place) × (length (resultOf v) ≤ 4)
+        by Accepted f = absurd (omega (arith, ap length (sym (result-records f)) ∙ length-records (resultOf v) (tableOf (resultOf v) .count) 0, ap length none-taken, taken (resultOf v) result-bytes f .good .some))
+        by (Refused n place) f = (place, f ∙ ap (λ k. Refused k place) (number (refused-for f)), omega (arith, result-length, short))
 
   -- records of an accepted table, in any order, are an accepted result
   module _ (s : List ℕ) (bytes : Bytes s) (verdict : readTable s .verdict ≡ Accepted) (p : List·Permᴰ (recordsIn s bytes verdict) (takenRecords v)) where

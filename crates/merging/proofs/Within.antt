@@ -54,10 +54,13 @@ merged-uses room v =
     First (λ n place. tt) (readTable (v .first) .verdict))
     Ancestor (λ n place. tt) (readTable (v .ancestor) .verdict)
 
-pub used-within : {v : Versions} {buffer after : List ℕ} {answer : Merged} → Merges v buffer answer after → (n : ℕ) → answer ≡ Used n → n ≤ length after
-used-within {v} {buffer} {after} {answer} merges n e =
-    let result = resultOf v in
-    let uses : n ≡ length result = subst (UsesOnly (length result)) (sym (merges .answers) ∙ e) (merged-uses (length buffer) v) in
-    let left : after ≡ result ++ drop (length result) buffer = merges .leaves ∙ when-yes _ _ (eq-eqb (numberOf answer) 0 (ap numberOf e)) in
-    let whole : length after ≡ _ = ap length left ∙ length-append result (drop (length result) buffer) in
-    omega (arith, uses, whole)
+-- so many bytes as the result has, which the buffer holds
+module _ {v : Versions} {buffer after : List ℕ} {answer : Merged} (merges : Merges v buffer answer after) (n : ℕ) (e : answer ≡ Used n) where
+  pub used-length : n ≡ length (resultOf v)
+  used-length = subst (UsesOnly (length (resultOf v))) (sym (merges .answers) ∙ e) (merged-uses (length buffer) v)
+
+  pub used-within : n ≤ length after
+  used-within =
+      let result = resultOf v in
+      let left : after ≡ result ++ drop (length result) buffer = merges .leaves ∙ when-yes _ _ (eq-eqb (numberOf answer) 0 (ap numberOf e)) in
+      omega (arith, used-length, ap length left, length-append result (drop (length result) buffer))

@@ -47,7 +47,7 @@ isRecord state = ltb 0 (length state)
 unfoldable pub takenRecords : Versions → List (List ℕ)
 takenRecords v = keep isRecord (map (takenOf v) (order v))
 
--- those of them that the ancestor has too, one after the other: they stand first
+-- those of them whose ids the ancestor has, one after the other: they stand first
 abbrev pub staying : Versions → List ℕ
 staying v = flatten (keep isRecord (map (takenOf v) (idsOf (v .ancestor))))
 

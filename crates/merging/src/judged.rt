@@ -13,6 +13,7 @@ pub enum Judged {
     Second(u32, usize),
 }
 
+// Judges the ancestor, the first copy and the second, in this order, as far as each before it is accepted.
 pub fn judge_all(ancestor: &[u8], first: &[u8], second: &[u8]) -> Judged
     ensures { λ r. ⌜ r ≡ judgedOf (versions (ancestor .entry) (first .entry) (second .entry)) ⌝ }
 {

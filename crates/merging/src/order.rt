@@ -4,12 +4,13 @@ use table::u32_from_u16;
 ghost use mathlib.Core.Path.{_≡_};
 ghost use Prim.Native.Nat.{_+_, _≤_, _<_};
 ghost use lib.ListN.{length};
+ghost use Rattle.table.specs.Limits.{maxChains};
 ghost use Rattle.table.specs.code.Taken.{Taken};
 ghost use Rattle.merging.specs.Versions.{idsOf};
 ghost use Rattle.merging.specs.Rule.{among as amongOf};
 ghost use Rattle.merging.specs.Merge.{versions};
 ghost use Rattle.merging.specs.code.Parts.{AllTaken};
-ghost use Rattle.merging.specs.code.Ids.{Added, Joined, Ordered};
+ghost use Rattle.merging.specs.code.Ids.{mostIds, Added, Joined, Ordered};
 
 // As many as three tables can have.
 pub const MOST: usize = 3 * Table::CHAINS;
@@ -42,7 +43,7 @@ fn add(ids: &mut [u32], n: usize, end: usize, id: u32) -> usize
 
 // Puts the ids of a table that are not among the first n after these, and answers how many there are then.
 fn join(s: &[u8], ids: &mut [u32], n: usize) -> usize
-    requires { ⌜ Taken (now s) × (n + 16 ≤ length (now ids)) ⌝ }
+    requires { ⌜ Taken (now s) × (n + maxChains ≤ length (now ids)) ⌝ }
     ensures { λ r. ⌜ Joined (now (ids .entry)) n (idsOf (now (s .entry))) (now (ids .exit)) r ⌝ }
 {
     let chains = table::count(s);
@@ -59,7 +60,7 @@ fn join(s: &[u8], ids: &mut [u32], n: usize) -> usize
 
 // All of them, as the first numbers of the array; answers how many they are.
 pub fn ids_in_order(ancestor: &[u8], first: &[u8], second: &[u8], ids: &mut [u32]) -> usize
-    requires { ⌜ AllTaken (now ancestor) (now first) (now second) × (length (now ids) ≡ 48) ⌝ }
+    requires { ⌜ AllTaken (now ancestor) (now first) (now second) × (length (now ids) ≡ mostIds) ⌝ }
     ensures { λ r. ⌜ Ordered (versions (ancestor .entry) (first .entry) (second .entry)) (now (ids .exit)) r ⌝ }
 {
     let of_ancestor = join(ancestor, ids, 0);

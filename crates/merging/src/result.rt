@@ -15,9 +15,10 @@ ghost use Rattle.slices.specs.code.Begins.{Begins};
 ghost use Rattle.merging.specs.Merge.{versions, endRecord};
 ghost use Rattle.merging.specs.Versions.{three};
 ghost use Rattle.merging.specs.code.Parts.{AllTaken};
+ghost use Rattle.merging.specs.code.Ids.{mostIds};
 ghost use Rattle.merging.specs.code.Size.{statesOf, sizeOf, resultFrom, PutThere, Fits};
 
-// How many bytes the records taken have in all, and how many they are.
+// How long the records taken are in all, and how many they are.
 pub struct Size {
     pub bytes: usize,
     pub records: usize,
@@ -30,8 +31,9 @@ fn counted(n: usize) -> usize
     if 0 < n { 1 } else { 0 }
 }
 
+// Measures the records taken for these ids; a state that is missing adds nothing.
 fn size_of<'a>(ancestor: &[u8], first: &'a [u8], second: &'a [u8], ids: &[u32]) -> Size
-    requires { ⌜ AllTaken (now ancestor) (now first) (now second) × (length (now ids) ≤ 48) ⌝ }
+    requires { ⌜ AllTaken (now ancestor) (now first) (now second) × (length (now ids) ≤ mostIds) ⌝ }
     ensures { λ r. ⌜ r ≡ sizeOf (statesOf (versions (ancestor .entry) (first .entry) (second .entry)) (now (ids .entry))) ⌝ }
 {
     let mut bytes: usize = 0;
@@ -81,6 +83,7 @@ fn build<'a>(
     ensures { λ _. ⌜ Begins (now (out .exit)) (flatten (statesOf (versions (ancestor .entry) (first .entry) (second .entry)) (now (ids .entry))) ++ endRecord records) ⌝ }
 {
     let end = put_records(ancestor, first, second, ids, out);
+    // `EN`, and their number in the two bytes above it.
     put_u32(out, end, 20_037 + 65_536 * (records as u32));
 }
 
@@ -93,7 +96,7 @@ pub fn fit<'a>(
     ids: &[u32],
     out: &mut [u8],
 ) -> Merged
-    requires { ⌜ AllTaken (now ancestor) (now first) (now second) × (length (now ids) ≤ 48) ⌝ }
+    requires { ⌜ AllTaken (now ancestor) (now first) (now second) × (length (now ids) ≤ mostIds) ⌝ }
     ensures { λ r. ⌜ Fits (resultFrom (statesOf (versions (ancestor .entry) (first .entry) (second .entry)) (now (ids .entry)))) (now (out .entry)) r (now (out .exit)) ⌝ }
 {
     let size = size_of(ancestor, first, second, ids);

@@ -12,12 +12,17 @@ use Rattle.editor.specs.code.Single.{singleOf, singleNumber, singleFigur
 use Rattle.editor.proofs.Writing.{answered-short, answered-refusal, answered-figures}
 use Rattle.editor.proofs.Singles.{single-number, single-figures}
 use borrow.Author.Needs.{needs}
+use Rattle.merging.specs.Versions.{Versions}
 use Rattle.editor.proofs.mishtodran_merge.Statement.{statement}
 use Rattle.editor.proofs.mishtodran_merge.Tie as tie
 
+-- the three tables
+abbrev of : tie.Start → Versions
+of s = versions (s .args .ancestor) (s .args .first) (s .args .second)
+
 returns : tie.Need-returns
 returns c = let a = c .before .before .before .before .before .before .args in
-    let v = versions (c .before .before .before .before .before .before .args .ancestor) (c .before .before .before .before .before .before .args .first) (c .before .before .before .before .before .before .args .second) in
+    let v = of (c .before .before .before .before .before .before) in
     let table : List ℕ = now (a .buffer) in
     let merged = mergedOf (length table) v in
     let later = bufferAfter merged (resultOf v) table in
@@ -52,7 +57,7 @@ same-length-2 c = search needs
 
 returns-2 : tie.Need-returns-2
 returns-2 c = let a = c .before .before .before .before .before .before .before .before .before .before .before .before .before .before .before .before .before .before .before .args in
-    let v = versions (c .before .before .before .before .before .before .before .before .before .before .before .before .before .before .before .before .before .before .before .args .ancestor) (c .before .before .before .before .before .before .before .before .before .before .before .before .before .before .before .before .before .before .before .args .first) (c .before .before .before .before .before .before .before .before .before .before .before .before .before .before .before .before .before .before .before .args .second) in
+    let v = of (c .before .before .before .before .before .before .before .before .before .before .before .before .before .before .before .before .before .before .before) in
     let table : List ℕ = now (a .buffer) in
     let merged = mergedOf (length table) v in
     let later = bufferAfter merged (resultOf v) table in
@@ -71,7 +76,7 @@ same-length-3 c = search needs
 
 returns-3 : tie.Need-returns-3
 returns-3 c = let a = c .before .before .before .before .before .before .before .before .before .before .before .before .before .before .args in
-    let v = versions (c .before .before .before .before .before .before .before .before .before .before .before .before .before .before .args .ancestor) (c .before .before .before .before .before .before .before .before .before .before .before .before .before .before .args .first) (c .before .before .before .before .before .before .before .before .before .before .before .before .before .before .args .second) in
+    let v = of (c .before .before .before .before .before .before .before .before .before .before .before .before .before .before) in
     let table : List ℕ = now (a .buffer) in
     let merged = mergedOf (length table) v in
     let later = bufferAfter merged (resultOf v) table in

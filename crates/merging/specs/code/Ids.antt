@@ -1,5 +1,5 @@
 -- What the code keeps of the ids: the first numbers of an array.
-use Prim.Native.Nat.{ℕ, _+_, _≤_}
+use Prim.Native.Nat.{ℕ, _+_, _*_, _≤_}
 use mathlib.Core.Path.{_≡_}
 use mathlib.Core.List.{List, [], _∷_, _++_}
 use mathlib.Core.Bool.{not}
@@ -8,6 +8,10 @@ use Rattle.search.specs.Choice.{_when_else_}
 use Rattle.table.specs.Limits.{maxChains}
 use Rattle.merging.specs.Versions.{Versions}
 use Rattle.merging.specs.Rule.{among, joined, order}
+
+-- as many ids as three tables can have
+abbrev pub mostIds : ℕ
+mostIds = 3 * maxChains
 
 -- after the first `end` numbers the id, unless it is among the first n, which stay
 pub record Added (before : List ℕ) (n end id : ℕ) (after : List ℕ) (r : ℕ) : Type 0 where

@@ -18,7 +18,11 @@ join-requires-2 : tie.Need-join-requires-2
 join-requires-2 c κs = (c .before .before .before .before .before .before .before .before .before .pre .0 .of-first, omega (arith, c .before .before .before .before .before .before .before .before .before .pre .1, c .before .before .before .join .ensures .few, c .before .before .before .join .ensures .long))
 
 join-requires-3 : tie.Need-join-requires-3
-join-requires-3 c κs = (c .before .before .before .before .before .before .before .before .before .before .before .before .before .pre .0 .of-second, omega (arith, c .before .before .before .before .before .before .before .before .before .before .before .before .before .pre .1, c .before .before .before .before .before .before .before .join .ensures .few, c .before .before .before .before .before .before .before .join .ensures .long, c .before .before .before .join2 .ensures .few, c .before .before .before .join2 .ensures .long))
+join-requires-3 c κs =
+    let s = c .before .before .before .before .before .before .before .before .before .before .before .before .before in
+    let x = c .before .before .before .before .before .before .before .join .ensures in
+    let y = c .before .before .before .join2 .ensures in
+    (s .pre .0 .of-second, omega (arith, s .pre .1, x .few, x .long, y .few, y .long))
 
 same-length : tie.Need-same-length
 same-length c = search needs
