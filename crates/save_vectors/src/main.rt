@@ -1,29 +1,16 @@
 // Runs packed cases of a save (tests/pack_save.py says how they are packed) from standard input, and prints a line for each
 // case that is not as expected and a last line with the counts.
+use cases::MOST;
+use cases::Outcome;
+use cases::filled;
+use cases::say_counts;
+use cases::told;
+use cases::went;
 use libc::STDIN_FILENO;
-use libc::STDOUT_FILENO;
 use saving::Saved;
-ghost use Rattle.io.specs.Counts.{Counts};
 
 // Room for each of a case's byte strings; a case with a longer one is not as expected.
 const ROOM: usize = 8192;
-
-// How a case went; `End` where none is left.
-enum Outcome {
-    End,
-    Right,
-    Wrong,
-}
-
-// Reads n bytes to the start of the buffer, and answers how many it put there: fewer where they do not fit or the input ends.
-fn filled(buffer: &mut [u8], n: usize) -> usize
-    ensures { λ r. ⌜ Counts r (now (buffer .exit)) ⌝ }
-{
-    if buffer.len() < n {
-        return 0;
-    }
-    io::read_full(STDIN_FILENO, &mut buffer[..n])
-}
 
 // What a case expects: the refusal number, 0 for none, and the new used length.
 struct Expected {
@@ -68,18 +55,14 @@ fn run(n: usize, used: u64, o: usize, m: usize, expected: Expected) -> Outcome {
     if b != n || c != o || d != m || e != n {
         return Outcome::Wrong;
     }
-    if as_expected(
+    went(as_expected(
         &mut buffer[..b],
         used,
         &old[..c],
         &new[..d],
         expected,
         &after[..e],
-    ) {
-        Outcome::Right
-    } else {
-        Outcome::Wrong
-    }
+    ))
 }
 
 // Reads the numbers of a case, and then the rest of it.
@@ -98,37 +81,17 @@ fn case() -> Outcome {
     run(n, used, o, m, Expected { number, length })
 }
 
-fn say_wrong(case: u64) {
-    io::write_all(STDOUT_FILENO, b"not as expected: case ");
-    io::print_decimal(STDOUT_FILENO, case);
-    io::write_all(STDOUT_FILENO, b"\n");
-}
-
-fn say_counts(cases: u64, right: u64) {
-    io::print_decimal(STDOUT_FILENO, cases);
-    io::write_all(STDOUT_FILENO, b" cases, ");
-    io::print_decimal(STDOUT_FILENO, right);
-    io::write_all(STDOUT_FILENO, b" as expected\n");
-}
-
-// The cases count from 1. The bound is there so that the loop is known to end.
+// The cases count from 1.
 fn main() {
     let mut cases: u64 = 0;
     let mut right: u64 = 0;
-    while cases < 1_000_000 {
-        match case() {
-            Outcome::End => {
-                break;
-            }
-            Outcome::Right => {
-                cases += 1;
-                right += 1;
-            }
-            Outcome::Wrong => {
-                cases += 1;
-                say_wrong(cases);
-            }
+    while cases < MOST {
+        let outcome = case();
+        if let Outcome::End = outcome {
+            break;
         }
+        cases += 1;
+        right += told(cases, outcome);
     }
     say_counts(cases, right);
 }

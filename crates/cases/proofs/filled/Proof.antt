@@ -6,8 +6,8 @@ use lib.Seq.{length-take-le}
 use borrow.Author.Needs.{needs}
 use native.Mathlib.Omega.{arith}
 use Rattle.io.proofs.Counting.{counts}
-use Rattle.save_vectors.proofs.filled.Statement.{statement}
-use Rattle.save_vectors.proofs.filled.Tie as tie
+use Rattle.cases.proofs.filled.Statement.{statement}
+use Rattle.cases.proofs.filled.Tie as tie
 
 returns : tie.Need-returns
 returns c = search needs
