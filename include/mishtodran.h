@@ -15,9 +15,10 @@
  * Stack: a call takes less than MISHTODRAN_STACK_BYTES. This is measured, not proved.
  *
  * Duration: every call ends; how soon is measured, not proved. On an x86-64 machine of 2 GHz, a check, a segment or a
- * save takes about a microsecond at most, a merge some, and any call on an ordinary table less than a millisecond. The slowest tables
- * that we know have full lists whose last distance is 1, before windows of almost 10,000,000 ticks: there a latency or
- * misses take 3 seconds, and a report 50. An editor that must not stand still makes these calls in a thread of its own.
+ * save takes about a microsecond at most, a merge or its conflicts a few, and any call on an ordinary table less than a
+ * millisecond. The slowest tables that we know have full lists whose last distance is 1, before windows of almost
+ * 10,000,000 ticks: there a latency or misses take 3 seconds, and a report 50. An editor that must not stand still makes
+ * these calls in a thread of its own.
  */
 #ifndef MISHTODRAN_H
 #define MISHTODRAN_H
@@ -112,7 +113,7 @@ enum mishtodran_refusal {
     MISHTODRAN_DISTANCE = 29,          /* a distance falls or exceeds 10,000,000 */
     MISHTODRAN_LAST_DISTANCE = 30,     /* the last distance is 0 */
     MISHTODRAN_GAP_TOO_SMALL = 31,     /* a gap other than 0 is too small for the distances */
-    /* A chain's figures; 12 in any query */
+    /* A chain's figures; 12 of a segment too */
     MISHTODRAN_UNKNOWN_ID = 12,        /* the id is not in the table */
     MISHTODRAN_RUN_LENGTH = 13,        /* k is not 1 to 1,000 */
     MISHTODRAN_OF_OVERLOAD = 14,       /* misses are asked of an overload chain */
@@ -199,7 +200,8 @@ uint32_t mishtodran_save(uint8_t *buffer, size_t buffer_len, uint64_t used,
  * are alike, else what the one has that differs from the ancestor; that a record is missing counts as any other
  * difference, so what one side removed or added is removed or added. The ancestor's records that stay come first, in its
  * order, then those that the first copy added, in its order, then those that only the second did. Where a record stands
- * in its table is no difference. MISHTODRAN_MOST_TABLE_BYTES of buffer hold every result that is accepted.
+ * in its table is no difference. MISHTODRAN_MOST_TABLE_BYTES of buffer hold every result that is accepted; where these
+ * are too few, the result is no table.
  * Refuses with 27, then the ancestor's number, the first copy's, the second's; 32 where some id has three states, one in
  * each table, and mishtodran_conflict says which; 24; the result's number, which is 1, 9 or 11. The buffer then stays as
  * it was, and mishtodran_check of each table says whether a table's number was its own. */

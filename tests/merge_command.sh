@@ -60,7 +60,7 @@ refuses() {
 # in_conflict ID..: what is said of them.
 in_conflict() {
     echo "refused 32: some id is changed differently on both sides"
-    printf 'conflict: chain %s is changed differently in both copies\n' "$@"
+    printf 'conflict: chain %s is changed, removed or added differently in the two copies\n' "$@"
 }
 
 # What an engineer has changed, and in which chains.
@@ -196,6 +196,7 @@ branch() {
 # unmerged SAID CODE TABLE: git shows what the driver said, the file as unmerged, and the first side's table in it.
 unmerged() {
     grep -qxF "$1" "$room/out" || found "git merge does not say '$1': $(cat "$room/out")"
+    grep -qxF "in $stored" "$room/out" || found "git merge does not say which table it is: $(cat "$room/out")"
     [ "$(git status --porcelain)" = "$2 $stored" ] || found "git has another status: $(git status --porcelain)"
     cmp -s "$tables/$3" "$stored" || found "the first side's table does not stay"
     git merge --abort || found "git cannot abort the merge"
@@ -205,8 +206,9 @@ make_repository() {
     git init -q "$room/repository" && cd "$room/repository" || return
     git config user.name maintainers && git config user.email maintainers@example.org || return
     echo '*.table merge=mishtodran' >.gitattributes
-    git config merge.mishtodran.name "merge of two edited tables" || return
-    git config merge.mishtodran.driver "$(printf %q "$top/mishtodran") merge %O %A %B %A" || return
+    git config merge.mishtodran.driver \
+        "$(printf %q "$top/mishtodran") merge %O %A %B %A || { echo in %P >&2; exit 1; }" || return
+    git config merge.mishtodran.recursive binary || return
     git checkout -q -b start && git add . && git commit -q -m start
 }
 
@@ -225,8 +227,16 @@ cmp -s "$tables/both" "$stored" || found "git's merge is another table"
 
 # One chain is changed on both sides; and the table is new on both, so that it has no ancestor.
 git_merge costs_too 1
-unmerged "conflict: chain 1 is changed differently in both copies" UU both
+unmerged "conflict: chain 1 is changed, removed or added differently in the two copies" UU both
 git checkout -q adds
 git_merge costs 1
 unmerged "ancestor: $length (the table has 0 bytes)" AA deadline
+
+# Each of two branches has merged the other, and kept its own table. What they come from are then two tables in conflict, of which
+# neither may count as the ancestor: the edit of the other side would be lost.
+{ git checkout -q -b one tightens && git merge -q -s ours -m one costs_too; } || fail "the branch one was not made"
+{ git checkout -q -b other costs_too && git merge -q -s ours -m other tightens; } || fail "the branch other was not made"
+git checkout -q one
+git_merge other 1
+unmerged "conflict: chain 1 is changed, removed or added differently in the two copies" UU both
 print "merge_command: as it should be"

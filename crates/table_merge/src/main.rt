@@ -86,7 +86,11 @@ fn put_no_room() -> bool {
 
 fn put_in_conflict(id: u32) -> bool {
     let which = put(STDERR_FILENO, b"conflict: chain ") && put_number(STDERR_FILENO, id as usize);
-    which && put(STDERR_FILENO, b" is changed differently in both copies\n")
+    which
+        && put(
+            STDERR_FILENO,
+            b" is changed, removed or added differently in the two copies\n",
+        )
 }
 
 // The smallest id in conflict that is greater than `above`; 0 where there is none.
