@@ -131,7 +131,7 @@ merges() {
     expect 0 "" "" "" sh -c 'echo more | ./mishtodran merge examples/sample.table examples/sample.table examples/sample.table merged/result'
     holds 0
     echo as it was >"$copy/merged/result"
-    conflict=$'refused 32: a sentence\nconflict: chain 7'
+    conflict=$'refused 32: some id is changed differently on both sides\nconflict: chain 7'
     says "echo '$conflict' >&2"
     expect 1 "" "$conflict" "" "${merge[@]}"
     holds "as it was"

@@ -1,5 +1,5 @@
 -- What the judgement of the three tables says, and what is answered for it. Assumes nothing.
-use Prim.Native.Nat.{ℕ, zero, suc}
+use Prim.Native.Nat.{ℕ}
 use mathlib.Core.Path.{_≡_, refl, sym}
 use mathlib.Core.List.{List}
 use lib.ListN.{length}
@@ -94,16 +94,7 @@ module _ (v : Versions) (buffer : List ℕ) where
     merge-second e = let s = says-as v e in
         refuses (answer.Second n place) (rw (s .0, s .1, s .2)) (λ z. omega (arith, z, some-number (v .second) (s .2)))
 
-  module _ (a : AllAccepted v) where
-    by-conflict : (id : ℕ) → conflictAbove v 0 ≡ id → mergedOf (length buffer) v ≡ byNumber answer.Conflict id (fitted (length buffer) (resultOf v))
-    unfolding mergedOf unless
-    by-conflict id e = rw (a .ancestor, a .first, a .second, e)
-
-    pub merge-conflict : (id : ℕ) → id ≡ conflictAbove v 0 → (id ≡ 0 → ⊥) → Merges v buffer (answer.Conflict id) buffer
-    unfolding byNumber
-    merge-conflict zero e h = absurd (h refl)
-    merge-conflict (suc id) e h = refuses (answer.Conflict (suc id)) (sym (by-conflict (suc id) (sym e))) (λ z. omega (arith, z))
-
-    pub merge-fitted : conflictAbove v 0 ≡ 0 → mergedOf (length buffer) v ≡ fitted (length buffer) (resultOf v)
-    unfolding byNumber
-    merge-fitted e = by-conflict 0 e
+-- of three accepted tables: 32, and then what follows
+pub merge-asked : (v : Versions) (room : ℕ) → AllAccepted v → mergedOf room v ≡ byNumber answer.Conflict (conflictAbove v 0) (fitted room (resultOf v))
+unfolding mergedOf unless
+merge-asked v room a = rw (a .ancestor, a .first, a .second)

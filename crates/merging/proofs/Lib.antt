@@ -3,6 +3,7 @@ pub mod Lookup
 pub mod Rules
 pub mod Leasts
 pub mod Orders
+pub mod Weights
 pub mod Sizes
 pub mod Results
 pub mod Judgements

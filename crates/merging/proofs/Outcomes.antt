@@ -16,6 +16,7 @@ use Rattle.merging.specs.Merge.{resultOf, fitted, mergedOf}
 use Rattle.merging.specs.declared.Merged.{Merged}
 use Rattle.merging.specs.declared.Merged.the-variants.{Used, Ancestor, First, Second, Conflict, NoRoom, Result}
 use Rattle.merging.specs.code.Judged.{AllAccepted}
+use Rattle.merging.proofs.Judgements.{merge-asked}
 
 -- answers are told apart by their kinds and their first numbers
 kind : Merged → ℕ
@@ -54,8 +55,7 @@ pub data Outcome (room : ℕ) (v : Versions) (m : Merged) : Type 0 where
 
 module _ (room : ℕ) (v : Versions) (a : AllAccepted v) where
   asked : mergedOf room v ≡ byNumber Conflict (conflictAbove v 0) (fitted room (resultOf v))
-  unfolding mergedOf unless
-  asked = rw (a .ancestor, a .first, a .second)
+  asked = merge-asked v room a
 
   pub outcome : Outcome room v (mergedOf room v)
   unfolding byNumber fitted _when_else_ unless

@@ -1,12 +1,12 @@
 -- The result's end record, its length, and what is answered of it. Assumes nothing.
-use Prim.Native.Nat.{ℕ, _+_, _*_, _/_, _%_, _<_, _≤_}
+use Prim.Native.Nat.{ℕ, zero, suc, _+_, _*_, _/_, _%_, _<_, _≤_}
 use native.Mathlib.Omega.{arith}
 use mathlib.Core.Path.{_≡_, refl, ap, sym, _∙_}
 use mathlib.Core.List.{List, [], _∷_, _++_, flatten}
 use lib.Dec.{eqb}
 use lib.ListN.{length, drop, length-append}
 use borrow.Author.Tests.{lt-ltb, le-ltb, ltb-false, eq-eqb, ne-eqb}
-use Rattle.search.specs.Choice.{_when_else_}
+use Rattle.search.specs.Choice.{_when_else_, byNumber}
 use Rattle.search.specs.Lists.{keep}
 use Rattle.search.proofs.Choice.{when-yes, when-no, when-cases}
 use Rattle.table.specs.Limits.{maxBytes}
@@ -21,9 +21,9 @@ use Rattle.table.proofs.Fields.{some-number}
 use Rattle.merging.specs.Versions.{Versions, three}
 use Rattle.merging.specs.Rule.{takenOf, order}
 use Rattle.merging.specs.Merge.{isRecord, takenRecords, endRecord, resultOf, fitted}
-use Rattle.merging.specs.declared.Merged.the-variants.{Used, NoRoom, Result}
+use Rattle.merging.specs.declared.Merged.the-variants.{Used, Conflict, NoRoom, Result}
 use Rattle.merging.specs.code.Parts.{AllTaken}
-use Rattle.merging.specs.code.Size.{statesOf, resultFrom, Fits}
+use Rattle.merging.specs.code.Size.{statesOf, leastOf, resultFrom, Fits}
 use Rattle.merging.proofs.Sizes.{taken-short, more-bytes}
 
 -- the end record as one number
@@ -52,29 +52,38 @@ states-short {ancestor} {first} {second} t (id ∷ ids) =
     omega (arith, more-bytes (takenOf (three ancestor first second) id) (statesOf (three ancestor first second) ids), taken-short t id, states-short t ids)
 
 -- what is answered, and what is left
-module _ (result before : List ℕ) where
-  pub fits-not : length before < length result → Fits result before NoRoom before
-  unfolding fitted _when_else_
-  fits-not h = record { answers = rw (lt-ltb _ _ h); leaves = refl }
+module _ (v : Versions) (ids before : List ℕ) where
+  abbrev result : List ℕ
+  result = resultFrom (statesOf v ids)
 
-  module _ (h : length result ≤ length before) where
-    by-verdict : (v : Verdict) → readTable result .verdict ≡ v → fitted (length before) result ≡ unless Result v (Used (length result))
-    unfolding fitted _when_else_
-    by-verdict v e = rw (le-ltb _ _ h, e)
+  pub fits-conflict : (id : ℕ) → leastOf v ids ≡ id → (id ≡ 0 → ⊥) → Fits v ids before (Conflict id) before
+  unfolding byNumber _when_else_
+  fits-conflict zero e h = absurd (h refl)
+  fits-conflict (suc id) e h = record { answers = rw e; leaves = refl }
 
-    pub fits-refused : {n place : ℕ} → readTable result .verdict ≡ Refused n place → Fits result before (Result n place) before
-    unfolding unless
-    fits-refused {n} {place} e = record {
-      answers = sym (by-verdict (Refused n place) e);
-      leaves = sym (when-no _ _ (ne-eqb n 0 (λ z. omega (arith, z, some-number result e))));
-    }
+  module _ (none : leastOf v ids ≡ 0) where
+    pub fits-not : length before < length result → Fits v ids before NoRoom before
+    unfolding byNumber fitted _when_else_
+    fits-not h = record { answers = rw (none, lt-ltb _ _ h); leaves = refl }
 
-    pub fits-long : maxBytes < length result → Fits result before (Result 1 0) before
-    fits-long l = fits-refused (ap (λ (r : Reading). r .verdict) (read-long result (or-right (eqb (length result) 0) _ (lt-ltb _ _ l))))
+    module _ (h : length result ≤ length before) where
+      by-verdict : (w : Verdict) → readTable result .verdict ≡ w → byNumber Conflict (leastOf v ids) (fitted (length before) result) ≡ unless Result w (Used (length result))
+      unfolding byNumber fitted _when_else_
+      by-verdict w e = rw (none, le-ltb _ _ h, e)
 
-    pub fits-accepted : readTable result .verdict ≡ Accepted → Fits result before (Used (length result)) (result ++ drop (length result) before)
-    unfolding unless
-    fits-accepted e = record { answers = sym (by-verdict Accepted e); leaves = sym (when-yes _ _ (eq-eqb 0 0 refl)) }
+      pub fits-refused : {n place : ℕ} → readTable result .verdict ≡ Refused n place → Fits v ids before (Result n place) before
+      unfolding unless
+      fits-refused {n} {place} e = record {
+        answers = sym (by-verdict (Refused n place) e);
+        leaves = sym (when-no _ _ (ne-eqb n 0 (λ z. omega (arith, z, some-number result e))));
+      }
+
+      pub fits-long : maxBytes < length result → Fits v ids before (Result 1 0) before
+      fits-long l = fits-refused (ap (λ (r : Reading). r .verdict) (read-long result (or-right (eqb (length result) 0) _ (lt-ltb _ _ l))))
+
+      pub fits-accepted : readTable result .verdict ≡ Accepted → Fits v ids before (Used (length result)) (result ++ drop (length result) before)
+      unfolding unless
+      fits-accepted e = record { answers = sym (by-verdict Accepted e); leaves = sym (when-yes _ _ (eq-eqb 0 0 refl)) }
 
 -- states that are no records add no byte
 flatten-records : (states : List (List ℕ)) → flatten (keep isRecord states) ≡ flatten states

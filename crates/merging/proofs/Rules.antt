@@ -1,8 +1,8 @@
 -- Laws of the rule by which a state is taken. Assumes nothing.
 use Prim.Native.Nat.{ℕ}
-use mathlib.Core.Path.{_≡_, sym, _∙_}
+use mathlib.Core.Path.{_≡_, _∙_}
 use mathlib.Core.List.{List}
-use mathlib.Core.Bool.{Bool, true, false, not}
+use mathlib.Core.Bool.{true, false}
 use Rattle.search.proofs.Choice.{when-yes, when-no}
 use Rattle.slices.specs.Slices.{same}
 use Rattle.merging.specs.Rule.{byStates}
@@ -29,9 +29,3 @@ module _ {A : Type 0} (was first second : List ℕ) (firsts seconds neither : A)
       pub by-neither : same second was ≡ false → byStates was first second firsts seconds neither ≡ neither
       unfolding byStates
       by-neither e = when-no _ _ differ ∙ when-no _ _ changed ∙ when-no _ _ e
-
--- the last test decides whether there is a conflict
-pub by-last : (was first second : List ℕ) (alone : Bool) → same first second ≡ false → same first was ≡ false → same second was ≡ alone
-    → not alone ≡ byStates was first second false false true
-by-last was first second true differ changed e = sym (by-first was first second _ _ _ differ changed e)
-by-last was first second false differ changed e = sym (by-neither was first second _ _ _ differ changed e)

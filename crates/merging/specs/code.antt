@@ -1,4 +1,5 @@
 pub mod Parts
 pub mod Ids
+pub mod Weight
 pub mod Size
 pub mod Judged

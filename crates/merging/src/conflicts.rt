@@ -1,5 +1,5 @@
 // The ids in conflict.
-use crate::states::in_conflict;
+use crate::states::weigh;
 ghost use mathlib.Core.Path.{_≡_};
 ghost use mathlib.Core.Bool.{_&&_};
 ghost use lib.Dec.{ltb};
@@ -9,7 +9,7 @@ ghost use Rattle.merging.specs.Merge.{versions};
 ghost use Rattle.merging.specs.code.Parts.{AllTaken};
 
 // The smaller of two numbers, where 0 stands for none.
-fn lesser(n: u32, m: u32) -> u32
+pub fn lesser(n: u32, m: u32) -> u32
     ensures { λ r. ⌜ r ≡ lesserOf n m ⌝ }
 {
     if n == 0 {
@@ -29,11 +29,7 @@ fn conflict_at(ancestor: &[u8], first: &[u8], second: &[u8], id: u32, above: u32
     if id <= above {
         return 0;
     }
-    if in_conflict(ancestor, first, second, id) {
-        id
-    } else {
-        0
-    }
+    weigh(ancestor, first, second, id).conflict
 }
 
 // The smallest of the ids that is greater than `above` and in conflict, 0 if none is.

@@ -81,10 +81,6 @@ fn merge_accepted<'a>(ancestor: &[u8], first: &'a [u8], second: &'a [u8], out: &
 {
     let mut ids = [0u32; MOST];
     let n = ids_in_order(ancestor, first, second, &mut ids);
-    let id = least_conflict(ancestor, first, second, &ids[..n], 0);
-    if id != 0 {
-        return Merged::Conflict(id);
-    }
     fit(ancestor, first, second, &ids[..n], out)
 }
 

@@ -1,6 +1,8 @@
 // The result: how long it is, its bytes, and whether it fits.
 use crate::Merged;
+use crate::conflicts::lesser;
 use crate::states::taken;
+use crate::states::weigh;
 use slices::put;
 use table::Table;
 use table::Verdict;
@@ -16,10 +18,11 @@ ghost use Rattle.merging.specs.Merge.{versions, endRecord};
 ghost use Rattle.merging.specs.Versions.{three};
 ghost use Rattle.merging.specs.code.Parts.{AllTaken};
 ghost use Rattle.merging.specs.code.Ids.{mostIds};
-ghost use Rattle.merging.specs.code.Size.{statesOf, sizeOf, resultFrom, PutThere, Fits};
+ghost use Rattle.merging.specs.code.Size.{statesOf, sizeOf, PutThere, Fits};
 
-// How long the records taken are in all, and how many they are.
+// The smallest id in conflict, 0 if there is none; how long the records taken are in all, and how many they are.
 pub struct Size {
+    pub conflict: u32,
     pub bytes: usize,
     pub records: usize,
 }
@@ -32,20 +35,26 @@ fn counted(n: usize) -> usize
 }
 
 // Measures the records taken for these ids; a state that is missing adds nothing.
-fn size_of<'a>(ancestor: &[u8], first: &'a [u8], second: &'a [u8], ids: &[u32]) -> Size
+fn size_of(ancestor: &[u8], first: &[u8], second: &[u8], ids: &[u32]) -> Size
     requires { ⌜ AllTaken (now ancestor) (now first) (now second) × (length (now ids) ≤ mostIds) ⌝ }
-    ensures { λ r. ⌜ r ≡ sizeOf (statesOf (versions (ancestor .entry) (first .entry) (second .entry)) (now (ids .entry))) ⌝ }
+    ensures { λ r. ⌜ r ≡ sizeOf (versions (ancestor .entry) (first .entry) (second .entry)) (now (ids .entry)) ⌝ }
 {
+    let mut conflict: u32 = 0;
     let mut bytes: usize = 0;
     let mut records: usize = 0;
     let mut i: usize = 0;
     while i < ids.len() {
-        let n = taken(ancestor, first, second, ids[i]).len();
-        bytes += n;
-        records += counted(n);
+        let weight = weigh(ancestor, first, second, ids[i]);
+        conflict = lesser(conflict, weight.conflict);
+        bytes += weight.bytes;
+        records += counted(weight.bytes);
         i += 1;
     }
-    Size { bytes, records }
+    Size {
+        conflict,
+        bytes,
+        records,
+    }
 }
 
 // The records taken, one after the other from the first byte on; answers where they end.
@@ -87,8 +96,8 @@ fn build<'a>(
     put_u32(out, end, 20_037 + 65_536 * (records as u32));
 }
 
-// 24, then a table's numbers on the result, which is built in a place of its own where it is no longer than a table can be; without a fault
-// it becomes the first bytes of `out`.
+// 32, 24, then a table's numbers on the result, which is built in a place of its own where it is no longer than a table can be; without a
+// fault it becomes the first bytes of `out`.
 pub fn fit<'a>(
     ancestor: &[u8],
     first: &'a [u8],
@@ -97,9 +106,12 @@ pub fn fit<'a>(
     out: &mut [u8],
 ) -> Merged
     requires { ⌜ AllTaken (now ancestor) (now first) (now second) × (length (now ids) ≤ mostIds) ⌝ }
-    ensures { λ r. ⌜ Fits (resultFrom (statesOf (versions (ancestor .entry) (first .entry) (second .entry)) (now (ids .entry)))) (now (out .entry)) r (now (out .exit)) ⌝ }
+    ensures { λ r. ⌜ Fits (versions (ancestor .entry) (first .entry) (second .entry)) (now (ids .entry)) (now (out .entry)) r (now (out .exit)) ⌝ }
 {
     let size = size_of(ancestor, first, second, ids);
+    if size.conflict != 0 {
+        return Merged::Conflict(size.conflict);
+    }
     let n = size.bytes + 4;
     if out.len() < n {
         return Merged::NoRoom;

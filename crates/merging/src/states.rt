@@ -3,9 +3,9 @@ use slices::same;
 use table::u32_from_u16;
 ghost use mathlib.Core.Path.{_≡_};
 ghost use Rattle.table.specs.code.Taken.{Taken};
-ghost use Rattle.merging.specs.Rule.{conflictOf};
 ghost use Rattle.merging.specs.Merge.{versions};
 ghost use Rattle.merging.specs.code.Parts.{AllTaken, StatePart, TakenPart};
+ghost use Rattle.merging.specs.code.Weight.{weightOf};
 
 // The record that bears the id, as part of the table; empty where none does.
 fn state(s: &[u8], id: u32) -> &[u8]
@@ -26,21 +26,41 @@ fn state(s: &[u8], id: u32) -> &[u8]
     &s[0..0]
 }
 
-// Whether the id is changed differently on both sides.
-pub fn in_conflict(ancestor: &[u8], first: &[u8], second: &[u8], id: u32) -> bool
+// What an id counts: itself where it is in conflict, else 0, and the bytes of the state that is taken.
+pub struct Weight {
+    pub conflict: u32,
+    pub bytes: usize,
+}
+
+// Without the record itself; the ancestor is asked only where the copies differ.
+pub fn weigh(ancestor: &[u8], first: &[u8], second: &[u8], id: u32) -> Weight
     requires { ⌜ AllTaken (now ancestor) (now first) (now second) ⌝ }
-    ensures { λ r. ⌜ r ≡ conflictOf (versions (ancestor .entry) (first .entry) (second .entry)) id ⌝ }
+    ensures { λ r. ⌜ r ≡ weightOf (versions (ancestor .entry) (first .entry) (second .entry)) id ⌝ }
 {
     let in_first = state(first, id);
     let in_second = state(second, id);
+    let of_first = Weight {
+        conflict: 0,
+        bytes: in_first.len(),
+    };
     if same(in_first, in_second) {
-        return false;
+        return of_first;
     }
     let was = state(ancestor, id);
     if same(in_first, was) {
-        return false;
+        return Weight {
+            conflict: 0,
+            bytes: in_second.len(),
+        };
     }
-    !same(in_second, was)
+    if same(in_second, was) {
+        of_first
+    } else {
+        Weight {
+            conflict: id,
+            bytes: 0,
+        }
+    }
 }
 
 // The record taken for the id, as part of the copy that holds it, the first if both do; empty where nothing is taken.

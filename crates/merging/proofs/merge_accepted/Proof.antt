@@ -1,20 +1,22 @@
--- A conflict refuses before anything is built.
-use mathlib.Core.Path.{_≡_, refl, ap, sym, _∙_}
+-- The ids in order are the first of the array.
+use mathlib.Core.Path.{refl, ap, sym, _∙_}
 use mathlib.Core.List.{List}
 use Prim.Native.Nat.{ℕ}
 use denote.Ref.{now}
 use lib.ListN.{length}
 use lib.Seq.{length-take-le}
 use native.Mathlib.Omega.{arith}
-use Rattle.merging.specs.Rule.{conflictAbove, least}
+use Rattle.search.specs.Choice.{byNumber}
+use Rattle.merging.specs.Versions.{Versions}
+use Rattle.merging.specs.Rule.{order, conflictAbove}
 use Rattle.merging.specs.Merge.{versions, fitted, bufferAfter}
-use Rattle.merging.specs.code.Size.{statesOf, resultFrom}
-use Rattle.merging.proofs.Judgements.{all-taken, merge-conflict, merge-fitted}
+use Rattle.merging.specs.declared.Merged.the-variants.{Conflict}
+use Rattle.merging.specs.code.Parts.{AllTaken}
+use Rattle.merging.specs.code.Size.{statesOf, leastOf, resultFrom}
+use Rattle.merging.specs.code.Judged.{AllAccepted}
+use Rattle.merging.proofs.Judgements.{all-taken, merge-asked}
 use Rattle.merging.proofs.Results.{result-from}
 use borrow.Author.Needs.{needs}
-use Rattle.merging.specs.Versions.{Versions}
-use Rattle.merging.specs.code.Parts.{AllTaken}
-use Rattle.merging.specs.code.Judged.{AllAccepted}
 use Rattle.merging.proofs.merge_accepted.Statement.{statement}
 use Rattle.merging.proofs.merge_accepted.Tie as tie
 
@@ -35,41 +37,28 @@ ids-in-order-requires c κs = (held (c .before .before) (c .before .before .befo
 array-share-prefix-ids : tie.Need-array-share-prefix-ids
 array-share-prefix-ids c = search needs
 
-slice-aggregate-least-conflict : tie.Need-slice-aggregate-least-conflict
-slice-aggregate-least-conflict c = let w = c .before .before .ids-in-order in sym (length-take-le (w .result) (w .last .1 .1 .1 .0) (w .ensures .few))
-
-least-conflict-requires : tie.Need-least-conflict-requires
-least-conflict-requires c κs = held (c .before .before .before .before .before) (c .before .before .before .before .before .before .before .before .pre)
-
-returns : tie.Need-returns
-unfolding conflictAbove
-returns c = let s = c .before .before .before .before .before .before .before .before .before .before in
-    merge-conflict (of (c .before .before .before .before .before .before .before .before .before .before)) (now (s .args .out)) (s .pre) (c .before .least-conflict .result)
-    (c .before .least-conflict .ensures ∙ ap (least _) (c .before .before .before .before .ids-in-order .ensures .numbers)) (c .if1 .taken)
-
-array-share-prefix-ids-2 : tie.Need-array-share-prefix-ids-2
-array-share-prefix-ids-2 c = search needs
-
 slice-aggregate-fit : tie.Need-slice-aggregate-fit
-slice-aggregate-fit c = let w = c .before .before .before .before .before .ids-in-order in sym (length-take-le (w .result) (w .last .1 .1 .1 .0) (w .ensures .few))
+slice-aggregate-fit c = let w = c .before .before .ids-in-order in sym (length-take-le (w .result) (w .last .1 .1 .1 .0) (w .ensures .few))
 
 fit-requires : tie.Need-fit-requires
-fit-requires c κs = let w = c .before .before .before .before .before .before .ids-in-order in
-    (held (c .before .before .before .before .before .before .before .before .before) (c .before .before .before .before .before .before .before .before .before .before .before .before .pre), omega (arith, length-take-le (w .result) (w .last .1 .1 .1 .0) (w .ensures .few), w .ensures .few))
+fit-requires c κs = let w = c .before .before .before .ids-in-order in
+    (held (c .before .before .before .before .before .before) (c .before .before .before .before .before .before .before .before .before .pre), omega (arith, length-take-le (w .result) (w .last .1 .1 .1 .0) (w .ensures .few), w .ensures .few))
 
 same-length : tie.Need-same-length
 same-length c = search needs
 
-returns-2 : tie.Need-returns-2
+returns : tie.Need-returns
 unfolding conflictAbove
-returns-2 c = let s = c .before .before .before .before .before .before .before .before .before .before .before .before .before .before .before in
-    let v = of (c .before .before .before .before .before .before .before .before .before .before .before .before .before .before .before) in
-    let w = c .before .before .before .before .before .before .before .before .before .ids-in-order in
-    let none : conflictAbove v 0 ≡ 0 = sym (c .before .before .before .before .before .before .least-conflict .ensures ∙ ap (least _) (w .ensures .numbers)) ∙ c .before .before .before .before .before .if1 .left in
+returns c = let s = c .before .before .before .before .before .before .before .before .before .before .before .before in
+    let v = of s in
+    let w = c .before .before .before .before .before .before .ids-in-order in
+    let f = c .before .before .fit in
+    let out = now (s .args .out) in
     let is = ap (λ (ids : List ℕ). resultFrom (statesOf v ids)) (w .ensures .numbers) ∙ result-from v in
     record {
-      answers = c .before .before .fit .ensures .answers ∙ ap (fitted (length (now (s .args .out)))) is ∙ sym (merge-fitted v (now (s .args .out)) (s .pre) none);
-      leaves = c .before .before .fit .ensures .leaves ∙ ap (λ (r : List ℕ). bufferAfter (c .before .before .fit .result) r (now (s .args .out))) is;
+      answers = f .ensures .answers ∙ ap (λ (ids : List ℕ). byNumber Conflict (leastOf v ids) (fitted (length out) (resultFrom (statesOf v ids)))) (w .ensures .numbers)
+          ∙ ap (λ (r : List ℕ). byNumber Conflict (leastOf v (order v)) (fitted (length out) r)) (result-from v) ∙ sym (merge-asked v (length out) (s .pre));
+      leaves = f .ensures .leaves ∙ ap (λ (r : List ℕ). bufferAfter (f .result) r out) is;
     }
 
 pub merge-accepted-spec : {M : Type 1} → statement M
@@ -79,11 +68,7 @@ merge-accepted-spec =
     slice-aggregate-ids-in-order
     ids-in-order-requires
     array-share-prefix-ids
-    slice-aggregate-least-conflict
-    least-conflict-requires
-    returns
-    array-share-prefix-ids-2
     slice-aggregate-fit
     fit-requires
     same-length
-    returns-2)
+    returns)
