@@ -354,9 +354,9 @@ glpk() {
 # The gate over checks that are stood in for: it locks while it proves, ends with a check's status, and its last line is rt's.
 gate() {
     local checks=("$copy"/{tests/{wrong_uses,commands,table_commands,merge_command,run_c}.sh,compare/{sanitized,run,run_report}.sh})
-    local samples=(crates/{sample/stdin,report/stdin,table_merge/data/ancestor.table}) one
-    mkdir -p "$copy"/crates/{sample,report,table_merge/data}
+    local samples=(crates/{sample,report,save_story,merge_story}/stdin crates/table_merge/data/ancestor.table) one
     for one in "${samples[@]}"; do
+        mkdir -p "$copy/${one%/*}"
         cp "$copy/examples/sample.table" "$copy/$one"
     done
     for one in "$tools"/{git,shellcheck,python3} "${checks[@]}"; do
