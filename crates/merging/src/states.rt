@@ -32,7 +32,7 @@ pub struct Weight {
     pub bytes: usize,
 }
 
-// Without the record itself; the ancestor is asked only where the copies differ.
+// Weighs an id without handing its record back; the ancestor is looked at only where the copies differ.
 pub fn weigh(ancestor: &[u8], first: &[u8], second: &[u8], id: u32) -> Weight
     requires { ⌜ AllTaken (now ancestor) (now first) (now second) ⌝ }
     ensures { λ r. ⌜ r ≡ weightOf (versions (ancestor .entry) (first .entry) (second .entry)) id ⌝ }
