@@ -130,13 +130,15 @@ returns-4 c = let w = c .before .before .before .before .before .before .before 
     let s = c .before .before .before .before .before .before .before .before .before .before .before .before .before .before .before .before .before .before .before .before .before .before .before in
     let is : readTable (whole w) .verdict ≡ Accepted = ap (λ (l : List ℕ). readTable l .verdict) (sym (built w)) ∙ sym (c .before .before .before .before .before .before .before .judge .ensures) ∙ c .before .before .before .before .before .enum-told .given .1 in
     let left = c .before .before .put .ensures ∙ ap (λ (l : List ℕ). splice (now (s .args .out)) 0 (length l) l) (built w) ∙ splice-first (now (s .args .out)) (whole w) in
-    rw (← whole-length w, left) (fits-accepted (of s) (now (s .args .ids)) (now (s .args .out)) (sym (ap (λ (x : Size). x .conflict) (c .before .before .before .before .before .before .before .before .before .before .before .before .before .before .before .before .before .size-of .ensures)) ∙ c .before .before .before .before .before .before .before .before .before .before .before .before .before .before .before .if1 .left) (omega (arith, whole-length w, c .before .before .before .before .before .before .before .before .before .before .before .before .before .if2 .left)) is)
+    let none = sym (ap (λ (x : Size). x .conflict) (c .before .before .before .before .before .before .before .before .before .before .before .before .before .before .before .before .before .size-of .ensures)) ∙ c .before .before .before .before .before .before .before .before .before .before .before .before .before .before .before .if1 .left in
+    rw (← whole-length w, left) (fits-accepted (of s) (now (s .args .ids)) (now (s .args .out)) none (omega (arith, whole-length w, c .before .before .before .before .before .before .before .before .before .before .before .before .before .if2 .left)) is)
 
 returns-5 : tie.Need-returns-5
 returns-5 c = let w = c .before .before .before .before .before .before in
     let s = c .before .before .before .before .before .before .before .before .before .before .before .before .before .before .before .before .before .before .before in
     let is = ap (λ (l : List ℕ). readTable l .verdict) (sym (built w)) ∙ sym (c .before .before .before .judge .ensures) ∙ c .before .number .given .1 in
-    fits-refused (of s) (now (s .args .ids)) (now (s .args .out)) (sym (ap (λ (x : Size). x .conflict) (c .before .before .before .before .before .before .before .before .before .before .before .before .before .size-of .ensures)) ∙ c .before .before .before .before .before .before .before .before .before .before .before .if1 .left) (omega (arith, whole-length w, c .before .before .before .before .before .before .before .before .before .if2 .left)) is
+    let none = sym (ap (λ (x : Size). x .conflict) (c .before .before .before .before .before .before .before .before .before .before .before .before .before .size-of .ensures)) ∙ c .before .before .before .before .before .before .before .before .before .before .before .if1 .left in
+    fits-refused (of s) (now (s .args .ids)) (now (s .args .out)) none (omega (arith, whole-length w, c .before .before .before .before .before .before .before .before .before .if2 .left)) is
 
 pub fit-spec : {M : Type 1} → statement M
 fit-spec =

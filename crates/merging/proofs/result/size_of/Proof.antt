@@ -12,7 +12,7 @@ use native.Mathlib.Omega.{arith}
 use Rattle.search.specs.Choice.{_when_else_}
 use Rattle.search.specs.Lists.{keep}
 use Rattle.search.proofs.Choice.{when-cases}
-use Rattle.merging.specs.Versions.{three}
+use Rattle.merging.specs.Versions.{Versions, three}
 use Rattle.merging.specs.Rule.{takenOf, conflictOf, lesser, least}
 use Rattle.merging.specs.Merge.{versions, isRecord}
 use Rattle.merging.specs.declared.states.Weight.{Weight}
@@ -38,8 +38,15 @@ abbrev μ-loop : tie.MeasureT-loop
 same-size : {a b x y m n : ℕ} → a ≡ b → x ≡ y → m ≡ n → _≡_ {A = Size} (record { conflict = a; bytes = x; records = m }) (record { conflict = b; bytes = y; records = n })
 same-size e f g = rw (e, f, g)
 
+-- the three tables
+abbrev of : tie.Start Inv-loop μ-loop → Versions
+of s = versions (s .args .ancestor) (s .args .first) (s .args .second)
+
+abbrev start : tie.After-weigh Inv-loop μ-loop → tie.Start Inv-loop μ-loop
+start c = c .before .before .before .before .before .before .before .before
+
 -- what is weighed is the state that is taken, which is short, and counts at most once
-weighed : (c : tie.After-weigh Inv-loop μ-loop) → c .weigh .result .bytes ≡ length (takenOf (three (now (c .before .before .before .before .before .before .before .before .args .ancestor)) (now (c .before .before .before .before .before .before .before .before .args .first)) (now (c .before .before .before .before .before .before .before .before .args .second))) (getD (now (c .before .before .before .before .before .before .before .before .args .ids)) (c .before .before .before .loop .i) 0))
+weighed : (c : tie.After-weigh Inv-loop μ-loop) → c .weigh .result .bytes ≡ length (takenOf (of (start c)) (getD (now (start c .args .ids)) (c .before .before .before .loop .i) 0))
 weighed c = ap (λ (w : Weight). w .bytes) (c .weigh .ensures) ∙ weight-bytes _ _
 
 short : (c : tie.After-weigh Inv-loop μ-loop) → c .weigh .result .bytes ≤ 176
