@@ -27,9 +27,10 @@ use Rattle.slices.proofs.Records.{length-records}
 use Rattle.slices.proofs.Sameness.{same-yes}
 use Rattle.merging.specs.Versions.{three, stateOf, idsOf}
 use Rattle.merging.specs.Rule.{takenOf, among, joined, order}
-use Rattle.merging.specs.Merge.{isRecord, takenRecords, endRecord, resultOf}
+use Rattle.table.specs.Record.{endRecord}
+use Rattle.merging.specs.Merge.{isRecord, takenRecords, resultOf}
 use Rattle.merging.proofs.Rules.{by-alike}
-use Rattle.merging.proofs.Results.{end-length}
+use Rattle.table.proofs.Words.{end-length}
 use Rattle.merging.proofs.Picks.{idIn, pick, pick-all}
 use Rattle.merging.proofs.Copies.{recordsIn, in-parts, state-picked, ids-borne, records-alone, all-records}
 use Rattle.merging.proofs.Tables.{bytes-of, end-mark-word, end-count}

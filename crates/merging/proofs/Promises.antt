@@ -24,7 +24,8 @@ use Rattle.slices.proofs.Parts.{rowIn, flatten-append}
 use Rattle.slices.proofs.Sameness.{same-true, same-yes, same-no}
 use Rattle.merging.specs.Versions.{Versions, swapped, stateOf, idsOf}
 use Rattle.merging.specs.Rule.{byStates, takenOf, conflictOf, among, order, conflictAbove}
-use Rattle.merging.specs.Merge.{isRecord, takenRecords, staying, endRecord, resultOf}
+use Rattle.table.specs.Record.{endRecord}
+use Rattle.merging.specs.Merge.{isRecord, takenRecords, staying, resultOf}
 use Rattle.merging.proofs.Leasts.{least-le, least-is}
 use Rattle.merging.proofs.Rules.{by-alike, by-second, by-first, by-neither}
 use Rattle.merging.proofs.Lookup.{state-missing}

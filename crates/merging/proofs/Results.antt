@@ -1,5 +1,5 @@
--- The result's end record, its length, and what is answered of it. Assumes nothing.
-use Prim.Native.Nat.{ℕ, zero, suc, _+_, _*_, _/_, _%_, _<_, _≤_}
+-- The result's length, and what is answered of it. Assumes nothing.
+use Prim.Native.Nat.{ℕ, zero, suc, _+_, _<_, _≤_}
 use native.Mathlib.Omega.{arith}
 use mathlib.Core.Path.{_≡_, refl, ap, sym, _∙_}
 use mathlib.Core.List.{List, [], _∷_, _++_, flatten}
@@ -10,36 +10,22 @@ use Rattle.search.specs.Choice.{_when_else_, byNumber}
 use Rattle.search.specs.Lists.{keep}
 use Rattle.search.proofs.Choice.{when-yes, when-no, when-cases}
 use Rattle.table.specs.Limits.{maxBytes}
-use Rattle.table.specs.Bytes.{bytesOf}
+use Rattle.table.specs.Record.{endRecord}
 use Rattle.table.specs.Read.{unless, readTable}
 use Rattle.table.specs.declared.Verdict.{Verdict}
 use Rattle.table.specs.declared.Verdict.the-variants.{Accepted, Refused}
 use Rattle.table.specs.declared.Reading.{Reading}
+use Rattle.table.proofs.Words.{end-length}
 use Rattle.table.proofs.Firsts.{or-right}
 use Rattle.table.proofs.Steps.{read-long}
 use Rattle.table.proofs.Fields.{some-number}
 use Rattle.merging.specs.Versions.{Versions, three}
 use Rattle.merging.specs.Rule.{takenOf, order}
-use Rattle.merging.specs.Merge.{isRecord, takenRecords, endRecord, resultOf, fitted}
+use Rattle.merging.specs.Merge.{isRecord, takenRecords, resultOf, fitted}
 use Rattle.merging.specs.declared.Merged.the-variants.{Used, Conflict, NoRoom, Result}
 use Rattle.merging.specs.code.Parts.{AllTaken}
 use Rattle.merging.specs.code.Size.{statesOf, leastOf, resultFrom, Fits}
 use Rattle.merging.proofs.Sizes.{taken-short, more-bytes}
-
--- the end record as one number
-pub end-bytes : (n : ℕ) → n < 65536 → bytesOf 4 (20037 + 65536 * n) ≡ endRecord n
-unfolding bytesOf
-end-bytes n h =
-    let x = 20037 + 65536 * n in
-    let first : x % 256 ≡ 20037 % 256 = omega arith in
-    let next : x / 256 ≡ 78 + 256 * n = omega arith in
-    let second : (78 + 256 * n) % 256 ≡ 20037 / 256 % 256 = omega arith in
-    let rest : (78 + 256 * n) / 256 ≡ n = omega arith in
-    rw (first, next, second, rest)
-
-pub end-length : (n : ℕ) → length (endRecord n) ≡ 4
-unfolding bytesOf
-end-length n = refl
 
 -- how long all of it is
 pub result-length : (states : List (List ℕ)) → length (resultFrom states) ≡ length (flatten states) + 4

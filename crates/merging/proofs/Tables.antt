@@ -40,9 +40,10 @@ use Rattle.slices.proofs.Records.{recordsFrom, length-records, records-at, part
 use Rattle.slices.proofs.Sound.{Sound, record-sound, TooMuch, too-much}
 use Rattle.merging.specs.Versions.{Versions, stateOf, idsOf}
 use Rattle.merging.specs.Rule.{takenOf, among, joined, order}
-use Rattle.merging.specs.Merge.{isRecord, takenRecords, endRecord, resultOf}
+use Rattle.table.specs.Record.{endRecord}
+use Rattle.merging.specs.Merge.{isRecord, takenRecords, resultOf}
 use Rattle.merging.proofs.Sizes.{by-cases}
-use Rattle.merging.proofs.Results.{end-length}
+use Rattle.table.proofs.Words.{end-length}
 use Rattle.merging.proofs.Orders.{ids-length}
 use Rattle.merging.proofs.Picks.{idIn, pick}
 use Rattle.merging.proofs.Copies.{read-as, recordsIn, in-parts, state-picked, alone-apart}

@@ -8,7 +8,7 @@ use lib.Dec.{eqb, ltb}
 use denote.Ref.{RefT, ptr, now}
 use Rattle.search.specs.Choice.{_when_else_, byNumber}
 use Rattle.search.specs.Lists.{keep}
-use Rattle.table.specs.Bytes.{bytesOf}
+use Rattle.table.specs.Record.{endRecord}
 use Rattle.table.specs.Read.{unless, readTable}
 use Rattle.merging.specs.Versions.{Versions, three, byVersions, startOf, idsOf}
 use Rattle.merging.specs.Rule.{byRule, takenOf, order, conflictAbove}
@@ -50,10 +50,6 @@ takenRecords v = keep isRecord (map (takenOf v) (order v))
 -- those of them whose ids the ancestor has, one after the other: they stand first
 abbrev pub staying : Versions → List ℕ
 staying v = flatten (keep isRecord (map (takenOf v) (idsOf (v .ancestor))))
-
--- the end record: its mark `EN`, and the number of chains
-abbrev pub endRecord : ℕ → List ℕ
-endRecord n = bytesOf 2 20037 ++ bytesOf 2 n
 
 -- the result: these records, one after the other, and the end record with their number
 unfoldable pub resultOf : Versions → List ℕ

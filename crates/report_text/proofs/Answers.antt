@@ -23,8 +23,9 @@ use Rattle.misses.specs.Misses.{missesAt, missesOf}
 use Rattle.misses.proofs.Answers.{misses-accepted}
 use Rattle.misses.proofs.Answers.{chain-found as misses-found}
 use Rattle.report_text.specs.Report.{header, missRun, lineText, lineOf, refusedText, reportOf, longest, Reported}
-use Rattle.report_text.specs.code.Writing.{Wrote, lineIn, linesIn}
-use Rattle.report_text.proofs.Writes.{wrote-none}
+use Rattle.slices.specs.code.Wrote.{Wrote}
+use Rattle.report_text.specs.code.Writing.{lineIn, linesIn}
+use Rattle.slices.proofs.Writes.{wrote-none}
 
 flatMap-more : {A : Type 0} (f : A → List ℕ) (l : List A) (a : A) → flatMap f (l ++ (a ∷ [])) ≡ flatMap f l ++ f a
 unfolding flatMap

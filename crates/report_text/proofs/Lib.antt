@@ -1,4 +1,3 @@
 pub mod Answers
 pub mod Decimals
 pub mod Refusals
-pub mod Writes

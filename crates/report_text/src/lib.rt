@@ -18,7 +18,8 @@ ghost use lib.ListN.{length};
 ghost use Rattle.table.specs.code.Taken.{Taken};
 ghost use Rattle.table.specs.Read.{tableOf};
 ghost use Rattle.report_text.specs.Report.{header, refusedText, longest, Reported};
-ghost use Rattle.report_text.specs.code.Writing.{Wrote, linesIn};
+ghost use Rattle.slices.specs.code.Wrote.{Wrote};
+ghost use Rattle.report_text.specs.code.Writing.{linesIn};
 
 // The longest line, and the longest report: the header and a line for each chain.
 const LINE: usize = 68;

@@ -19,7 +19,8 @@ ghost use lib.ListN.{length};
 ghost use Rattle.table.specs.code.Taken.{Taken};
 ghost use Rattle.table.specs.Read.{tableOf};
 ghost use Rattle.report_text.specs.Report.{afterSpace, refusalText, missedText, answersText};
-ghost use Rattle.report_text.specs.code.Writing.{Wrote, Bounded, lineIn};
+ghost use Rattle.slices.specs.code.Wrote.{Wrote};
+ghost use Rattle.report_text.specs.code.Writing.{Bounded, lineIn};
 
 // The run of activations whose misses the report gives.
 const MISS_RUN: u32 = 10;

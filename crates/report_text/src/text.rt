@@ -7,7 +7,7 @@ ghost use lib.IntN.{natAbs};
 ghost use lib.ListN.{length};
 ghost use Rattle.report_text.specs.Numbers.{decimal, signed};
 ghost use Rattle.report_text.specs.Report.{afterSpace, refusalText};
-ghost use Rattle.report_text.specs.code.Writing.{Wrote};
+ghost use Rattle.slices.specs.code.Wrote.{Wrote};
 
 pub fn put_byte(out: &mut [u8], at: usize, b: u8) -> usize
     requires { ⌜ at + 1 ≤ length (now out) ⌝ }

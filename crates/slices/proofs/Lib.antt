@@ -1,5 +1,6 @@
 pub mod Sameness
 pub mod Splices
+pub mod Writes
 pub mod Bytes
 pub mod Moved
 pub mod Parts

@@ -7,6 +7,7 @@ use native.Mathlib.Nat.{pow-suc}
 use lib.ListN.{length, getD, length-append}
 use lib.Seq.{getD-append-seam}
 use Rattle.table.specs.Bytes.{word, bytesOf, Bytes}
+use Rattle.table.specs.Record.{endRecord}
 
 -- a number of m + n bytes is one of m bytes and one of n bytes after it
 pub word-split : (m n : ℕ) (s : List ℕ) (at : ℕ) → word (m + n) s at ≡ word m s at + 256 ^ m * word n s (at + m)
@@ -58,3 +59,25 @@ word-bytes (suc n) x l r h =
     ap (λ (i : ℕ). word n (l ++ x % 256 ∷ rest) i) g ∙ ap (λ (s : List ℕ). word n s (length first)) f
     ∙ word-bytes n (x / 256) first r (omega (arith, pow-suc 256 n)) in
     omega (arith, e, w)
+
+-- two numbers in one: the bytes of the first, and those of the second after them
+pub bytes-join : (m n x y : ℕ) → x < 256 ^ m → bytesOf (m + n) (x + 256 ^ m * y) ≡ bytesOf m x ++ bytesOf n y
+unfolding bytesOf
+bytes-join zero n x y h =
+    let e : 0 + n ≡ n = omega arith in
+    let f : x + 256 ^ 0 * y ≡ y = omega arith in
+    rw (e, f)
+bytes-join (suc m) n x y h =
+    let e : suc m + n ≡ suc (m + n) = omega arith in
+    let p = ap (λ (q : ℕ). q * y) (pow-suc 256 m) in
+    let first : (x + 256 ^ suc m * y) % 256 ≡ x % 256 = omega (arith, p) in
+    let rest : (x + 256 ^ suc m * y) / 256 ≡ x / 256 + 256 ^ m * y = omega (arith, p) in
+    rw (e, first, rest, bytes-join m n (x / 256) y (omega (arith, h, pow-suc 256 m)))
+
+-- so the end record is one number, of four bytes
+pub end-bytes : (n : ℕ) → bytesOf 4 (20037 + 65536 * n) ≡ endRecord n
+end-bytes n = bytes-join 2 2 20037 n (omega arith)
+
+pub end-length : (n : ℕ) → length (endRecord n) ≡ 4
+unfolding bytesOf
+end-length n = refl

@@ -3,7 +3,7 @@ use Prim.Native.Nat.{ℕ, zero, suc, _+_, _*_, _-_}
 use mathlib.Core.List.{List, [], _∷_, _++_}
 use lib.ListN.{length, getD, take, replicate}
 use Rattle.table.specs.Limits.{maxDistances, maxTasks}
-use Rattle.table.specs.Bytes.{word}
+use Rattle.table.specs.Bytes.{word, bytesOf}
 use Rattle.table.specs.declared.Row.{Row}
 
 -- The fixed part of the chain record at `at`, 16 bytes, the mark first: where each field stands, and what it holds
@@ -94,6 +94,10 @@ countAt s at = word 2 s (countPlace at)
 -- what follows it
 abbrev pub afterEnd : ℕ → ℕ
 afterEnd at = at + 4
+
+-- its bytes: its mark `EN`, and the number of chains
+abbrev pub endRecord : ℕ → List ℕ
+endRecord n = bytesOf 2 20037 ++ bytesOf 2 n
 
 -- n numbers from `at` on, one every `step` bytes
 unfoldable pub spaced : (ℕ → ℕ) → ℕ → ℕ → ℕ → List ℕ

@@ -37,6 +37,15 @@ pub fn count_at(s: &[u8], at: usize) -> usize
     s[at] as usize
 }
 
+// The two bytes of x from `at` on, the smaller first.
+pub fn put_u16(s: &mut [u8], at: usize, x: u16)
+    requires { ⌜ at + 2 ≤ length (now s) ⌝ }
+    ensures { λ _. ⌜ now (s .exit) ≡ take at (now (s .entry)) ++ bytesOf 2 x ++ drop (at + 2) (now (s .entry)) ⌝ }
+{
+    s[at] = (x % 256) as u8;
+    s[at + 1] = (x / 256 % 256) as u8;
+}
+
 // The four bytes of x from `at` on, the smallest first.
 pub fn put_u32(s: &mut [u8], at: usize, x: u32)
     requires { ⌜ at + 4 ≤ length (now s) ⌝ }

@@ -62,7 +62,7 @@ fn tasks_of(s: &[u8], from: usize, n: usize) -> Tasks
 }
 
 // The row of the chain record that stands at `at`.
-fn row_of(s: &[u8], at: usize) -> Row
+pub fn row_at(s: &[u8], at: usize) -> Row
     requires { ⌜ Stands (now s) at ⌝ }
     ensures { λ r. ⌜ r ≡ rowAt (now (s .entry)) at ⌝ }
 {
@@ -96,7 +96,7 @@ fn rows(s: &[u8]) -> Table
     let mut at: usize = 0;
     while t.count < chains {
         let chain = t.count;
-        let row = row_of(s, at);
+        let row = row_at(s, at);
         at = at + record_length(s, at);
         t.tasks = t.tasks + row.tasks;
         t.row[chain] = row;

@@ -40,7 +40,7 @@ pub fn mark_of(m: u16) -> Mark
 }
 
 // Whether x lies outside low to high.
-fn outside(low: u32, high: u32, x: u32) -> bool
+pub fn outside(low: u32, high: u32, x: u32) -> bool
     ensures { λ r. ⌜ r ≡ outsideOf low high x ⌝ }
 {
     x < low || high < x
@@ -62,7 +62,7 @@ fn same_id(ids: &[u16; Table::CHAINS], count: usize, id: u16) -> usize
 }
 
 // Whether the id is 0 or used earlier.
-fn id_wrong(id: u16, ids: &[u16; Table::CHAINS], before: Before) -> bool
+pub fn id_wrong(id: u16, ids: &[u16; Table::CHAINS], before: Before) -> bool
     requires { ⌜ before .count ≤ maxChains ⌝ }
     ensures { λ r. ⌜ ((t : Table) → Keeps (now (ids .entry)) before t → r ≡ (eqb id 0 || used t id)) ⌝ }
 {

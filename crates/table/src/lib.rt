@@ -14,12 +14,17 @@ mod reader;
 mod record;
 mod wide;
 
+pub use before::Before;
+pub use bytes::put_u16;
 pub use bytes::put_u32;
 pub use bytes::u16_at;
 pub use bytes::u32_at;
 pub use bytes::u64_at;
 pub use decode::read;
+pub use decode::row_at;
+pub use fault::id_wrong;
 pub use fault::mark_of;
+pub use fault::outside;
 pub use places::count;
 pub use places::find;
 pub use places::place;
@@ -36,12 +41,14 @@ pub use record::overload_at;
 pub use record::priority_at;
 pub use record::record_length;
 pub use record::tasks_at;
+pub use wide::u16_from_u8;
 pub use wide::u32_from_u8;
 pub use wide::u32_from_u16;
 pub use wide::u64_from_u8;
 pub use wide::u64_from_u32;
 
-// A chain as it is stored: `listed` distances and `tasks` tasks; places past a count are 0.
+// A chain as it is stored: `listed` distances and `tasks` tasks; places past a count are 0. A list of rows is lent by C callers too.
+#[repr(C)]
 pub struct Row {
     pub id: u16,
     pub kind: u8,

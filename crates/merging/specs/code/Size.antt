@@ -9,7 +9,8 @@ use Rattle.search.specs.Choice.{byNumber}
 use Rattle.search.specs.Lists.{keep}
 use Rattle.merging.specs.Versions.{Versions}
 use Rattle.merging.specs.Rule.{takenOf, conflictOf, least}
-use Rattle.merging.specs.Merge.{isRecord, endRecord, fitted, bufferAfter}
+use Rattle.table.specs.Record.{endRecord}
+use Rattle.merging.specs.Merge.{isRecord, fitted, bufferAfter}
 use Rattle.merging.specs.declared.result.Size.{Size}
 use Rattle.merging.specs.declared.Merged.{Merged}
 use Rattle.merging.specs.declared.Merged.the-variants.{Conflict}

@@ -7,9 +7,10 @@ use denote.Ref.{now}
 use borrow.Author.Needs.{needs}
 use Rattle.table.specs.Read.{tableOf}
 use Rattle.report_text.specs.Report.{header}
-use Rattle.report_text.specs.code.Writing.{Wrote, linesIn}
+use Rattle.slices.specs.code.Wrote.{Wrote}
+use Rattle.report_text.specs.code.Writing.{linesIn}
 use Rattle.report_text.proofs.Answers.{lines-none, lines-on}
-use Rattle.report_text.proofs.Writes.{wrote-on}
+use Rattle.slices.proofs.Writes.{wrote-on}
 use Rattle.report_text.proofs.put_lines.Statement.{statement}
 use Rattle.report_text.proofs.put_lines.Tie as tie
 

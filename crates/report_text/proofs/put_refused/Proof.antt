@@ -1,7 +1,7 @@
 -- The word, the number, the place and the line feed.
 use native.Mathlib.Omega.{arith}
 use Rattle.report_text.proofs.Decimals.{decimal-fits}
-use Rattle.report_text.proofs.Writes.{wrote-on}
+use Rattle.slices.proofs.Writes.{wrote-on}
 use borrow.Author.Needs.{needs}
 use Rattle.report_text.proofs.put_refused.Statement.{statement}
 use Rattle.report_text.proofs.put_refused.Tie as tie

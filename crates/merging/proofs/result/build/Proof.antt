@@ -7,9 +7,10 @@ use lib.ListN.{length, take, drop}
 use lib.Seq.{take-at}
 use native.Mathlib.Omega.{arith}
 use Rattle.table.specs.Bytes.{bytesOf}
-use Rattle.merging.specs.Merge.{versions, endRecord}
+use Rattle.table.specs.Record.{endRecord}
+use Rattle.merging.specs.Merge.{versions}
 use Rattle.merging.specs.code.Size.{statesOf}
-use Rattle.merging.proofs.Results.{end-bytes}
+use Rattle.table.proofs.Words.{end-bytes}
 use borrow.Author.Needs.{needs}
 use Rattle.merging.proofs.result.build.Statement.{statement}
 use Rattle.merging.proofs.result.build.Tie as tie
@@ -38,7 +39,7 @@ returns c = let s = c .before .before .before .before .before .before .before .b
     let records = flatten (statesOf (versions (s .args .ancestor) (s .args .first) (s .args .second)) (now (s .args .ids))) in
     let all = records ++ endRecord (s .args .records) in
     let after = c .before .before .put-u32 .ensures ∙ ap (λ (l : List ℕ). l ++ bytesOf 4 (20037 + 65536 * s .args .records) ++ drop (w .result + 4) (w .last .1 .1 .1 .1 .0)) (w .ensures .first)
-    ∙ ap (λ (l : List ℕ). records ++ l ++ drop (w .result + 4) (w .last .1 .1 .1 .1 .0)) (end-bytes (s .args .records) (s .pre .2)) in
+    ∙ ap (λ (l : List ℕ). records ++ l ++ drop (w .result + 4) (w .last .1 .1 .1 .1 .0)) (end-bytes (s .args .records)) in
     record { first = ap (take (length all)) after ∙ take-at all (drop (w .result + 4) (w .last .1 .1 .1 .1 .0)) (length all) refl }
 
 pub build-spec : {M : Type 1} → statement M

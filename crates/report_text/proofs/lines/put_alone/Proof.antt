@@ -4,7 +4,7 @@ use mathlib.Core.Path.{_≡_, ap, sym, subst, _∙_}
 use mathlib.Core.Logic.{⊎-elim}
 use denote.Ref.{now}
 use Rattle.report_text.specs.Report.{afterSpace, refusalText}
-use Rattle.report_text.specs.code.Writing.{Wrote}
+use Rattle.slices.specs.code.Wrote.{Wrote}
 use Rattle.report_text.proofs.Refusals.{text-16, text-17}
 use borrow.Author.Needs.{needs}
 use Rattle.report_text.proofs.lines.put_alone.Statement.{statement}

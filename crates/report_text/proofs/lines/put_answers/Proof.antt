@@ -6,8 +6,8 @@ use mir.Syntax.{w32}
 use mir.Facts.{toZ-ofZ}
 use Rattle.report_text.specs.Numbers.{signed}
 use Rattle.report_text.specs.Report.{afterSpace, answersText}
-use Rattle.report_text.specs.code.Writing.{Wrote}
-use Rattle.report_text.proofs.Writes.{wrote-on}
+use Rattle.slices.specs.code.Wrote.{Wrote}
+use Rattle.slices.proofs.Writes.{wrote-on}
 use borrow.Author.Needs.{needs}
 use Rattle.report_text.proofs.lines.put_answers.Statement.{statement}
 use Rattle.report_text.proofs.lines.put_answers.Tie as tie

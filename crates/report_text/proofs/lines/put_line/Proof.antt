@@ -13,10 +13,11 @@ use Rattle.windows.specs.Latency.{boundOf}
 use Rattle.misses.specs.Misses.{missesAt}
 use Rattle.windows.specs.declared.Windows.{Windows}
 use Rattle.report_text.specs.Report.{missRun, lineText}
-use Rattle.report_text.specs.code.Writing.{Wrote, Bounded}
+use Rattle.slices.specs.code.Wrote.{Wrote}
+use Rattle.report_text.specs.code.Writing.{Bounded}
 use Rattle.report_text.proofs.Decimals.{decimal-fits}
 use Rattle.report_text.proofs.Refusals.{bounded}
-use Rattle.report_text.proofs.Writes.{wrote-on}
+use Rattle.slices.proofs.Writes.{wrote-on}
 use borrow.Author.Needs.{needs}
 use Rattle.report_text.proofs.lines.put_line.Statement.{statement}
 use Rattle.report_text.proofs.lines.put_line.Tie as tie

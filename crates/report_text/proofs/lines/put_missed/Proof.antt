@@ -3,7 +3,7 @@ use native.Mathlib.Omega.{arith}
 use mathlib.Core.Path.{sym, subst}
 use denote.Ref.{now}
 use Rattle.report_text.specs.Report.{afterSpace, missedText}
-use Rattle.report_text.specs.code.Writing.{Wrote}
+use Rattle.slices.specs.code.Wrote.{Wrote}
 use borrow.Author.Needs.{needs}
 use Rattle.report_text.proofs.lines.put_missed.Statement.{statement}
 use Rattle.report_text.proofs.lines.put_missed.Tie as tie

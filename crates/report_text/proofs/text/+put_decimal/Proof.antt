@@ -6,9 +6,9 @@ use mathlib.Core.List.{[], _∷_, _++_}
 use denote.Ref.{now}
 use lib.ListN.{length, length-append}
 use Rattle.report_text.specs.Numbers.{decimal}
-use Rattle.report_text.specs.code.Writing.{Wrote}
+use Rattle.slices.specs.code.Wrote.{Wrote}
 use Rattle.report_text.proofs.Decimals.{decimal-one, decimal-more}
-use Rattle.report_text.proofs.Writes.{wrote-on}
+use Rattle.slices.proofs.Writes.{wrote-on}
 use borrow.Fn.Kinds.{In}
 use borrow.Fn.PlainCycle.{Measures, is, falls, and}
 use Rattle.report_text.proofs.text.put_decimal.Reads as put-decimal

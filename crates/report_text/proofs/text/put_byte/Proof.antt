@@ -1,5 +1,5 @@
 use denote.Ref.{now}
-use Rattle.report_text.proofs.Writes.{wrote-byte}
+use Rattle.slices.proofs.Writes.{wrote-byte}
 use borrow.Author.Needs.{needs}
 use Rattle.report_text.proofs.text.put_byte.Statement.{statement}
 use Rattle.report_text.proofs.text.put_byte.Tie as tie

@@ -1,7 +1,7 @@
 -- The letter, and the digits after it.
 use native.Mathlib.Omega.{arith}
 use Rattle.report_text.proofs.Decimals.{decimal-fits}
-use Rattle.report_text.proofs.Writes.{wrote-on}
+use Rattle.slices.proofs.Writes.{wrote-on}
 use borrow.Author.Needs.{needs}
 use Rattle.report_text.proofs.text.put_refusal.Statement.{statement}
 use Rattle.report_text.proofs.text.put_refusal.Tie as tie

@@ -8,9 +8,9 @@ use native.Mathlib.Omega.{arith}
 use Rattle.windows.proofs.Signs.{Upper, upper, Lower, lower}
 use Rattle.report_text.specs.Numbers.{decimal, signed}
 use Rattle.report_text.specs.Report.{afterSpace}
-use Rattle.report_text.specs.code.Writing.{Wrote}
+use Rattle.slices.specs.code.Wrote.{Wrote}
 use Rattle.report_text.proofs.Decimals.{decimal-fits}
-use Rattle.report_text.proofs.Writes.{wrote-on}
+use Rattle.slices.proofs.Writes.{wrote-on}
 use borrow.Author.Needs.{needs}
 use Rattle.report_text.proofs.text.put_signed.Statement.{statement}
 use Rattle.report_text.proofs.text.put_signed.Tie as tie

@@ -3,8 +3,8 @@ use mathlib.Core.Path.{sym, subst}
 use lib.ListN.{length}
 use denote.Ref.{now}
 use borrow.Rule.Slice.PartMut.{putMid}
-use Rattle.report_text.specs.code.Writing.{Wrote}
-use Rattle.report_text.proofs.Writes.{wrote-text}
+use Rattle.slices.specs.code.Wrote.{Wrote}
+use Rattle.slices.proofs.Writes.{wrote-text}
 use borrow.Author.Needs.{needs}
 use Rattle.report_text.proofs.text.put_text.Statement.{statement}
 use Rattle.report_text.proofs.text.put_text.Tie as tie

@@ -25,8 +25,8 @@ within : (c : tie.In-loop Inv-loop μ-loop) → c .before .loop .t .count < tabl
 within c = omega (arith, c .before .before .before .count .ensures, c .loop-test .taken)
 
 -- it is decoded
-next : (c : tie.After-row-of Inv-loop μ-loop) → c .row-of .result ≡ rowOf (tableOf (now (c .before .before .before .before .before .before .args .s))) (c .before .before .loop .t .count)
-next c = c .row-of .ensures ∙ row-there (c .before .before .before .before .before .before .pre) (c .before .before .loop .inv .0) (within (c .before))
+next : (c : tie.After-row-at Inv-loop μ-loop) → c .row-at .result ≡ rowOf (tableOf (now (c .before .before .before .before .before .before .args .s))) (c .before .before .loop .t .count)
+next c = c .row-at .ensures ∙ row-there (c .before .before .before .before .before .before .pre) (c .before .before .loop .inv .0) (within (c .before))
 
 count-requires : tie.Need-count-requires Inv-loop μ-loop
 count-requires c κs = search needs
@@ -39,8 +39,8 @@ loop-holds c =
     let s = now (c .before .before .before .args .s) in
     rw (c .empty .ensures) (place-none (tableOf s), decoded-none (c .before .before .before .pre .good))
 
-row-of-requires : tie.Need-row-of-requires Inv-loop μ-loop
-row-of-requires c κs = stands (c .before .before .before .before .before .pre) (c .before .loop .inv .0) (within c)
+row-at-requires : tie.Need-row-at-requires Inv-loop μ-loop
+row-at-requires c κs = stands (c .before .before .before .before .before .pre) (c .before .loop .inv .0) (within c)
 
 record-length-requires : tie.Need-record-length-requires Inv-loop μ-loop
 record-length-requires c κs = omega (arith, stands (c .before .before .before .before .before .before .pre) (c .before .before .loop .inv .0) (within (c .before)) .there)
@@ -69,7 +69,7 @@ loop-less c = omega (arith, within (c .before .before .before))
 loop-again : tie.Need-loop-again Inv-loop μ-loop
 loop-again c = (
   ap (λ n. c .before .before .before .before .loop .at + n) (c .before .record-length .ensures) ∙ place-next (c .before .before .before .before .before .before .before .before .pre) (c .before .before .before .before .loop .inv .0) (within (c .before .before .before)),
-  decoded-on (c .before .before .before .before .before .before .before .before .pre .good) (c .before .before .before .before .loop .inv .1) (within (c .before .before .before)) (c .before .before .row-of .result) (next (c .before .before)),
+  decoded-on (c .before .before .before .before .before .before .before .before .pre .good) (c .before .before .before .before .loop .inv .1) (within (c .before .before .before)) (c .before .before .row-at .result) (next (c .before .before)),
 )
 
 returns : tie.Need-returns Inv-loop μ-loop
@@ -86,7 +86,7 @@ rows-spec =
     count-requires
     empty-requires
     loop-holds
-    row-of-requires
+    row-at-requires
     record-length-requires
     add-at
     add-t

@@ -2,8 +2,8 @@
 use native.Mathlib.Omega.{arith}
 use Rattle.table.specs.Record.{rowAt}
 use borrow.Author.Needs.{needs}
-use Rattle.table.proofs.decode.row_of.Statement.{statement}
-use Rattle.table.proofs.decode.row_of.Tie as tie
+use Rattle.table.proofs.decode.row_at.Statement.{statement}
+use Rattle.table.proofs.decode.row_at.Tie as tie
 
 listed-at-requires : tie.Need-listed-at-requires
 listed-at-requires c κs = search needs
@@ -57,8 +57,8 @@ returns c =
       c .gap-at .ensures,
     )
 
-pub row-of-spec : {M : Type 1} → statement M
-row-of-spec =
+pub row-at-spec : {M : Type 1} → statement M
+row-at-spec =
     tie.close
     (tie.spec
     listed-at-requires

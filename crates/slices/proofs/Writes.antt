@@ -7,7 +7,7 @@ use mathlib.Core.List.{List, [], _∷_, _++_, append-assoc, append-nil}
 use lib.ListN.{length, take, drop, set, length-append, length-take, length-drop, length-set, take-append-drop, drop-of-length-le}
 use lib.Seq.{set-split, append-snoc, take-at, drop-append-add, drop-drop, length-take-le, take-all, take-length}
 use borrow.Rule.Slice.PartMut.{putMid}
-use Rattle.report_text.specs.code.Writing.{Wrote}
+use Rattle.slices.specs.code.Wrote.{Wrote}
 
 -- nothing
 pub wrote-none : (before : List ℕ) (at : ℕ) → at ≤ length before → Wrote before at [] before at

@@ -1,0 +1,4 @@
+pub mod Rows
+pub mod Write
+pub mod Fill
+pub mod code

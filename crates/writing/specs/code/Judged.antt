@@ -1,0 +1,126 @@
+-- What the code finds of rows by their values. The laws say that it is what the reader finds of their bytes.
+use Prim.Native.Nat.{ℕ, _+_, _*_, _<_, _≤_}
+use mathlib.Core.Path.{_≡_}
+use mathlib.Core.List.{List, [], _∷_}
+use mathlib.Core.Bool.{Bool, not, _||_}
+use lib.ListN.{getD, set, take, replicate}
+use lib.Dec.{eqb, ltb}
+use Rattle.search.specs.Choice.{_when_else_, byNumber}
+use Rattle.search.specs.Find.{first}
+use Rattle.search.specs.Lists.{All}
+use Rattle.table.specs.Limits.{maxChains, maxTasks, maxAllTasks, maxDistances, maxDeadline, maxGap, maxCost}
+use Rattle.table.specs.Record.{distances}
+use Rattle.table.specs.Fault.{outside, distancesFault}
+use Rattle.table.specs.Place.{lengthOf}
+use Rattle.table.specs.Read.{numberOf}
+use Rattle.table.specs.declared.Row.{Row}
+use Rattle.writing.specs.Rows.{Fits}
+use Rattle.writing.specs.declared.judged.Judged.{Judged}
+
+-- The first fault of a row, as its number, 0 for none
+
+-- the id is 0 or one of the first `count` ids; the kind, the overload mark
+unfoldable pub identityNumber : List ℕ → ℕ → ℕ → ℕ → ℕ → ℕ
+identityNumber ids count id kind overload =
+    4 when eqb id 0 || ltb (first (λ i. eqb (getD ids i 0) id) 0 count) count else
+    5 when ltb 1 kind else
+    5 when ltb 1 overload else
+    0
+
+unfoldable pub timesNumber : ℕ → ℕ → ℕ
+timesNumber deadline gap = 6 when outside 1 maxDeadline deadline else 7 when ltb maxGap gap else 0
+
+-- the counts, after so many tasks
+unfoldable pub countsNumber : ℕ → ℕ → ℕ → ℕ
+countsNumber before listed tasks =
+    28 when outside 1 maxDistances listed else
+    9 when outside 1 maxTasks tasks || ltb maxAllTasks (before + tasks) else
+    0
+
+unfoldable pub listNumber : ℕ → List ℕ → ℕ
+listNumber gap ds = numberOf (distancesFault gap ds 0 0)
+
+-- task i has a wrong value; one of n tasks has
+abbrev pub taskWrong : List ℕ → List ℕ → ℕ → Bool
+taskWrong priority cost i = eqb (getD priority i 0) 0 || outside 1 maxCost (getD cost i 0)
+
+unfoldable pub tasksNumber : List ℕ → List ℕ → ℕ → ℕ
+tasksNumber priority cost n = 10 when ltb (first (taskWrong priority cost) 0 n) n else 0
+
+-- the first of two numbers that is not 0
+abbrev pub firstNumber : ℕ → ℕ → ℕ
+firstNumber n m = byNumber (λ k. k) n m
+
+-- of a row's list and tasks, and of all of it, after those judged
+unfoldable pub listsNumber : Row → ℕ
+listsNumber r = firstNumber (listNumber (r .gap) (distances r)) (tasksNumber (r .priority) (r .cost) (r .tasks))
+
+unfoldable pub rowNumber : Judged → Row → ℕ
+rowNumber j r =
+    firstNumber (identityNumber (j .ids) (j .count) (r .id) (r .kind) (r .overload))
+    (firstNumber (timesNumber (r .deadline) (r .gap))
+    (firstNumber (countsNumber (j .tasks) (r .listed) (r .tasks))
+    (listsNumber r)))
+
+-- Rows one after the other
+
+-- nothing judged yet
+abbrev pub unjudged : Judged
+unjudged = record { number = 0; count = 0; tasks = 0; bytes = 0; ids = replicate maxChains 0 }
+
+-- a fault was found
+abbrev pub faulted : Judged → ℕ → Judged
+faulted j n = record { number = n; count = j .count; tasks = j .tasks; bytes = j .bytes; ids = j .ids }
+
+-- one good row more
+abbrev pub counted : Judged → Row → Judged
+counted j r =
+    record {
+      number = 0;
+      count = j .count + 1;
+      tasks = j .tasks + r .tasks;
+      bytes = j .bytes + lengthOf r;
+      ids = set (j .ids) (j .count) (r .id);
+    }
+
+-- the first fault stays; a 17th row is 11
+unfoldable pub judgedWith : Judged → Row → Judged
+judgedWith j r =
+    j when not (eqb (j .number) 0) else
+    faulted j 11 when eqb (j .count) maxChains else
+    faulted j (rowNumber j r) when not (eqb (rowNumber j r) 0) else
+    counted j r
+
+unfoldable pub judgedAll : Judged → List Row → Judged
+judgedAll j [] = j
+judgedAll j (r ∷ rs) = judgedAll (judgedWith j r) rs
+
+-- what is judged stays within the limits
+pub record Small (j : Judged) : Type 0 where
+  pub count : j .count ≤ maxChains
+  pub tasks : j .tasks ≤ maxAllTasks
+  pub bytes : j .bytes ≤ 176 * j .count
+
+-- there is room for one row more
+pub record CountedRoom (j : Judged) (r : Row) : Type 0 where
+  pub count : j .count < maxChains
+  pub tasks : j .tasks ≤ maxAllTasks
+  pub bytes : j .bytes ≤ 176 * j .count
+  pub of-listed : r .listed ≤ maxDistances
+  pub of-tasks : r .tasks ≤ maxTasks
+
+-- v is what was judged with the row
+pub record JudgedWith (j : Judged) (r : Row) (v : Judged) : Type 0 where
+  pub fits : Fits r
+  pub small : Small v
+  pub is : v ≡ judgedWith j r
+
+-- so many rows are looked at: a 17th decides
+abbrev pub mostJudged : ℕ
+mostJudged = maxChains + 1
+
+-- v is what was judged of the rows
+pub record JudgedRows (rs : List Row) (v : Judged) : Type 0 where
+  pub fits : All Fits (take mostJudged rs)
+  pub small : Small v
+  pub is : v ≡ judgedAll unjudged (take mostJudged rs)

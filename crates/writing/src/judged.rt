@@ -1,0 +1,253 @@
+// Rows judged by their values, in the reader's order; the first fault decides.
+use table::Before;
+use table::Row;
+use table::Table;
+use table::id_wrong;
+use table::outside;
+ghost use mathlib.Core.Path.{_≡_};
+ghost use Prim.Native.Nat.{min, _+_, _≤_};
+ghost use lib.ListN.{take};
+ghost use Rattle.table.specs.Limits.{maxChains, maxAllTasks, maxDistances, maxTasks};
+ghost use Rattle.table.specs.Fault.{fallFault, gapShort};
+ghost use Rattle.table.specs.Read.{numberOf};
+ghost use Rattle.writing.specs.code.Judged.{identityNumber, timesNumber, countsNumber, listNumber, tasksNumber, listsNumber, rowNumber, unjudged as unjudgedOf, faulted as faultedOf, counted as countedOf, Small, CountedRoom, JudgedWith, mostJudged};
+
+// What is known of the rows so far: the number of the first fault, 0 for none; of the good rows before it, how many they are, their tasks
+// in all, the length of their records, and their ids.
+pub struct Judged {
+    pub number: u32,
+    pub count: usize,
+    pub tasks: usize,
+    pub bytes: usize,
+    pub ids: [u16; Table::CHAINS],
+}
+
+// 4 or 5: the id, which no chain before may bear, the kind and the overload mark.
+fn identity_number(
+    id: u16,
+    kind: u8,
+    overload: u8,
+    ids: &[u16; Table::CHAINS],
+    before: Before,
+) -> u32
+    requires { ⌜ before .count ≤ maxChains ⌝ }
+    ensures { λ r. ⌜ r ≡ identityNumber (now (ids .entry)) (before .count) id kind overload ⌝ }
+{
+    if id_wrong(id, ids, before) {
+        return 4;
+    }
+    if 1 < kind {
+        return 5;
+    }
+    if 1 < overload {
+        return 5;
+    }
+    0
+}
+
+// 6 or 7: the deadline and the gap.
+fn times_number(deadline: u32, gap: u32) -> u32
+    ensures { λ r. ⌜ r ≡ timesNumber deadline gap ⌝ }
+{
+    if outside(1, Table::DEADLINE, deadline) {
+        return 6;
+    }
+    if Table::GAP < gap {
+        return 7;
+    }
+    0
+}
+
+// 28 or 9: the list length, and the task count after `before` tasks.
+fn counts_number(before: usize, listed: usize, tasks: usize) -> u32
+    requires { ⌜ before ≤ maxAllTasks ⌝ }
+    ensures { λ r. ⌜ r ≡ countsNumber before listed tasks ⌝ }
+{
+    if listed < 1 || Table::DISTANCES < listed {
+        return 28;
+    }
+    if tasks < 1 || Table::TASKS < tasks {
+        return 9;
+    }
+    if Table::ALL_TASKS < before + tasks {
+        return 9;
+    }
+    0
+}
+
+// 29: one of the first n distances falls, or exceeds the limit.
+fn fall_number(list: &[u32; Table::DISTANCES], n: usize) -> u32
+    requires { ⌜ n ≤ maxDistances ⌝ }
+    ensures { λ r. ⌜ r ≡ numberOf (fallFault 0 (take n (now (list .entry))) 0) ⌝ }
+{
+    let mut before: u32 = 0;
+    let mut i: usize = 0;
+    while i < n {
+        let d = list[i];
+        if outside(before, Table::DISTANCE, d) {
+            return 29;
+        }
+        before = d;
+        i += 1;
+    }
+    0
+}
+
+// Whether the gap is too small for one of the first n distances.
+fn gap_short(gap: u32, list: &[u32; Table::DISTANCES], n: usize) -> bool
+    requires { ⌜ n ≤ maxDistances ⌝ }
+    ensures { λ r. ⌜ r ≡ gapShort gap 1 (take n (now (list .entry))) ⌝ }
+{
+    let mut i: usize = 0;
+    while i < n {
+        if (gap as u64) * (i as u64 + 1) < list[i] as u64 {
+            return true;
+        }
+        i += 1;
+    }
+    false
+}
+
+// 29, 30 or 31: the first n distances, and the gap.
+fn list_number(gap: u32, list: &[u32; Table::DISTANCES], n: usize) -> u32
+    requires { ⌜ (1 ≤ n) × (n ≤ maxDistances) ⌝ }
+    ensures { λ r. ⌜ r ≡ listNumber gap (take n (now (list .entry))) ⌝ }
+{
+    let falls = fall_number(list, n);
+    if falls != 0 {
+        return falls;
+    }
+    if list[n - 1] == 0 {
+        return 30;
+    }
+    if gap == 0 {
+        return 0;
+    }
+    if gap_short(gap, list, n) {
+        return 31;
+    }
+    0
+}
+
+// 10: the priorities and costs of the first n tasks.
+fn tasks_number(priority: &[u16; Table::TASKS], cost: &[u32; Table::TASKS], n: usize) -> u32
+    requires { ⌜ n ≤ maxTasks ⌝ }
+    ensures { λ r. ⌜ r ≡ tasksNumber (now (priority .entry)) (now (cost .entry)) n ⌝ }
+{
+    let mut i: usize = 0;
+    while i < n {
+        if priority[i] == 0 || outside(1, Table::COST, cost[i]) {
+            return 10;
+        }
+        i += 1;
+    }
+    0
+}
+
+// The number of a row's list and tasks, its counts without a fault.
+fn lists_number(row: Row) -> u32
+    requires { ⌜ (1 ≤ row .listed) × (row .listed ≤ maxDistances) × (row .tasks ≤ maxTasks) ⌝ }
+    ensures { λ r. ⌜ r ≡ listsNumber row ⌝ }
+{
+    let list = row.list;
+    let in_list = list_number(row.gap, &list, row.listed);
+    if in_list != 0 {
+        return in_list;
+    }
+    let priority = row.priority;
+    let cost = row.cost;
+    tasks_number(&priority, &cost, row.tasks)
+}
+
+// The number of a row's first fault, after those judged.
+fn row_number(judged: Judged, row: Row) -> u32
+    requires { ⌜ Small judged ⌝ }
+    ensures { λ r. ⌜ r ≡ rowNumber judged row ⌝ }
+{
+    let ids = judged.ids;
+    let before = Before {
+        count: judged.count,
+        tasks: judged.tasks,
+    };
+    let identity = identity_number(row.id, row.kind, row.overload, &ids, before);
+    if identity != 0 {
+        return identity;
+    }
+    let times = times_number(row.deadline, row.gap);
+    if times != 0 {
+        return times;
+    }
+    let counts = counts_number(judged.tasks, row.listed, row.tasks);
+    if counts != 0 {
+        return counts;
+    }
+    lists_number(row)
+}
+
+// How many of so many rows are looked at: a 17th decides.
+pub fn looked_at(n: usize) -> usize
+    ensures { λ r. ⌜ r ≡ min n mostJudged ⌝ }
+{
+    if n < Table::CHAINS + 1 {
+        n
+    } else {
+        Table::CHAINS + 1
+    }
+}
+
+// Nothing is judged yet.
+pub fn unjudged() -> Judged
+    ensures { λ r. ⌜ r ≡ unjudgedOf ⌝ }
+{
+    Judged {
+        number: 0,
+        count: 0,
+        tasks: 0,
+        bytes: 0,
+        ids: [0u16; Table::CHAINS],
+    }
+}
+
+// The same with a fault.
+fn faulted(judged: Judged, number: u32) -> Judged
+    ensures { λ r. ⌜ r ≡ faultedOf judged number ⌝ }
+{
+    let mut with = judged;
+    with.number = number;
+    with
+}
+
+// The same with one good row more.
+fn counted(judged: Judged, row: Row) -> Judged
+    requires { ⌜ CountedRoom judged row ⌝ }
+    ensures { λ r. ⌜ r ≡ countedOf judged row ⌝ }
+{
+    let mut ids = judged.ids;
+    let count = judged.count;
+    ids[count] = row.id;
+    Judged {
+        number: 0,
+        count: count + 1,
+        tasks: judged.tasks + row.tasks,
+        bytes: judged.bytes + 16 + 4 * row.listed + 8 * row.tasks,
+        ids,
+    }
+}
+
+// What is known with one row more.
+pub fn judged_with(judged: Judged, row: Row) -> Judged
+    requires { ⌜ Small judged ⌝ }
+    ensures { λ r. ⌜ JudgedWith judged row r ⌝ }
+{
+    if judged.number != 0 {
+        return judged;
+    }
+    if judged.count == Table::CHAINS {
+        return faulted(judged, 11);
+    }
+    let number = row_number(judged, row);
+    if number != 0 {
+        return faulted(judged, number);
+    }
+    counted(judged, row)
+}

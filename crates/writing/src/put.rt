@@ -1,0 +1,135 @@
+// Rows put into a lent buffer, and whether they are.
+use crate::Written;
+use crate::judged::Judged;
+use table::Row;
+use table::Table;
+use table::put_u16;
+use table::put_u32;
+use table::u16_from_u8;
+use table::u32_from_u16;
+ghost use mathlib.Core.Path.{_≡_};
+ghost use Prim.Native.Nat.{_+_, _*_, _≤_};
+ghost use lib.ListN.{length};
+ghost use Rattle.table.specs.Limits.{maxDistances, maxTasks};
+ghost use Rattle.slices.specs.code.Wrote.{Wrote};
+ghost use Rattle.writing.specs.Rows.{headBytes, listBytes, taskRecord, tasksBytes, rowBytes};
+ghost use Rattle.writing.specs.code.Judged.{Small};
+ghost use Rattle.writing.specs.code.Put.{answerOf, rowsPut, RowRoom, EndRoom, Ends};
+
+// The fixed part of a row's record: two numbers at a time.
+fn put_head(out: &mut [u8], at: usize, row: Row) -> usize
+    requires { ⌜ (row .listed ≤ maxDistances) × (row .tasks ≤ maxTasks) × (at + 16 ≤ length (now out)) ⌝ }
+    ensures { λ r. ⌜ Wrote (now (out .entry)) at (headBytes row) (now (out .exit)) r ⌝ }
+{
+    put_u32(out, at, 18_499 + 65_536 * u32_from_u16(row.id));
+    put_u16(
+        out,
+        at + 4,
+        u16_from_u8(row.kind) + 256 * u16_from_u8(row.overload),
+    );
+    put_u32(out, at + 6, row.deadline);
+    put_u32(out, at + 10, row.gap);
+    put_u16(out, at + 14, row.listed as u16 + 256 * row.tasks as u16);
+    at + 16
+}
+
+// The first n distances.
+fn put_list(out: &mut [u8], at: usize, list: &[u32; Table::DISTANCES], n: usize) -> usize
+    requires { ⌜ (n ≤ maxDistances) × (at + 4 * n ≤ length (now out)) ⌝ }
+    ensures { λ r. ⌜ Wrote (now (out .entry)) at (listBytes (now (list .entry)) n) (now (out .exit)) r ⌝ }
+{
+    let mut i: usize = 0;
+    while i < n {
+        put_u32(out, at + 4 * i, list[i]);
+        i += 1;
+    }
+    at + 4 * n
+}
+
+// A task record.
+fn put_task(out: &mut [u8], at: usize, priority: u16, cost: u32) -> usize
+    requires { ⌜ at + 8 ≤ length (now out) ⌝ }
+    ensures { λ r. ⌜ Wrote (now (out .entry)) at (taskRecord priority cost) (now (out .exit)) r ⌝ }
+{
+    put_u32(out, at, 19_284 + 65_536 * u32_from_u16(priority));
+    put_u32(out, at + 4, cost);
+    at + 8
+}
+
+// The first n tasks.
+fn put_tasks(
+    out: &mut [u8],
+    at: usize,
+    priority: &[u16; Table::TASKS],
+    cost: &[u32; Table::TASKS],
+    n: usize,
+) -> usize
+    requires { ⌜ (n ≤ maxTasks) × (at + 8 * n ≤ length (now out)) ⌝ }
+    ensures { λ r. ⌜ Wrote (now (out .entry)) at (tasksBytes (now (priority .entry)) (now (cost .entry)) n) (now (out .exit)) r ⌝ }
+{
+    let mut next = at;
+    let mut i: usize = 0;
+    while i < n {
+        next = put_task(out, next, priority[i], cost[i]);
+        i += 1;
+    }
+    next
+}
+
+// The record of a row, from `at` on; answers where it ends.
+pub fn put_row(out: &mut [u8], at: usize, row: Row) -> usize
+    requires { ⌜ RowRoom row (now out) at ⌝ }
+    ensures { λ r. ⌜ Wrote (now (out .entry)) at (rowBytes row) (now (out .exit)) r ⌝ }
+{
+    let list = row.list;
+    let priority = row.priority;
+    let cost = row.cost;
+    let after_head = put_head(out, at, row);
+    let after_list = put_list(out, after_head, &list, row.listed);
+    put_tasks(out, after_list, &priority, &cost, row.tasks)
+}
+
+// What a write into so much room answers, by what was judged: the rows' number, 11 where there is none, then 24.
+fn answer_of(judged: Judged, room: usize) -> Written
+    requires { ⌜ judged .bytes ≤ 4096 ⌝ }
+    ensures { λ r. ⌜ r ≡ answerOf judged room ⌝ }
+{
+    if judged.number != 0 {
+        return Written::Refused(judged.number);
+    }
+    if judged.count == 0 {
+        return Written::Refused(11);
+    }
+    let n = judged.bytes + 4;
+    if room < n {
+        return Written::Refused(24);
+    }
+    Written::Used(n as u32)
+}
+
+// How many rows are then put: all, or none.
+pub fn rows_put(judged: Judged, room: usize) -> usize
+    requires { ⌜ judged .bytes ≤ 4096 ⌝ }
+    ensures { λ r. ⌜ r ≡ rowsPut judged room ⌝ }
+{
+    match answer_of(judged, room) {
+        Written::Used(_) => judged.count,
+        Written::Refused(_) => 0,
+    }
+}
+
+// The answer; where the rows are put, the end record after them.
+pub fn end(judged: Judged, out: &mut [u8], at: usize) -> Written
+    requires { ⌜ EndRoom judged (now out) at ⌝ }
+    ensures { λ r. ⌜ Ends judged (now (out .entry)) at r (now (out .exit)) ⌝ }
+{
+    let answer = answer_of(judged, out.len());
+    match answer {
+        Written::Used(_) => {
+            // `EN`, and their number in the two bytes above it.
+            put_u32(out, at, 20_037 + 65_536 * (judged.count as u32));
+            answer
+        }
+        Written::Refused(_) => answer,
+    }
+}
