@@ -24,16 +24,15 @@ use Rattle.table.proofs.Words.{word-same}
 use Rattle.table.proofs.Accepted.{taken}
 use Rattle.slices.proofs.Bytes.{bytes-append}
 use Rattle.slices.proofs.Records.{length-records}
+use Rattle.slices.proofs.Ends.{end-stored}
 use Rattle.slices.proofs.Sameness.{same-yes}
 use Rattle.merging.specs.Versions.{three, stateOf, idsOf}
 use Rattle.merging.specs.Rule.{takenOf, among, joined, order}
 use Rattle.table.specs.Record.{endRecord}
 use Rattle.merging.specs.Merge.{isRecord, takenRecords, resultOf}
 use Rattle.merging.proofs.Rules.{by-alike}
-use Rattle.table.proofs.Words.{end-length}
 use Rattle.merging.proofs.Picks.{idIn, pick, pick-all}
 use Rattle.merging.proofs.Copies.{recordsIn, in-parts, state-picked, ids-borne, records-alone, all-records}
-use Rattle.merging.proofs.Tables.{bytes-of, end-mark-word, end-count}
 use Rattle.merging.proofs.Promises.{map-alike}
 
 -- numbers joined to themselves
@@ -52,23 +51,6 @@ unfolding keep
 keep-every [] h = refl
 keep-every (r ∷ rs) h = when-yes _ _ (h .0) ∙ ap (λ (l : List (List ℕ)). r ∷ l) (keep-every rs (h .1))
 
--- the end's mark is one number
-rank : Mark → ℕ
-rank Chain = 0
-rank Task = 1
-rank End = 2
-rank Unknown = 3
-
-end-word : (w : ℕ) → markOf w ≡ End → w ≡ 20037
-unfolding markOf _when_else_ rank
-end-word w e = by (eqb w 18499) (eqb w 19284) (eqb w 20037) refl e
-  where
-    by : (a b c : Bool) → eqb w 20037 ≡ c → (Chain when a else Task when b else End when c else Unknown) ≡ End → w ≡ 20037
-    by true b c f e = absurd (omega (arith, ap rank e))
-    by false true c f e = absurd (omega (arith, ap rank e))
-    by false false true f e = eqb-true w 20037 f
-    by false false false f e = absurd (omega (arith, ap rank e))
-
 module _ (s : List ℕ) (bytes : Bytes s) (verdict : readTable s .verdict ≡ Accepted) where
   abbrev rs : List (List ℕ)
   rs = recordsIn s bytes verdict
@@ -80,29 +62,8 @@ module _ (s : List ℕ) (bytes : Bytes s) (verdict : readTable s .verdict ≡ Ac
   count-is : length rs ≡ tableOf s .count
   count-is = length-records s (tableOf s .count) 0
 
-  end-bytes : Bytes (endRecord (length rs))
-  end-bytes = bytes-append (bytesOf 2 20037) (bytesOf 2 (length rs)) (bytes-of 2 20037) (bytes-of 2 (length rs))
-
-  same-mark : word 2 (endRecord (length rs)) 0 ≡ word 2 s end
-  same-mark = end-mark-word (length rs) ∙ sym (end-word (word 2 s end) (taken s bytes verdict .holds .end-mark))
-
-  same-count : word 2 (endRecord (length rs)) 2 ≡ word 2 s (end + 2)
-  same-count = end-count (length rs) (omega (arith, count-is, taken s bytes verdict .good .few)) ∙ count-is ∙ sym (taken s bytes verdict .holds .counts)
-
-  same-byte : (i : ℕ) → i < 4 → getD (endRecord (length rs)) i 0 ≡ getD s (end + i) 0
-  same-byte i h = ⊎-elim
-      (λ l. let z : 0 + i ≡ i = omega arith in
-      rw z at (word-same 2 (endRecord (length rs)) s 0 end end-bytes bytes same-mark i l))
-      (λ l. let z : 2 + (i - 2) ≡ i = omega arith in
-      let y : end + 2 + (i - 2) ≡ end + i = omega arith in
-      rw (z, y) at (word-same 2 (endRecord (length rs)) s 2 (end + 2) end-bytes bytes same-count (i - 2) (omega arith)))
-      (lt-or-le i 2)
-
   end-is : endRecord (length rs) ≡ drop end s
-  end-is =
-      let n = end-length (length rs) in
-      ext-getD 0 (endRecord (length rs)) (drop end s) (n ∙ omega (arith, length-drop end s, taken s bytes verdict .holds .ends))
-      (λ i h. same-byte i (omega (arith, h, n)) ∙ sym (getD-drop end s i 0))
+  end-is = ap endRecord count-is ∙ end-stored s bytes verdict
 
   -- so nothing is changed
   pub equal-records : takenRecords (three s s s) ≡ rs

@@ -43,7 +43,7 @@ use Rattle.merging.specs.Rule.{takenOf, among, joined, order}
 use Rattle.table.specs.Record.{endRecord}
 use Rattle.merging.specs.Merge.{isRecord, takenRecords, resultOf}
 use Rattle.merging.proofs.Sizes.{by-cases}
-use Rattle.table.proofs.Words.{end-length}
+use Rattle.table.proofs.Words.{bytes-of, end-length, end-mark-word, end-count}
 use Rattle.merging.proofs.Orders.{ids-length}
 use Rattle.merging.proofs.Picks.{idIn, pick}
 use Rattle.merging.proofs.Copies.{read-as, recordsIn, in-parts, state-picked, alone-apart}
@@ -77,12 +77,6 @@ records-of P s most h zero chain l = tt
 records-of P s most h (suc n) chain l = (h chain (omega arith), records-of P s most h n (chain + 1) (omega arith))
 
 -- bytes
-pub bytes-of : (n x : ℕ) → Bytes (bytesOf n x)
-unfolding bytesOf
-bytes-of zero x i = omega arith
-bytes-of (suc n) x zero = omega arith
-bytes-of (suc n) x (suc i) = bytes-of n (x / 256) i
-
 bytes-flatten : (rs : List (List ℕ)) → All Bytes rs → Bytes (flatten rs)
 unfolding flatten
 bytes-flatten [] h i = omega arith
@@ -98,17 +92,9 @@ joined-length : (l r : List ℕ) → length (joined l r) ≤ length l + length r
 joined-length l r = omega (arith, length-append l (keep (λ n. not (among l n)) r), keep-length (λ n. not (among l n)) r)
 
 -- the end record
-pub end-mark-word : (n : ℕ) → word 2 (endRecord n) 0 ≡ 20037
-end-mark-word n = word-bytes 2 20037 [] (bytesOf 2 n) (omega arith)
-
 end-mark : (n : ℕ) → markOf (word 2 (endRecord n) 0) ≡ End
 unfolding markOf _when_else_
 end-mark n = ap markOf (end-mark-word n)
-
-pub end-count : (n : ℕ) → n < 65536 → word 2 (endRecord n) 2 ≡ n
-end-count n h =
-    ap (λ (l : List ℕ). word 2 (bytesOf 2 20037 ++ l) 2) (sym (append-nil (bytesOf 2 n)))
-    ∙ ap (word 2 (bytesOf 2 20037 ++ (bytesOf 2 n ++ []))) (sym (length-bytes 2 20037)) ∙ word-bytes 2 n (bytesOf 2 20037) [] (omega (arith, h))
 
 -- an accepted table is within the limit
 accepted-short : (s : List ℕ) → readTable s .verdict ≡ Accepted → length s ≤ maxBytes

@@ -7,4 +7,5 @@ pub mod Parts
 pub mod Parsed
 pub mod Stored
 pub mod Records
+pub mod Ends
 pub mod Sound

@@ -1,4 +1,5 @@
 pub mod Words
+pub mod Marks
 pub mod Lists
 pub mod Firsts
 pub mod Earlier

@@ -1,11 +1,11 @@
 -- Laws of little-endian numbers, for any width. Assumes nothing.
-use Prim.Native.Nat.{ℕ, zero, suc, _+_, _*_, _/_, _%_, _^_, _<_}
+use Prim.Native.Nat.{ℕ, zero, suc, _+_, _*_, _/_, _%_, _^_, _<_, _≤_}
 use mathlib.Core.Path.{_≡_, refl, ap, sym, _∙_}
-use mathlib.Core.List.{List, [], _∷_, _++_, append-assoc}
+use mathlib.Core.List.{List, [], _∷_, _++_, append-assoc, append-nil}
 use native.Mathlib.Omega.{arith}
 use native.Mathlib.Nat.{pow-suc}
-use lib.ListN.{length, getD, length-append}
-use lib.Seq.{getD-append-seam}
+use lib.ListN.{length, getD, take, drop, length-append}
+use lib.Seq.{getD-append-seam, drop-cons}
 use Rattle.table.specs.Bytes.{word, bytesOf, Bytes}
 use Rattle.table.specs.Record.{endRecord}
 
@@ -60,6 +60,25 @@ word-bytes (suc n) x l r h =
     ∙ word-bytes n (x / 256) first r (omega (arith, pow-suc 256 n)) in
     omega (arith, e, w)
 
+-- and a number read from bytes is those bytes
+pub word-back : (n : ℕ) (s : List ℕ) (at : ℕ) → Bytes s → at + n ≤ length s → bytesOf n (word n s at) ≡ take n (drop at s)
+unfolding word bytesOf
+word-back zero s at b h = refl
+word-back (suc n) s at b h =
+    let rest = word n s (at + 1) in
+    let first : (getD s at 0 + 256 * rest) % 256 ≡ getD s at 0 = omega (arith, b at) in
+    let next : (getD s at 0 + 256 * rest) / 256 ≡ rest = omega (arith, b at) in
+    let e : at + 1 ≡ suc at = omega arith in
+    let after : bytesOf n rest ≡ take n (drop (suc at) s) = word-back n s (at + 1) b (omega arith) ∙ ap (λ (k : ℕ). take n (drop k s)) e in
+    rw (first, next, after, drop-cons s at 0 (omega arith))
+
+-- the bytes of a number are bytes
+pub bytes-of : (n x : ℕ) → Bytes (bytesOf n x)
+unfolding bytesOf
+bytes-of zero x i = omega arith
+bytes-of (suc n) x zero = omega arith
+bytes-of (suc n) x (suc i) = bytes-of n (x / 256) i
+
 -- two numbers in one: the bytes of the first, and those of the second after them
 pub bytes-join : (m n x y : ℕ) → x < 256 ^ m → bytesOf (m + n) (x + 256 ^ m * y) ≡ bytesOf m x ++ bytesOf n y
 unfolding bytesOf
@@ -81,3 +100,11 @@ end-bytes n = bytes-join 2 2 20037 n (omega arith)
 pub end-length : (n : ℕ) → length (endRecord n) ≡ 4
 unfolding bytesOf
 end-length n = refl
+
+pub end-mark-word : (n : ℕ) → word 2 (endRecord n) 0 ≡ 20037
+end-mark-word n = word-bytes 2 20037 [] (bytesOf 2 n) (omega arith)
+
+pub end-count : (n : ℕ) → n < 65536 → word 2 (endRecord n) 2 ≡ n
+end-count n h =
+    ap (λ (l : List ℕ). word 2 (bytesOf 2 20037 ++ l) 2) (sym (append-nil (bytesOf 2 n)))
+    ∙ ap (word 2 (bytesOf 2 20037 ++ (bytesOf 2 n ++ []))) (sym (length-bytes 2 20037)) ∙ word-bytes 2 n (bytesOf 2 20037) [] (omega (arith, h))

@@ -1,0 +1,131 @@
+-- What is judged of rows, one after the other, is what the reader says of their bytes. Assumes nothing.
+use Prim.Native.Nat.{ℕ, zero, suc, _+_, _*_, _-_, _<_, _≤_}
+use native.Mathlib.Omega.{arith}
+use mathlib.Core.Path.{_≡_, refl, ap, sym, subst, _∙_}
+use mathlib.Core.List.{List, [], _∷_, _++_, map, flatten, append-assoc}
+use mathlib.Core.Bool.{Bool, true, false, not}
+use mathlib.Core.Logic.{⊎-elim}
+use borrow.Author.Tests.{lt-ltb, le-ltb, eq-eqb, ne-eqb}
+use lib.Dec.{eqb, ltb}
+use lib.ListN.{length, getD, take, drop, set, length-append, length-drop}
+use lib.Seq.{drop-drop, drop-at}
+use Rattle.search.specs.Choice.{_when_else_, byNumber}
+use Rattle.search.specs.Find.{first}
+use Rattle.search.specs.Lists.{All}
+use Rattle.search.proofs.Choice.{when-yes, when-no, lt-or-le}
+use Rattle.table.specs.Limits.{maxChains}
+use Rattle.table.specs.Bytes.{word, bytesOf}
+use Rattle.table.specs.Record.{countPlace, afterEnd, endRecord, lengthAt, rowAt}
+use Rattle.table.specs.Find.{used}
+use Rattle.table.specs.Fault.{markOf, chainFault, endFault}
+use Rattle.table.specs.Place.{lengthOf}
+use Rattle.table.specs.Read.{empty, plus, unless, refusal, accepted, records}
+use Rattle.table.specs.code.Before.{Keeps}
+use Rattle.table.specs.declared.Row.{Row}
+use Rattle.table.specs.declared.Table.{Table}
+use Rattle.table.specs.declared.Reading.{Reading}
+use Rattle.table.specs.declared.before.Before.{Before}
+use Rattle.table.specs.declared.Mark.the-variants.{Chain, End}
+use Rattle.table.specs.declared.Verdict.the-variants.{Accepted, Refused}
+use Rattle.table.proofs.Earlier.{used-before, before-more}
+use Rattle.table.proofs.Steps.{records-mark, records-full, records-chain}
+use Rattle.table.proofs.Marks.{markNumber}
+use Rattle.table.proofs.Words.{end-length, end-mark-word, end-count}
+use Rattle.writing.specs.Rows.{rowBytes, tableBytes, cleared, Fits}
+use Rattle.writing.specs.code.Judged.{firstNumber, rowNumber, unjudged, faulted, counted, judgedWith, judgedAll, mostJudged}
+use Rattle.writing.specs.code.Put.{judgedNumber}
+use Rattle.writing.specs.declared.judged.Judged.{Judged}
+use Rattle.writing.proofs.Fields.{Stored, word-there, row-long, stored}
+use Rattle.writing.proofs.Verdicts.{Says, says-number, says-none, says-when, says-unless, first-none, counts-right, chain-says, row-read, length-read}
+
+-- The first fault stays
+
+with-fault : (j : Judged) (r : Row) → (j .number ≡ 0 → ⊥) → judgedWith j r ≡ j
+unfolding judgedWith
+with-fault j r h = when-yes _ _ (ap not (ne-eqb (j .number) 0 h))
+
+stays : (j : Judged) (rs : List Row) → (j .number ≡ 0 → ⊥) → judgedAll j rs ≡ j
+unfolding judgedAll
+stays j [] h = refl
+stays j (r ∷ rs) h = ap (λ (k : Judged). judgedAll k rs) (with-fault j r h) ∙ stays j rs h
+
+-- one row more, none of those before at fault
+module _ (j : Judged) (r : Row) (sound : j .number ≡ 0) where
+  with-full : j .count ≡ maxChains → judgedWith j r ≡ faulted j 11
+  unfolding judgedWith
+  with-full e = when-no _ _ (ap not (eq-eqb (j .number) 0 sound)) ∙ when-yes _ _ (eq-eqb (j .count) maxChains e)
+
+  module _ (few : j .count < maxChains) where
+    on : judgedWith j r ≡ (faulted j (rowNumber j r) when not (eqb (rowNumber j r) 0) else counted j r)
+    unfolding judgedWith
+    on = when-no _ _ (ap not (eq-eqb (j .number) 0 sound)) ∙ when-no _ _ (ne-eqb (j .count) maxChains (λ e. omega arith))
+
+    with-wrong : (rowNumber j r ≡ 0 → ⊥) → judgedWith j r ≡ faulted j (rowNumber j r)
+    with-wrong h = on ∙ when-yes _ _ (ap not (ne-eqb (rowNumber j r) 0 h))
+
+    with-right : rowNumber j r ≡ 0 → judgedWith j r ≡ counted j r
+    with-right e = on ∙ when-no _ _ (ap not (eq-eqb (rowNumber j r) 0 e))
+
+    -- so the row's number decides, or the rows after it
+    number-on : (rs : List Row) → firstNumber (rowNumber j r) (judgedNumber (judgedAll (counted j r) rs)) ≡ judgedNumber (judgedAll (judgedWith j r) rs)
+    unfolding byNumber
+    number-on rs = by (rowNumber j r) refl
+      where
+        by : (n : ℕ) → rowNumber j r ≡ n → firstNumber n (judgedNumber (judgedAll (counted j r) rs)) ≡ judgedNumber (judgedAll (judgedWith j r) rs)
+        by zero e = ap (λ (k : Judged). judgedNumber (judgedAll k rs)) (sym (with-right e))
+        by (suc n) e =
+            let w = with-wrong (λ z. omega (arith, e, z)) in
+            sym (ap (λ (k : Judged). judgedNumber (judgedAll k rs)) (w ∙ ap (faulted j) e) ∙ ap judgedNumber (stays (faulted j (suc n)) rs (λ z. omega arith)))
+
+-- what rowNumber 0 says of the counts
+pub row-right : (j : Judged) (r : Row) → rowNumber j r ≡ 0
+    → (1 ≤ r .listed) × (r .listed ≤ 8) × (1 ≤ r .tasks) × (r .tasks ≤ 16) × (j .tasks + r .tasks ≤ 64)
+unfolding rowNumber
+row-right j r e =
+    let a = first-none _ _ e .1 in
+    let b = first-none _ _ a .1 in
+    counts-right (j .tasks) (r .listed) (r .tasks) (first-none _ _ b .0)
+
+-- what is kept of the rows before
+abbrev before : Judged → Before
+before j = record { count = j .count; tasks = j .tasks }
+
+module _ (s : List ℕ) (total : ℕ) where
+  -- the end record, after as many rows as it says
+  end-says : (at : ℕ) (t : Table) → at ≤ length s → drop at s ≡ endRecord total → t .count ≡ total → total ≤ maxChains
+      → Says (records (maxChains - t .count) s at t .verdict) (11 when eqb total 0 else 0)
+  unfolding endFault markOf _when_else_ unless
+  end-says at t in-s d e few =
+      let long : length s ≡ at + 4 = omega (arith, length-drop at s, ap length d, end-length total) in
+      let mark : word 2 s at ≡ 20037 = word-there 2 s (endRecord total) at 0 at d (omega arith) ∙ end-mark-word total in
+      let count : word 2 s (at + 2) ≡ total = word-there 2 s (endRecord total) at 2 (at + 2) d refl ∙ end-count total (omega arith) in
+      let end = records-mark s at t (omega arith) (maxChains - t .count) End (ap markOf mark) (λ z. omega (arith, ap markNumber z)) in
+      subst (λ (r : Reading). Says (r .verdict) (11 when eqb total 0 else 0)) (sym end)
+      (rw (le-ltb (length s) (afterEnd at) (omega arith), e, count, eq-eqb total total refl, eq-eqb (length s) (afterEnd at) long) (by (eqb total 0)))
+    where
+      by : (b : Bool) → Says (unless refusal (Refused 11 (countPlace at) when b else Accepted) (accepted t) .verdict) (11 when b else 0)
+      by true = Says.fault 10 (countPlace at)
+      by false = Says.none
+
+  -- a stored row, its rows before without a fault
+  module _ (at : ℕ) (t : Table) (j : Judged) (r : Row) (st : Stored s at r) (f : Fits r) (sound : j .number ≡ 0) (keeps : Keeps (j .ids) (before j) t) where
+    there : at + 2 ≤ length s
+    there = omega (arith, st .there)
+
+    marked : markOf (word 2 s at) ≡ Chain
+    unfolding markOf _when_else_
+    marked = ap markOf (st .mark)
+
+    row-says : Says (chainFault s at t) (rowNumber j r)
+    row-says = chain-says s at r st f j t (used-before t (r .id) keeps) (sym (keeps .tasks))
+
+    -- and without one of its own
+    module _ (right : rowNumber j r ≡ 0) where
+      read-row : rowAt s at ≡ cleared r
+      read-row = let c = row-right j r right in row-read s at r st f (c .1) (c .3)
+
+      read-length : lengthAt s at ≡ length (rowBytes r)
+      read-length = let c = row-right j r right in length-read s at r st f (c .1) (c .3) ∙ sym (row-long r [])
+
+      keeps-on : Keeps (counted j r .ids) (before (counted j r)) (plus t (rowAt s at))
+      keeps-on = rw read-row (before-more t (cleared r) keeps)

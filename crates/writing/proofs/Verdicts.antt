@@ -1,0 +1,252 @@
+-- A verdict and its number, apart from the place; what the reader says of a stored row is what its values say. Assumes nothing.
+use Prim.Native.Nat.{ℕ, zero, suc, min, _+_, _*_, _-_, _<_, _≤_}
+use native.Mathlib.Omega.{arith}
+use mathlib.Core.Path.{_≡_, refl, ap, sym, subst, _∙_}
+use mathlib.Core.List.{List, [], _∷_}
+use mathlib.Core.Bool.{Bool, true, false, not, _&&_, _||_}
+use mathlib.Core.Logic.{⊎-elim}
+use borrow.Author.Tests.{lt-ltb, le-ltb, ltb-false}
+use lib.Dec.{eqb, ltb}
+use lib.ListN.{length, getD, take}
+use lib.Seq.{ext-getD, getD-take, length-take-le}
+use Rattle.search.specs.Choice.{_when_else_, byNumber}
+use Rattle.search.specs.Find.{first}
+use Rattle.search.proofs.Choice.{when-yes, when-no, when-zero, lt-or-le}
+use Rattle.table.specs.Limits.{maxTasks, maxAllTasks, maxDistances, maxDeadline, maxGap, maxDistance, maxCost}
+use Rattle.table.specs.Bytes.{word}
+use Rattle.table.specs.Record.{idPlace, kindPlace, overloadPlace, deadlinePlace, gapPlace, listedPlace, tasksPlace, listPlace, afterList, distancesAt, prioritiesAt, costsAt, spaced, distances, priorityPlace, priorityAt, costPlace, costAt, listedAt, tasksAt, firstTask, lengthAt, rowAt}
+use Rattle.table.specs.Find.{used}
+use Rattle.table.specs.Fault.{_then_, outside, markOf, noTask, identityFault, timesFault, countsFault, headFault, fallFault, lastFault, gapShort, gapFault, distancesFault, listFault, taskMarkFault, valuesFault, taskRestFault, taskFault, tasksFault, chainFault}
+use Rattle.table.specs.Place.{lengthOf}
+use Rattle.table.specs.Read.{numberOf, unless, refusal}
+use Rattle.table.specs.declared.Row.{Row}
+use Rattle.table.specs.declared.Table.{Table}
+use Rattle.table.specs.declared.Reading.{Reading}
+use Rattle.table.specs.declared.Verdict.{Verdict}
+use Rattle.table.specs.declared.Verdict.the-variants.{Accepted, Refused}
+use Rattle.table.proofs.Firsts.{or-left, or-right, none-or}
+use Rattle.table.proofs.Faultless.{inside}
+use Rattle.table.proofs.Lists.{length-spaced, spaced-at}
+use Rattle.writing.specs.Rows.{cleared, Fits}
+use Rattle.writing.specs.code.Judged.{identityNumber, timesNumber, countsNumber, listNumber, taskWrong, tasksNumber, firstNumber, listsNumber, rowNumber}
+use Rattle.writing.specs.declared.judged.Judged.{Judged}
+use Rattle.writing.proofs.Fields.{Stored}
+
+-- the verdict has that number, 0 for an accepted one
+pub data Says : Verdict → ℕ → Type 0 where
+  none : Says Accepted 0
+  fault : (n place : ℕ) → Says (Refused (suc n) place) (suc n)
+
+pub says-number : {v : Verdict} {n : ℕ} → Says v n → numberOf v ≡ n
+says-number Says.none = refl
+says-number (Says.fault n place) = refl
+
+pub says-none : {v : Verdict} {n : ℕ} → Says v n → n ≡ 0 → v ≡ Accepted
+says-none Says.none e = refl
+says-none (Says.fault n place) e = absurd (omega arith)
+
+-- one test
+pub says-when : (n place : ℕ) {v : Verdict} {m : ℕ} (t : Bool) → Says v m → Says (Refused (suc n) place when t else v) (suc n when t else m)
+unfolding _when_else_
+says-when n place true s = Says.fault n place
+says-when n place false s = s
+
+-- the first of two; the second counts only where the first is none
+pub says-then : {a b : Verdict} {n m : ℕ} → Says a n → (n ≡ 0 → Says b m) → Says (a then b) (firstNumber n m)
+unfolding _then_ byNumber
+says-then Says.none s = s refl
+says-then (Says.fault n place) s = Says.fault n place
+
+pub says-unless : {v : Verdict} (r : Reading) {n m : ℕ} → Says v n → (n ≡ 0 → Says (r .verdict) m) → Says (unless refusal v r .verdict) (firstNumber n m)
+unfolding unless byNumber
+says-unless r Says.none s = s refl
+says-unless r (Says.fault n place) s = Says.fault n place
+
+pub first-none : (n m : ℕ) → firstNumber n m ≡ 0 → (n ≡ 0) × (m ≡ 0)
+unfolding byNumber
+first-none zero m e = (refl, e)
+first-none (suc n) m e = absurd (omega arith)
+
+first-assoc : (a b c : ℕ) → firstNumber (firstNumber a b) c ≡ firstNumber a (firstNumber b c)
+unfolding byNumber
+first-assoc zero b c = refl
+first-assoc (suc a) b c = refl
+
+-- Tests of a count that stands in one byte
+
+above : (high x : ℕ) → high < x → outside 1 high x ≡ true
+above high x h = or-right (ltb x 1) (ltb high x) (lt-ltb high x h)
+
+cut : (high x : ℕ) → high < 255 → outside 1 high (min x 255) ≡ outside 1 high x
+cut high x h = ⊎-elim
+    (λ l. let e : min x 255 ≡ 255 = omega arith in ap (outside 1 high) e ∙ above high 255 h ∙ sym (above high x (omega arith)))
+    (λ l. let e : min x 255 ≡ x = omega arith in ap (outside 1 high) e)
+    (lt-or-le 255 x)
+
+cut-tasks : (before x : ℕ) → (outside 1 maxTasks (min x 255) || ltb maxAllTasks (before + min x 255)) ≡ (outside 1 maxTasks x || ltb maxAllTasks (before + x))
+cut-tasks before x = ⊎-elim
+    (λ l. or-left _ _ (cut maxTasks x (omega arith) ∙ above maxTasks x (omega arith)) ∙ sym (or-left _ _ (above maxTasks x (omega arith))))
+    (λ l. let e : min x 255 ≡ x = omega arith in ap (λ (n : ℕ). outside 1 maxTasks n || ltb maxAllTasks (before + n)) e)
+    (lt-or-le 255 x)
+
+pub counts-right : (before listed tasks : ℕ) → countsNumber before listed tasks ≡ 0
+    → (1 ≤ listed) × (listed ≤ maxDistances) × (1 ≤ tasks) × (tasks ≤ maxTasks) × (before + tasks ≤ maxAllTasks)
+unfolding countsNumber
+counts-right before listed tasks e =
+    let a = when-zero 27 _ (outside 1 maxDistances listed) e in
+    let b = when-zero 8 0 (outside 1 maxTasks tasks || ltb maxAllTasks (before + tasks)) (a .1) in
+    let c = none-or (outside 1 maxTasks tasks) (ltb maxAllTasks (before + tasks)) (b .0) in
+    let l = inside 1 maxDistances listed (a .0) in
+    let t = inside 1 maxTasks tasks (c .0) in
+    (l .0, l .1, t .0, t .1, ltb-le (c .1))
+  where
+    ltb-le : {n m : ℕ} → ltb n m ≡ false → m ≤ n
+    ltb-le {n} {m} f = ltb-false n m f
+
+-- The list, whatever place is told
+
+fall-says : (before : ℕ) (ds : List ℕ) (at to : ℕ) → Says (fallFault before ds at) (numberOf (fallFault before ds to))
+unfolding fallFault _when_else_
+fall-says before [] at to = Says.none
+fall-says before (d ∷ ds) at to = by (outside before maxDistance d) _ _ (fall-says d ds (at + 4) (to + 4))
+  where
+    by : (t : Bool) (v w : Verdict) → Says v (numberOf w) → Says (Refused 29 at when t else v) (numberOf (Refused 29 to when t else w))
+    by true v w s = Says.fault 28 at
+    by false v w s = s
+
+one-says : (n at to : ℕ) (t : Bool) → Says (Refused (suc n) at when t else Accepted) (numberOf (Refused (suc n) to when t else Accepted))
+unfolding _when_else_
+one-says n at to true = Says.fault n at
+one-says n at to false = Says.none
+
+list-says : (gap : ℕ) (ds : List ℕ) (at place : ℕ) → Says (distancesFault gap ds at place) (listNumber gap ds)
+unfolding distancesFault lastFault gapFault listNumber
+list-says gap ds at place =
+    subst (Says (fallFault 0 ds at then lastFault ds at then gapFault gap ds place)) (sym (says-number (by 0 0))) (by at place)
+  where
+    -- the numbers that are told from the place 0 on
+    by : (a p : ℕ) → Says (fallFault 0 ds a then lastFault ds a then gapFault gap ds p)
+        (firstNumber (numberOf (fallFault 0 ds 0)) (firstNumber (numberOf (lastFault ds 0)) (numberOf (gapFault gap ds 0))))
+    by a p = says-then (fall-says 0 ds a 0)
+        (λ z. says-then (one-says 29 (a + 4 * (length ds - 1)) (0 + 4 * (length ds - 1)) (eqb (getD ds (length ds - 1) 0) 0))
+        (λ y. one-says 30 p 0 (not (eqb gap 0) && gapShort gap 1 ds)))
+
+-- A stored row
+
+-- numbers read one every so many bytes are the first of a list
+spaced-take : (f : ℕ → ℕ) (step n at : ℕ) (l : List ℕ) → n ≤ length l → ((i : ℕ) → i < n → f (at + step * i) ≡ getD l i 0) → spaced f step n at ≡ take n l
+spaced-take f step n at l h e =
+    let a = length-spaced f step n at in
+    ext-getD 0 (spaced f step n at) (take n l) (a ∙ sym (length-take-le n l h))
+    (λ i g. let m : i < n = omega (arith, g, a) in spaced-at f step n i at m ∙ e i m ∙ sym (getD-take n l i 0 m))
+
+module _ (s : List ℕ) (at : ℕ) (r : Row) (st : Stored s at r) where
+  abbrev tasksStart : ℕ
+  tasksStart = afterList at (r .listed)
+
+  identity-says : (t : Table) (ids : List ℕ) (count : ℕ) → used t (r .id) ≡ ltb (first (λ i. eqb (getD ids i 0) (r .id)) 0 count) count
+      → Says (identityFault s at t) (identityNumber ids count (r .id) (r .kind) (r .overload))
+  unfolding identityFault identityNumber
+  identity-says t ids count e = rw (st .id, st .kind, st .overload, e)
+      (says-when 3 (idPlace at) _ (says-when 4 (kindPlace at) _ (says-when 4 (overloadPlace at) _ Says.none)))
+
+  times-says : Says (timesFault s at) (timesNumber (r .deadline) (r .gap))
+  unfolding timesFault timesNumber
+  times-says = rw (st .deadline, st .gap) (says-when 5 (deadlinePlace at) _ (says-when 6 (gapPlace at) _ Says.none))
+
+  counts-says : (before : ℕ) → Says (countsFault s at before) (countsNumber before (r .listed) (r .tasks))
+  unfolding countsFault countsNumber
+  counts-says before = rw (st .listed, st .tasks, cut maxDistances (r .listed) (omega arith), cut-tasks before (r .tasks))
+      (says-when 27 (listedPlace at) _ (says-when 8 (tasksPlace at) _ Says.none))
+
+  head-says : (t : Table) (ids : List ℕ) (count : ℕ) → used t (r .id) ≡ ltb (first (λ i. eqb (getD ids i 0) (r .id)) 0 count) count
+      → Says (headFault s at t)
+      (firstNumber (identityNumber ids count (r .id) (r .kind) (r .overload)) (firstNumber (timesNumber (r .deadline) (r .gap)) (countsNumber (t .tasks) (r .listed) (r .tasks))))
+  unfolding headFault _when_else_
+  head-says t ids count e = rw (le-ltb (length s) (at + 16) (omega (arith, st .there)))
+      (says-then (identity-says t ids count e) (λ z. says-then times-says (λ y. counts-says (t .tasks))))
+
+  -- where the counts are right
+  module _ (f : Fits r) (few : r .listed ≤ maxDistances) (some : r .tasks ≤ maxTasks) where
+    listed-is : listedAt s at ≡ r .listed
+    listed-is = st .listed ∙ omega arith
+
+    tasks-is : tasksAt s at ≡ r .tasks
+    tasks-is = st .tasks ∙ omega arith
+
+    distances-read : distancesAt s at ≡ distances r
+    distances-read = rw listed-is (spaced-take (word 4 s) 4 (r .listed) (listPlace at) (r .list) (omega (arith, f .list-places)) (st .distance))
+
+    priorities-read : prioritiesAt s at ≡ take (r .tasks) (r .priority)
+    priorities-read = rw (listed-is, tasks-is) (spaced-take (priorityAt s) 8 (r .tasks) tasksStart (r .priority) (omega (arith, f .priority-places)) (st .priority))
+
+    costs-read : costsAt s at ≡ take (r .tasks) (r .cost)
+    costs-read = rw (listed-is, tasks-is) (spaced-take (costAt s) 8 (r .tasks) tasksStart (r .cost) (omega (arith, f .cost-places)) (st .cost))
+
+    -- the row is read back, with 0 in the places past a count
+    pub row-read : rowAt s at ≡ cleared r
+    unfolding rowAt
+    row-read = rw (st .id, st .kind, st .overload, st .deadline, st .gap, distances-read, priorities-read, costs-read, listed-is, tasks-is)
+
+    pub length-read : lengthAt s at ≡ lengthOf r
+    length-read = rw (listed-is, tasks-is)
+
+    list-there-says : Says (listFault s at) (listNumber (r .gap) (distances r))
+    unfolding listFault _when_else_
+    list-there-says = rw (le-ltb (length s) (firstTask s at) (omega (arith, st .there, listed-is)), st .gap, distances-read)
+        (list-says (r .gap) (distances r) (listPlace at) (gapPlace at))
+
+    abbrev place : ℕ → ℕ
+    place i = tasksStart + 8 * i
+
+    abbrev wrong : ℕ → Bool
+    wrong = taskWrong (r .priority) (r .cost)
+
+    -- two tests with one number are one
+    one-test : (n : ℕ) (a b : Bool) → (n when a else n when b else 0) ≡ (n when a || b else 0)
+    unfolding _when_else_
+    one-test n true b = refl
+    one-test n false b = refl
+
+    task-says : (i : ℕ) → i < r .tasks → Says (taskFault s (place i)) (10 when wrong i else 0)
+    unfolding taskFault taskMarkFault taskRestFault valuesFault markOf _when_else_ _then_
+    task-says i h =
+        rw (le-ltb (length s) (place i + 2) (omega (arith, st .there, h)), st .task-mark i h, le-ltb (length s) (place i + 8) (omega (arith, st .there, h)),
+        st .priority i h, st .cost i h, ← one-test 10 (eqb (getD (r .priority) i 0) 0) (outside 1 maxCost (getD (r .cost) i 0)))
+        (says-when 9 (priorityPlace (place i)) (eqb (getD (r .priority) i 0) 0) (says-when 9 (costPlace (place i)) (outside 1 maxCost (getD (r .cost) i 0)) Says.none))
+
+    -- the first wrong task is the next one, or one of those after it
+    next-wrong : (i k : ℕ) → i < r .tasks → (w : Bool) → firstNumber (10 when w else 0) (10 when ltb k (r .tasks) else 0) ≡ (10 when ltb (i when w else k) (r .tasks) else 0)
+    unfolding byNumber _when_else_
+    next-wrong i k h true = rw (lt-ltb i (r .tasks) h)
+    next-wrong i k h false = refl
+
+    tasks-says : (m i : ℕ) → i + m ≡ r .tasks → Says (tasksFault s m (place i)) (10 when ltb (first wrong i m) (r .tasks) else 0)
+    unfolding tasksFault first
+    tasks-says zero i e = subst (Says Accepted) (sym (when-no 10 0 (le-ltb i (r .tasks) (omega (arith, e))))) Says.none
+    tasks-says (suc m) i e =
+        let h : i < r .tasks = omega (arith, e) in
+        let p : place i + 8 ≡ place (suc i) = omega arith in
+        subst (Says (taskFault s (place i) then tasksFault s m (place i + 8))) (next-wrong i (first wrong (suc i) m) h (wrong i))
+        (says-then (task-says i h) (λ z. rw p (tasks-says m (suc i) (omega (arith, e)))))
+
+    lists-says : Says (listFault s at then tasksFault s (tasksAt s at) (firstTask s at)) (listsNumber r)
+    unfolding listsNumber tasksNumber
+    lists-says =
+        let z : place 0 ≡ tasksStart = omega arith in
+        says-then list-there-says (λ y. rw (listed-is, tasks-is) (subst (λ (n : ℕ). Says (tasksFault s (r .tasks) n) (10 when ltb (first wrong 0 (r .tasks)) (r .tasks) else 0)) z (tasks-says (r .tasks) 0 (omega arith))))
+
+  -- the reader says of the record what the values say of the row
+  pub chain-says : Fits r → (j : Judged) (t : Table) → used t (r .id) ≡ ltb (first (λ i. eqb (getD (j .ids) i 0) (r .id)) 0 (j .count)) (j .count) → t .tasks ≡ j .tasks
+      → Says (chainFault s at t) (rowNumber j r)
+  unfolding chainFault rowNumber
+  chain-says f j t e g =
+      let id = identityNumber (j .ids) (j .count) (r .id) (r .kind) (r .overload) in
+      let times = timesNumber (r .deadline) (r .gap) in
+      let counts = countsNumber (j .tasks) (r .listed) (r .tasks) in
+      let head : Says (headFault s at t) (firstNumber id (firstNumber times counts)) = subst (λ (n : ℕ). Says (headFault s at t) (firstNumber id (firstNumber times (countsNumber n (r .listed) (r .tasks))))) g (head-says t (j .ids) (j .count) e) in
+      subst (Says (headFault s at t then listFault s at then tasksFault s (tasksAt s at) (firstTask s at)))
+      (first-assoc id (firstNumber times counts) (listsNumber r) ∙ ap (firstNumber id) (first-assoc times counts (listsNumber r)))
+      (says-then head (λ z.
+      let c = counts-right (j .tasks) (r .listed) (r .tasks) (first-none times counts (first-none id (firstNumber times counts) z .1) .1) in
+      lists-says f (c .1) (c .3)))
