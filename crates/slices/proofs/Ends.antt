@@ -19,7 +19,6 @@ module _ (s : List ℕ) (bytes : Bytes s) (verdict : readTable s .verdict ≡ Ac
   end = placeOf (tableOf s) (tableOf s .count)
 
   pub end-stored : endRecord (tableOf s .count) ≡ drop end s
-  unfolding markNumber
   end-stored =
       let holds = taken s bytes verdict .holds in
       let mark : word 2 s end ≡ 20037 = mark-number (word 2 s end) (holds .end-mark) (omega arith) in

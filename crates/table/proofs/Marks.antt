@@ -11,14 +11,14 @@ use Rattle.table.specs.declared.Mark.{Mark}
 use Rattle.table.specs.declared.Mark.the-variants.{Chain, Task, End, Unknown}
 
 -- the number of each, 0 for none
-pub markNumber : Mark → ℕ
+abbrev pub markNumber : Mark → ℕ
 markNumber Chain = 18499
 markNumber Task = 19284
 markNumber End = 20037
 markNumber Unknown = 0
 
 pub mark-number : (w : ℕ) {m : Mark} → markOf w ≡ m → 0 < markNumber m → w ≡ markNumber m
-unfolding markOf _when_else_ markNumber
+unfolding markOf _when_else_
 mark-number w e h = by (eqb w 18499) (eqb w 19284) (eqb w 20037) refl refl refl e h
   where
     by : (a b c : Bool) → eqb w 18499 ≡ a → eqb w 19284 ≡ b → eqb w 20037 ≡ c → {m : Mark} → (Chain when a else Task when b else End when c else Unknown) ≡ m → 0 < markNumber m → w ≡ markNumber m

@@ -8,7 +8,7 @@ use mathlib.Core.Logic.{⊎-elim}
 use borrow.Author.Tests.{lt-ltb, le-ltb, eq-eqb, ne-eqb}
 use lib.Dec.{eqb, ltb}
 use lib.ListN.{length, getD, take, drop, set, length-append, length-drop}
-use lib.Seq.{drop-drop, drop-at}
+use lib.Seq.{drop-drop, drop-at, take-nil}
 use Rattle.search.specs.Choice.{_when_else_, byNumber}
 use Rattle.search.specs.Find.{first}
 use Rattle.search.specs.Lists.{All}
@@ -48,6 +48,14 @@ stays : (j : Judged) (rs : List Row) → (j .number ≡ 0 → ⊥) → judgedAll
 unfolding judgedAll
 stays j [] h = refl
 stays j (r ∷ rs) h = ap (λ (k : Judged). judgedAll k rs) (with-fault j r h) ∙ stays j rs h
+
+number-none : (j : Judged) → j .number ≡ 0 → judgedNumber j ≡ (11 when eqb (j .count) 0 else 0)
+unfolding byNumber
+number-none j e = ap (λ (n : ℕ). firstNumber n (11 when eqb (j .count) 0 else 0)) e
+
+eleven : (j : Judged) → judgedNumber (faulted j 11) ≡ 11
+unfolding byNumber
+eleven j = refl
 
 -- one row more, none of those before at fault
 module _ (j : Judged) (r : Row) (sound : j .number ≡ 0) where
@@ -101,11 +109,11 @@ module _ (s : List ℕ) (total : ℕ) where
       let count : word 2 s (at + 2) ≡ total = word-there 2 s (endRecord total) at 2 (at + 2) d refl ∙ end-count total (omega arith) in
       let end = records-mark s at t (omega arith) (maxChains - t .count) End (ap markOf mark) (λ z. omega (arith, ap markNumber z)) in
       subst (λ (r : Reading). Says (r .verdict) (11 when eqb total 0 else 0)) (sym end)
-      (rw (le-ltb (length s) (afterEnd at) (omega arith), e, count, eq-eqb total total refl, eq-eqb (length s) (afterEnd at) long) (by (eqb total 0)))
+      (rw (le-ltb (length s) (afterEnd at) (omega arith), e, count, eq-eqb total total refl, eq-eqb (length s) (afterEnd at) long) (by _ (eqb total 0)))
     where
-      by : (b : Bool) → Says (unless refusal (Refused 11 (countPlace at) when b else Accepted) (accepted t) .verdict) (11 when b else 0)
-      by true = Says.fault 10 (countPlace at)
-      by false = Says.none
+      by : (u : Table) (b : Bool) → Says (unless refusal (Refused 11 (countPlace at) when b else Accepted) (accepted u) .verdict) (11 when b else 0)
+      by u true = Says.fault 10 (countPlace at)
+      by u false = Says.none
 
   -- a stored row, its rows before without a fault
   module _ (at : ℕ) (t : Table) (j : Judged) (r : Row) (st : Stored s at r) (f : Fits r) (sound : j .number ≡ 0) (keeps : Keeps (j .ids) (before j) t) where
@@ -129,3 +137,37 @@ module _ (s : List ℕ) (total : ℕ) where
 
       keeps-on : Keeps (counted j r .ids) (before (counted j r)) (plus t (rowAt s at))
       keeps-on = rw read-row (before-more t (cleared r) keeps)
+
+  -- the rows left, after those judged without a fault
+  rows-says : (rs : List Row) (m at : ℕ) (t : Table) (j : Judged) → at ≤ length s → drop at s ≡ flatten (map rowBytes rs) ++ endRecord total → All Fits (take m rs)
+      → j .number ≡ 0 → m + j .count ≡ mostJudged → j .count ≤ maxChains → j .count + length rs ≡ total → Keeps (j .ids) (before j) t
+      → Says (records (maxChains - t .count) s at t .verdict) (judgedNumber (judgedAll j (take m rs)))
+  unfolding judgedAll flatten
+  rows-says [] m at t j in-s d f sound e few all keeps =
+      let c : j .count ≡ total = omega (arith, all) in
+      subst (Says (records (maxChains - t .count) s at t .verdict))
+      (ap (λ (n : ℕ). 11 when eqb n 0 else 0) (sym c) ∙ sym (number-none j sound) ∙ ap (λ (l : List Row). judgedNumber (judgedAll j l)) (sym (take-nil m)))
+      (end-says at t in-s d (sym (keeps .count) ∙ c) (omega arith))
+  rows-says (r ∷ rs) zero at t j in-s d f sound e few all keeps = absurd (omega (arith, e))
+  rows-says (r ∷ rs) (suc m) at t j in-s d f sound e few all keeps =
+      let post = flatten (map rowBytes rs) ++ endRecord total in
+      let d′ : drop at s ≡ rowBytes r ++ post = d ∙ append-assoc (rowBytes r) (flatten (map rowBytes rs)) (endRecord total) in
+      let st = stored s at r post d′ (f .0) in-s in
+      let chain = marked at t j r st (f .0) sound keeps in
+      let here = there at t j r st (f .0) sound keeps in
+      let number = judgedNumber (judgedAll (judgedWith j r) (take m rs)) in
+      ⊎-elim
+      (λ l.
+      let next = records-chain s at t here chain (rw (← keeps .count) l) in
+      subst (λ (x : Reading). Says (x .verdict) number) (sym next)
+      (subst (Says _) (number-on j r sound l (take m rs)) (says-unless _ (row-says at t j r st (f .0) sound keeps) (λ z.
+      let size = read-length at t j r st (f .0) sound keeps z in
+      let rest : drop (at + lengthAt s at) s ≡ post = rw (size, ← drop-drop (length (rowBytes r)) at s, d′) (drop-at (rowBytes r) post (length (rowBytes r)) refl) in
+      rows-says rs m (at + lengthAt s at) (plus t (rowAt s at)) (counted j r) (omega (arith, st .there, size, row-long r [])) rest (f .1) refl (omega (arith, e)) (omega (arith, l)) (omega (arith, all))
+      (keeps-on at t j r st (f .0) sound keeps z)))))
+      (λ l.
+      let full : j .count ≡ maxChains = omega arith in
+      let fault = ap (λ (k : Judged). judgedNumber (judgedAll k (take m rs))) (with-full j r sound full) ∙ ap judgedNumber (stays (faulted j 11) (take m rs) (λ z. omega arith)) in
+      subst (λ (x : Reading). Says (x .verdict) number) (sym (records-full s at t here chain (sym (keeps .count) ∙ full)))
+      (subst (Says (Refused 11 at)) (sym (fault ∙ eleven j)) (Says.fault 10 at)))
+      (lt-or-le (j .count) maxChains)
