@@ -1,1 +1,4 @@
+pub mod Fit
+pub mod Numbers
+pub mod Puts
 pub mod Loops
