@@ -5,16 +5,15 @@ use mathlib.Core.List.{List, [], _∷_}
 use mathlib.Core.Bool.{Bool, true, false, not, _&&_, _||_}
 use mathlib.Core.Logic.{_⊎_, ⊎-elim}
 use native.Mathlib.Omega.{arith}
-use native.Mathlib.Numerals.{add-one}
 use lib.Dec.{eqb, ltb}
 use lib.ListN.{length, getD, take, drop}
-use lib.Seq.{drop-cons, getD-take, length-take-le}
+use lib.Seq.{getD-take, length-take-le}
 use borrow.Author.Tests.{lt-ltb, le-ltb, ltb-false, eq-eqb, ne-eqb}
 use Rattle.search.specs.Choice.{_when_else_, byNumber}
 use Rattle.search.specs.Find.{first}
 use Rattle.search.proofs.Choice.{when-yes, when-no, when-cases, when-zero, true-not-false}
 use Rattle.search.proofs.Find.{first-miss, first-none}
-use Rattle.table.specs.Limits.{maxChains, maxTasks, maxAllTasks, maxDistances, maxDistance}
+use Rattle.table.specs.Limits.{maxChains, maxTasks, maxAllTasks, maxDistances, maxDistance, maxCost}
 use Rattle.table.specs.Fault.{_then_, outside, fallFault, lastFault, gapShort, gapFault, distancesFault}
 use Rattle.table.specs.Read.{numberOf}
 use Rattle.table.specs.declared.Row.{Row}
@@ -25,6 +24,7 @@ use Rattle.table.proofs.Lists.{fall-here, fall-on, gap-yes, gap-no}
 use Rattle.writing.specs.Rows.{Fits}
 use Rattle.writing.specs.code.Judged.{countsNumber, listNumber, taskWrong, tasksNumber, firstNumber, rowNumber, faulted, counted, judgedWith, Small, JudgedWith}
 use Rattle.writing.specs.declared.judged.Judged.{Judged}
+use Rattle.writing.proofs.Lefts.{left-on}
 
 -- a number refuses, 0 does not
 pub by-fault : {A : Type 0} (refuse : ℕ → A) (n : ℕ) (answer : A) → (n ≡ 0 → ⊥) → byNumber refuse n answer ≡ refuse n
@@ -37,42 +37,36 @@ unfolding byNumber
 number-none zero m e = (refl, e)
 number-none (suc n) m e = absurd (omega (arith, e))
 
--- outside 1 to a limit
+-- outside 1 to a limit, as the code's two tests say it
 module _ (high x : ℕ) where
-  pub outside-yes : (x < 1) ⊎ (high < x) → outside 1 high x ≡ true
-  outside-yes h = ⊎-elim (λ l. or-left _ _ (lt-ltb _ _ l)) (λ l. or-right (ltb x 1) _ (lt-ltb _ _ l)) h
+  pub outside-yes : (x < 1) ⊎ (ltb high x ≡ true) → outside 1 high x ≡ true
+  outside-yes h = ⊎-elim (λ l. or-left _ _ (lt-ltb _ _ l)) (λ e. or-right (ltb x 1) _ e) h
 
-  pub outside-no : 1 ≤ x → x ≤ high → outside 1 high x ≡ false
-  outside-no l h = or-none _ _ (le-ltb _ _ l) (le-ltb _ _ h)
+  pub outside-no : 1 ≤ x → ltb high x ≡ false → outside 1 high x ≡ false
+  outside-no l e = or-none _ _ (le-ltb _ _ l) e
 
 -- The first n of a list, from number i on
 
-module _ (list : List ℕ) (n i : ℕ) (h : n ≤ length list) where
-  left-on : i < n → drop i (take n list) ≡ getD list i 0 ∷ drop (i + 1) (take n list)
-  left-on k =
-      let e = length-take-le n list h in
-      rw (add-one, ← getD-take n list i 0 k) (drop-cons (take n list) i 0 (omega arith))
+module _ (list : List ℕ) (n i : ℕ) (h : n ≤ length list) (k : i < n) where
+  opened : drop i (take n list) ≡ getD list i 0 ∷ drop (i + 1) (take n list)
+  opened = left-on list n i 0 k (omega arith)
 
-  module _ (k : i < n) (before : ℕ) where
+  module _ (before : ℕ) where
     pub fall-stop : outside before maxDistance (getD list i 0) ≡ true → fallFault before (drop i (take n list)) (4 * i) ≡ Refused 29 (4 * i)
-    fall-stop e = rw (left-on k) (fall-here before (getD list i 0) (drop (i + 1) (take n list)) (4 * i) e)
+    fall-stop e = rw opened (fall-here before (getD list i 0) (drop (i + 1) (take n list)) (4 * i) e)
 
     pub fall-next : outside before maxDistance (getD list i 0) ≡ false
         → fallFault before (drop i (take n list)) (4 * i) ≡ fallFault (getD list i 0) (drop (i + 1) (take n list)) (4 * (i + 1))
     fall-next e =
         let next : 4 * i + 4 ≡ 4 * (i + 1) = omega arith in
-        rw (left-on k, ← next) (fall-on before (getD list i 0) (drop (i + 1) (take n list)) (4 * i) e)
+        rw (opened, ← next) (fall-on before (getD list i 0) (drop (i + 1) (take n list)) (4 * i) e)
 
-  module _ (k : i < n) (gap : ℕ) where
+  module _ (gap : ℕ) where
     pub short-here : gap * (i + 1) < getD list i 0 → gapShort gap (i + 1) (drop i (take n list)) ≡ true
-    short-here l = rw (left-on k) (gap-yes gap (i + 1) (getD list i 0) (drop (i + 1) (take n list)) l)
+    short-here l = rw opened (gap-yes gap (i + 1) (getD list i 0) (drop (i + 1) (take n list)) l)
 
     pub short-next : getD list i 0 ≤ gap * (i + 1) → gapShort gap (i + 1) (drop i (take n list)) ≡ gapShort gap (i + 1 + 1) (drop (i + 1) (take n list))
-    short-next l = rw (left-on k) (gap-no gap (i + 1) (getD list i 0) (drop (i + 1) (take n list)) l)
-
--- none of them is left
-pub left-none : (list : List ℕ) (n i : ℕ) → n ≤ length list → n ≤ i → drop i (take n list) ≡ []
-left-none list n i h k = lib.ListN.drop-of-length-le (take n list) {i = i} (omega (arith, length-take-le n list h))
+    short-next l = rw opened (gap-no gap (i + 1) (getD list i 0) (drop (i + 1) (take n list)) l)
 
 -- the last of them
 pub last-is : (list : List ℕ) (n : ℕ) → n ≤ length list → 1 ≤ n → getD (take n list) (length (take n list) - 1) 0 ≡ getD list (n - 1) 0
@@ -110,6 +104,9 @@ module _ (gap : ℕ) (ds : List ℕ) where
 
 -- The tasks' number
 
+pub task-wrong : (priority cost : List ℕ) (i : ℕ) → (getD priority i 0 ≡ 0) ⊎ (outside 1 maxCost (getD cost i 0) ≡ true) → taskWrong priority cost i ≡ true
+task-wrong priority cost i h = ⊎-elim (λ e. or-left _ _ (eq-eqb _ _ e)) (λ e. or-right (eqb (getD priority i 0) 0) _ e) h
+
 module _ (priority cost : List ℕ) (n : ℕ) where
   pub tasks-wrong : (i : ℕ) → i < n → taskWrong priority cost i ≡ true → tasksNumber priority cost n ≡ 10
   unfolding tasksNumber
@@ -131,7 +128,7 @@ counts-none before listed tasks e =
     let b = when-zero 8 _ _ (a .1) in
     let l = none-or _ _ (a .0) in
     let t = none-or (outside 1 maxTasks tasks) _ (b .0) in
-    (ltb-false _ _ (l .0), ltb-false _ _ (l .1), ltb-false _ _ (none-or _ _ (t .0) .1), ltb-false _ _ (t .1))
+    (ltb-false _ _ (l .0), ltb-false _ _ (l .1), ltb-false _ _ (none-or (ltb tasks 1) _ (t .0) .1), ltb-false _ _ (t .1))
 
 pub row-counts : (j : Judged) (r : Row) → rowNumber j r ≡ 0
     → (1 ≤ r .listed) × (r .listed ≤ maxDistances) × (r .tasks ≤ maxTasks) × (j .tasks + r .tasks ≤ maxAllTasks)

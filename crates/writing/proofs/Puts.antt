@@ -16,8 +16,10 @@ use Rattle.table.specs.Place.{lengthOf}
 use Rattle.table.specs.declared.Row.{Row}
 use Rattle.table.proofs.Words.{length-bytes, bytes-join}
 use Rattle.writing.specs.Rows.{headBytes, distanceBytes, taskRecord, taskBytes, pieces, listBytes, tasksBytes, rowBytes}
+use Rattle.writing.specs.code.Judged.{firstNumber}
 use Rattle.writing.specs.code.Put.{judgedNumber, tableLength, answerOf}
 use Rattle.writing.specs.declared.judged.Judged.{Judged}
+use Rattle.writing.specs.declared.Written.{Written}
 use Rattle.writing.specs.declared.Written.the-variants.{Used, Refused}
 
 -- a number
@@ -85,6 +87,12 @@ unfolding rowBytes
 row-length r = rw (length-append, length-append, head-length r, list-length (r .list) (r .listed), tasks-length (r .priority) (r .cost) (r .tasks))
 
 -- The answer
+
+-- a fault is the answer
+pub fault-answers : (k m : ℕ) (answer : Written) → (k ≡ 0 → ⊥) → byNumber Refused (firstNumber k m) answer ≡ Refused k
+unfolding byNumber
+fault-answers zero m answer h = absurd (h refl)
+fault-answers (suc k) m answer h = refl
 
 -- a refusal has a number
 some-number : (k l n : ℕ) (t : Bool) → byNumber Refused k (Refused 24 when t else Used l) ≡ Refused n → n ≡ 0 → ⊥

@@ -3,7 +3,7 @@ use native.Mathlib.Omega.{arith}
 use mathlib.Core.Path.{_≡_}
 use mathlib.Core.Bool.{true, false}
 use mathlib.Core.Logic.{inl, inr, ⊎-elim}
-use borrow.Author.Tests.{lt-ltb, le-ltb}
+use borrow.Author.Tests.{ltb-false, lt-ltb, le-ltb}
 use Rattle.search.specs.Choice.{_when_else_}
 use Rattle.table.specs.Limits.{maxDistances, maxTasks}
 use Rattle.table.specs.Fault.{outside}
@@ -23,7 +23,7 @@ returns-2 c =
     rw (outside-no maxDistances (a .listed) (c .before .before .if1 .left) (c .before .if2 .left), outside-yes maxTasks (a .tasks) (⊎-elim (λ w. inl (w .taken)) (λ w. inr (w .1 .taken)) (c .if3 .came)))
 
 add-if5 : tie.Need-add-if5
-add-if5 c = omega (arith, c .if4 .left, c .before .before .before .before .pre)
+add-if5 c = omega (arith, ltb-false maxTasks (c .before .before .before .before .args .tasks) (c .if4 .left), c .before .before .before .before .pre)
 
 returns-3 : tie.Need-returns-3
 unfolding countsNumber _when_else_

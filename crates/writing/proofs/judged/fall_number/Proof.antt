@@ -7,7 +7,8 @@ use lib.ListN.{take, drop}
 use Rattle.table.specs.Fault.{fallFault}
 use Rattle.table.specs.Read.{numberOf}
 use Rattle.table.proofs.Lists.{fall-end}
-use Rattle.writing.proofs.Numbers.{fall-stop, fall-next, left-none}
+use Rattle.writing.proofs.Numbers.{fall-stop, fall-next}
+use Rattle.writing.proofs.Lefts.{left-none}
 use Rattle.writing.proofs.judged.fall_number.Statement.{statement}
 use Rattle.writing.proofs.judged.fall_number.Tie as tie
 
@@ -51,7 +52,7 @@ returns-2 : tie.Need-returns-2 Inv-loop μ-loop
 returns-2 c =
     let a = c .before .before .args in
     let l = c .before .loop in
-    sym (ap numberOf (sym (l .inv .1) ∙ ap (λ ds. fallFault (l .before) ds (4 * l .i)) (left-none (now (a .list)) (a .n) (l .i) (omega arith) (omega arith)) ∙ fall-end (l .before) (4 * l .i)))
+    sym (ap numberOf (sym (l .inv .1) ∙ ap (λ ds. fallFault (l .before) ds (4 * l .i)) (left-none (now (a .list)) (a .n) (l .i) (omega arith)) ∙ fall-end (l .before) (4 * l .i)))
 
 pub fall-number-spec : {M : Type 1} → statement M
 fall-number-spec =

@@ -7,7 +7,8 @@ use denote.Ref.{now}
 use lib.ListN.{take, drop}
 use Rattle.table.specs.Fault.{gapShort}
 use Rattle.table.proofs.Lists.{gap-end}
-use Rattle.writing.proofs.Numbers.{short-here, short-next, left-none}
+use Rattle.writing.proofs.Numbers.{short-here, short-next}
+use Rattle.writing.proofs.Lefts.{left-none}
 use Rattle.writing.proofs.judged.gap_short.Statement.{statement}
 use Rattle.writing.proofs.judged.gap_short.Tie as tie
 
@@ -59,7 +60,7 @@ returns-2 : tie.Need-returns-2 Inv-loop μ-loop
 returns-2 c =
     let a = c .before .before .args in
     let l = c .before .loop in
-    sym (gap-end (a .gap) (l .i + 1)) ∙ sym (ap (gapShort (a .gap) (l .i + 1)) (left-none (now (a .list)) (a .n) (l .i) (omega arith) (omega arith))) ∙ l .inv .1
+    sym (gap-end (a .gap) (l .i + 1)) ∙ sym (ap (gapShort (a .gap) (l .i + 1)) (left-none (now (a .list)) (a .n) (l .i) (omega arith))) ∙ l .inv .1
 
 pub gap-short-spec : {M : Type 1} → statement M
 gap-short-spec =

@@ -3,16 +3,14 @@ use Prim.Native.Nat.{ℕ, _≤_, _<_, _-_}
 use native.Mathlib.Omega.{arith}
 use mathlib.Core.Path.{_≡_, sym, _∙_}
 use mathlib.Core.Bool.{true}
-use mathlib.Core.Logic.{⊎-elim}
+use mathlib.Core.Logic.{inl, inr, ⊎-elim}
 use denote.Ref.{now}
-use lib.ListN.{getD}
-use lib.Dec.{eqb}
 use borrow.Author.Count.{below-more}
-use borrow.Author.Tests.{eq-eqb, ne-eqb}
+use borrow.Author.Tests.{ne-eqb}
 use Rattle.search.proofs.Choice.{true-not-false}
-use Rattle.table.proofs.Firsts.{or-left, or-right, or-none}
+use Rattle.table.proofs.Firsts.{or-none}
 use Rattle.writing.specs.code.Judged.{taskWrong}
-use Rattle.writing.proofs.Numbers.{tasks-wrong, tasks-right}
+use Rattle.writing.proofs.Numbers.{task-wrong, tasks-wrong, tasks-right}
 use Rattle.writing.proofs.judged.tasks_number.Statement.{statement}
 use Rattle.writing.proofs.judged.tasks_number.Tie as tie
 
@@ -45,7 +43,7 @@ returns c =
     let a = c .before .before .before .before .args in
     let i = c .before .before .before .loop .i in
     sym (tasks-wrong (now (a .priority)) (now (a .cost)) (a .n) i (omega arith)
-    (⊎-elim (λ w. or-left _ _ (eq-eqb _ _ (w .taken))) (λ w. or-right (eqb (getD (now (a .priority)) i 0) 0) _ (sym (w .2 .ensures) ∙ w .3 .taken)) (c .if1 .came)))
+    (task-wrong (now (a .priority)) (now (a .cost)) i (⊎-elim (λ w. inl (w .taken)) (λ w. inr (sym (w .2 .ensures) ∙ w .3 .taken)) (c .if1 .came))))
 
 add-i : tie.Need-add-i Inv-loop μ-loop
 add-i c = omega arith

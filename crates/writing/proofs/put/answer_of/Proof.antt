@@ -1,17 +1,16 @@
 -- At each return the tests so far, in order.
-use mathlib.Core.Path.{ap, sym, _∙_}
+use mathlib.Core.Path.{sym}
 use borrow.Author.Tests.{eq-eqb, ne-eqb, lt-ltb, le-ltb}
 use Rattle.search.specs.Choice.{_when_else_, byNumber}
 use Rattle.writing.specs.code.Put.{answerOf}
-use Rattle.writing.specs.declared.Written.the-variants.{Refused}
-use Rattle.writing.proofs.Numbers.{by-fault}
+use Rattle.writing.proofs.Puts.{fault-answers}
 use borrow.Author.Needs.{needs}
 use Rattle.writing.proofs.put.answer_of.Statement.{statement}
 use Rattle.writing.proofs.put.answer_of.Tie as tie
 
 returns : tie.Need-returns
 unfolding answerOf
-returns c = sym (ap (λ n. byNumber Refused n _) (by-fault (λ k. k) _ _ (c .if1 .taken)) ∙ by-fault Refused _ _ (c .if1 .taken))
+returns c = sym (fault-answers _ _ _ (c .if1 .taken))
 
 returns-2 : tie.Need-returns-2
 unfolding answerOf byNumber _when_else_

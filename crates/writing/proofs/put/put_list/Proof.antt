@@ -1,6 +1,7 @@
 -- The first i distances are put.
 use Prim.Native.Nat.{_≤_, _+_, _*_, _-_}
 use native.Mathlib.Omega.{arith}
+use native.Mathlib.Nat.{add-zero}
 use mathlib.Core.Path.{_≡_, subst, sym}
 use denote.Ref.{now}
 use lib.ListN.{getD}
@@ -20,7 +21,7 @@ abbrev μ-loop : tie.MeasureT-loop
 loop-holds : tie.Need-loop-holds Inv-loop μ-loop
 loop-holds c =
     let a = c .before .args in
-    (omega arith, rw (pieces-none (distanceBytes (now (a .list)))) (wrote-none (now (a .out)) (a .at) (omega arith)))
+    (omega arith, rw (pieces-none (distanceBytes (now (a .list))), add-zero) (wrote-none (now (a .out)) (a .at) (omega arith)))
 
 mul-put-u32 : tie.Need-mul-put-u32 Inv-loop μ-loop
 mul-put-u32 c = omega arith
