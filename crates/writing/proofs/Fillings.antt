@@ -2,8 +2,7 @@
 use Prim.Native.Nat.{ℕ, _<_, _≤_}
 use native.Mathlib.Omega.{arith}
 use mathlib.Core.Path.{_≡_, refl}
-use mathlib.Core.List.{List, _++_}
-use lib.ListN.{length, take, drop}
+use mathlib.Core.List.{List}
 use lib.Seq.{take-take}
 use lib.Dec.{ltb}
 use borrow.Author.Tests.{ltb-false, ne-eqb}

@@ -1,9 +1,9 @@
 -- What the type of a row says of its values. Assumes nothing.
 use Prim.Native.Nat.{ℕ, zero, suc, _^_, _<_}
 use native.Mathlib.Omega.{arith}
-use mathlib.Core.Path.{_≡_, sym, _∙_}
+use mathlib.Core.Path.{sym, _∙_}
 use mathlib.Core.List.{List, [], _∷_, map}
-use lib.ListN.{length, getD, length-map}
+use lib.ListN.{getD, length-map}
 use mir.Syntax.{Width, w16, w32}
 use mir.Val.{Val, bits}
 use denote.Laws.{Is}

@@ -2,7 +2,7 @@
 use Prim.Native.Nat.{ℕ, zero, suc, _+_, _*_, _-_, _<_, _≤_}
 use mathlib.Core.Path.{_≡_, refl, ap, sym, _∙_}
 use mathlib.Core.List.{List, [], _∷_}
-use mathlib.Core.Bool.{Bool, true, false, not, _&&_, _||_}
+use mathlib.Core.Bool.{Bool, true, false, not, _&&_}
 use mathlib.Core.Logic.{_⊎_, ⊎-elim}
 use native.Mathlib.Omega.{arith}
 use lib.Dec.{eqb, ltb}
@@ -68,10 +68,6 @@ module _ (list : List ℕ) (n i : ℕ) (h : n ≤ length list) (k : i < n) where
     pub short-next : getD list i 0 ≤ gap * (i + 1) → gapShort gap (i + 1) (drop i (take n list)) ≡ gapShort gap (i + 1 + 1) (drop (i + 1) (take n list))
     short-next l = rw opened (gap-no gap (i + 1) (getD list i 0) (drop (i + 1) (take n list)) l)
 
--- the last of them
-pub last-is : (list : List ℕ) (n : ℕ) → n ≤ length list → 1 ≤ n → getD (take n list) (length (take n list) - 1) 0 ≡ getD list (n - 1) 0
-last-is list n h k = rw (length-take-le n list h) (getD-take n list (n - 1) 0 (omega arith))
-
 -- A list's number
 
 pub fall-none : (before : ℕ) (ds : List ℕ) (at : ℕ) → numberOf (fallFault before ds at) ≡ 0 → fallFault before ds at ≡ Accepted
@@ -90,17 +86,18 @@ last-or-gap p q true u = refl
 last-or-gap p q false true = refl
 last-or-gap p q false false = refl
 
-module _ (gap : ℕ) (ds : List ℕ) where
-  pub list-falls : (numberOf (fallFault 0 ds 0) ≡ 0 → ⊥) → listNumber gap ds ≡ numberOf (fallFault 0 ds 0)
-  unfolding listNumber distancesFault
-  list-falls h = number-stop (fallFault 0 ds 0) (lastFault ds 0 then gapFault gap ds 0) h
+pub list-falls : (gap : ℕ) (ds : List ℕ) → (numberOf (fallFault 0 ds 0) ≡ 0 → ⊥) → listNumber gap ds ≡ numberOf (fallFault 0 ds 0)
+unfolding listNumber distancesFault
+list-falls gap ds h = number-stop (fallFault 0 ds 0) (lastFault ds 0 then gapFault gap ds 0) h
 
-  pub list-rises : numberOf (fallFault 0 ds 0) ≡ 0
-      → listNumber gap ds ≡ (30 when eqb (getD ds (length ds - 1) 0) 0 else 31 when not (eqb gap 0) && gapShort gap 1 ds else 0)
-  unfolding listNumber distancesFault lastFault gapFault _then_
-  list-rises e =
-      ap (λ v. numberOf (v then lastFault ds 0 then gapFault gap ds 0)) (fall-none 0 ds 0 e)
-      ∙ last-or-gap (0 + 4 * (length ds - 1)) 0 (eqb (getD ds (length ds - 1) 0) 0) (not (eqb gap 0) && gapShort gap 1 ds)
+pub list-rises : (gap : ℕ) (list : List ℕ) (n : ℕ) → n ≤ length list → 1 ≤ n → numberOf (fallFault 0 (take n list) 0) ≡ 0
+    → listNumber gap (take n list) ≡ (30 when eqb (getD list (n - 1) 0) 0 else 31 when not (eqb gap 0) && gapShort gap 1 (take n list) else 0)
+unfolding listNumber distancesFault lastFault gapFault _then_
+list-rises gap list n h k e =
+    let ds = take n list in
+    let last : getD ds (length ds - 1) 0 ≡ getD list (n - 1) 0 = rw (length-take-le n list h) (getD-take n list (n - 1) 0 (omega arith)) in
+    rw (← last) (ap (λ v. numberOf (v then lastFault ds 0 then gapFault gap ds 0)) (fall-none 0 ds 0 e)
+    ∙ last-or-gap (0 + 4 * (length ds - 1)) 0 (eqb (getD ds (length ds - 1) 0) 0) (not (eqb gap 0) && gapShort gap 1 ds))
 
 -- The tasks' number
 
@@ -137,7 +134,7 @@ row-counts j r e = counts-none (j .tasks) (r .listed) (r .tasks) (number-none _ 
 
 -- One row more
 
-module _ (j : Judged) (r : Row) (f : Fits r) (s : Small j) where
+module _ {j : Judged} {r : Row} (f : Fits r) (s : Small j) where
   -- a fault before it stays
   pub with-before : (j .number ≡ 0 → ⊥) → JudgedWith j r j
   unfolding judgedWith _when_else_

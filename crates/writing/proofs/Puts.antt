@@ -1,8 +1,9 @@
 -- Bytes put one after the other, and how many they are. Assumes nothing.
 use Prim.Native.Nat.{ℕ, zero, suc, min, _+_, _*_, _<_, _≤_}
 use native.Mathlib.Omega.{arith}
+use native.Mathlib.Nat.{mul-suc}
 use native.Mathlib.Numerals.{add-one}
-use mathlib.Core.Path.{_≡_, refl, ap, subst, sym, _∙_}
+use mathlib.Core.Path.{_≡_, refl, ap, subst}
 use mathlib.Core.List.{List, [], _++_, append-assoc, append-nil}
 use mathlib.Core.Bool.{Bool, true, false}
 use lib.ListN.{length, take, drop, length-append}
@@ -26,6 +27,11 @@ use Rattle.writing.specs.declared.Written.the-variants.{Used, Refused}
 pub wrote-number : (before : List ℕ) (at n x : ℕ) (after : List ℕ) (next : ℕ) → next ≡ at + n → at + n ≤ length before
     → after ≡ take at before ++ bytesOf n x ++ drop (at + n) before → Wrote before at (bytesOf n x) after next
 wrote-number before at n x after next e h w = wrote-put before at (bytesOf n x) after n next (length-bytes n x) e h w
+
+-- and one after what was put
+pub number-on : {before mid text after : List ℕ} {at here : ℕ} → Wrote before at text mid here → (n x next : ℕ) → next ≡ here + n → here + n ≤ length before
+    → after ≡ take here mid ++ bytesOf n x ++ drop (here + n) mid → Wrote before at (text ++ bytesOf n x) after next
+number-on {before} {mid} {text} {after} {at} {here} w n x next e h p = wrote-on w (wrote-number mid here n x after next e (omega (arith, w .long)) p)
 
 -- a task record is two numbers of four bytes, the fixed part of a row's record five of four or two
 pub task-bytes : (priority cost : ℕ) → bytesOf 4 (19284 + 65536 * priority) ++ bytesOf 4 cost ≡ taskRecord priority cost
@@ -64,7 +70,7 @@ pieces-on f i {before} {mid} {after} {at} {here} {next} w v =
 length-pieces : (f : ℕ → List ℕ) (k : ℕ) → ((j : ℕ) → length (f j) ≡ k) → (n i : ℕ) → length (pieces f n i) ≡ k * n
 unfolding pieces
 length-pieces f k each zero i = omega arith
-length-pieces f k each (suc n) i = rw (length-append, each i, length-pieces f k each n (i + 1)) (omega (arith, native.Mathlib.Nat.mul-suc k n))
+length-pieces f k each (suc n) i = rw (length-append, each i, length-pieces f k each n (i + 1)) (omega (arith, mul-suc k n))
 
 -- How long a record is
 

@@ -1,12 +1,9 @@
 -- At each return the tests so far, in order.
 use native.Mathlib.Omega.{arith}
-use mathlib.Core.Path.{_≡_}
-use mathlib.Core.Bool.{true, false}
 use mathlib.Core.Logic.{inl, inr, ⊎-elim}
 use borrow.Author.Tests.{ltb-false, lt-ltb, le-ltb}
 use Rattle.search.specs.Choice.{_when_else_}
 use Rattle.table.specs.Limits.{maxDistances, maxTasks}
-use Rattle.table.specs.Fault.{outside}
 use Rattle.writing.specs.code.Judged.{countsNumber}
 use Rattle.writing.proofs.Numbers.{outside-yes, outside-no}
 use Rattle.writing.proofs.judged.counts_number.Statement.{statement}

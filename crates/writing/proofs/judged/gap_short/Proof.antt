@@ -1,5 +1,5 @@
 -- The gap is too small for what is left where it is for the whole list.
-use Prim.Native.Nat.{_≤_, _+_, _*_, _-_}
+use Prim.Native.Nat.{_≤_, _+_, _-_}
 use native.Mathlib.Omega.{arith}
 use native.Mathlib.Nat.{mul-le-mul-left}
 use mathlib.Core.Path.{_≡_, refl, ap, sym, _∙_}

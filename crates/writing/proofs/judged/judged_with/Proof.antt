@@ -13,7 +13,7 @@ fits : (s : tie.Start) → Fits (s .args .row)
 fits s = row-fits (s .args .row) _ (s .good .1 .0)
 
 returns : tie.Need-returns
-returns c = let s = c .before .before in with-before (s .args .judged) (s .args .row) (fits s) (s .pre) (c .if1 .taken)
+returns c = let s = c .before .before in with-before (fits s) (s .pre) (c .if1 .taken)
 
 faulted-requires : tie.Need-faulted-requires
 faulted-requires c κs = search needs
@@ -21,7 +21,7 @@ faulted-requires c κs = search needs
 returns-2 : tie.Need-returns-2
 returns-2 c =
     let s = c .before .before .before .before .before in
-    subst (JudgedWith (s .args .judged) (s .args .row)) (sym (c .faulted .ensures)) (with-many (s .args .judged) (s .args .row) (fits s) (s .pre) (c .before .before .before .if1 .left) (c .before .if2 .taken))
+    subst (JudgedWith (s .args .judged) (s .args .row)) (sym (c .faulted .ensures)) (with-many (fits s) (s .pre) (c .before .before .before .if1 .left) (c .before .if2 .taken))
 
 row-number-requires : tie.Need-row-number-requires
 row-number-requires c κs = search needs
@@ -33,7 +33,7 @@ returns-3 : tie.Need-returns-3
 returns-3 c =
     let s = c .before .before .before .before .before .before .before in
     subst (JudgedWith (s .args .judged) (s .args .row)) (sym (c .faulted2 .ensures))
-    (with-fault (s .args .judged) (s .args .row) (fits s) (s .pre) (c .before .before .before .before .before .if1 .left) (c .before .before .before .if2 .left) (c .before .before .row-number .result) (c .before .before .row-number .ensures) (c .before .if3 .taken))
+    (with-fault (fits s) (s .pre) (c .before .before .before .before .before .if1 .left) (c .before .before .before .if2 .left) (c .before .before .row-number .result) (c .before .before .row-number .ensures) (c .before .if3 .taken))
 
 counted-requires : tie.Need-counted-requires
 counted-requires c κs =
@@ -45,7 +45,7 @@ returns-4 : tie.Need-returns-4
 returns-4 c =
     let s = c .before .before .before .before .before .before .before in
     subst (JudgedWith (s .args .judged) (s .args .row)) (sym (c .counted .ensures))
-    (with-none (s .args .judged) (s .args .row) (fits s) (s .pre) (c .before .before .before .before .before .if1 .left) (c .before .before .before .if2 .left) (c .before .before .row-number .result) (c .before .before .row-number .ensures) (c .before .if3 .left))
+    (with-none (fits s) (s .pre) (c .before .before .before .before .before .if1 .left) (c .before .before .before .if2 .left) (c .before .before .row-number .result) (c .before .before .row-number .ensures) (c .before .if3 .left))
 
 pub judged-with-spec : {M : Type 1} → statement M
 judged-with-spec =

@@ -1,5 +1,4 @@
 -- The first of the two numbers that is not 0.
-use native.Mathlib.Omega.{arith}
 use mathlib.Core.Path.{sym}
 use Rattle.search.specs.Choice.{byNumber}
 use Rattle.writing.specs.code.Judged.{listsNumber}

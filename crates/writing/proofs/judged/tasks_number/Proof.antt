@@ -52,9 +52,11 @@ loop-less : tie.Need-loop-less Inv-loop μ-loop
 loop-less c = omega arith
 
 loop-again : tie.Need-loop-again Inv-loop μ-loop
-loop-again c =
-    (omega arith, below-more _ _ (c .before .before .before .before .before .before .loop .inv .1)
-    (λ e. true-not-false e (or-none _ _ (ne-eqb _ _ (c .before .before .before .if1 .left)) (sym (c .before .outside .ensures) ∙ c .if2 .left))))
+loop-again c = (
+  omega arith,
+  below-more _ _ (c .before .before .before .before .before .before .loop .inv .1)
+      (λ e. true-not-false e (or-none _ _ (ne-eqb _ _ (c .before .before .before .if1 .left)) (sym (c .before .outside .ensures) ∙ c .if2 .left))),
+)
 
 returns-2 : tie.Need-returns-2 Inv-loop μ-loop
 returns-2 c =

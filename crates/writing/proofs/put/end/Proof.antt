@@ -1,7 +1,7 @@
 -- The answer tells whether the end record is put: one number of four bytes.
 use Prim.Native.Nat.{_+_}
 use mathlib.Core.Path.{ap, sym, _∙_}
-use mathlib.Core.List.{List, _++_}
+use mathlib.Core.List.{_++_}
 use denote.Ref.{now}
 use lib.ListN.{take, drop}
 use borrow.Author.Tests.{ne-eqb}

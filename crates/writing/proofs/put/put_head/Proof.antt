@@ -4,12 +4,10 @@ use native.Mathlib.Omega.{arith}
 use mathlib.Core.Path.{_≡_, subst}
 use mathlib.Core.List.{_++_}
 use denote.Ref.{now}
-use lib.ListN.{length}
 use Rattle.slices.specs.code.Wrote.{Wrote}
-use Rattle.slices.proofs.Writes.{wrote-on}
 use Rattle.table.specs.Bytes.{bytesOf}
 use Rattle.writing.specs.Rows.{headBytes}
-use Rattle.writing.proofs.Puts.{wrote-number, head-bytes}
+use Rattle.writing.proofs.Puts.{wrote-number, number-on, head-bytes}
 use borrow.Author.Needs.{needs}
 use Rattle.writing.proofs.put.put_head.Statement.{statement}
 use Rattle.writing.proofs.put.put_head.Tie as tie
@@ -96,13 +94,13 @@ returns c =
     let p4 = c .before .before .before .before .before .before .before .before .put-u323 in
     let p5 = c .before .before .put-u162 in
     let w1 = wrote-number (now (a .out)) (a .at) 4 (18499 + 65536 * id .result) (p1 .last .0) (a .at + 4) (omega arith) (omega (arith, s .pre .2)) (p1 .ensures) in
-    let w2 = wrote-number (p1 .last .0) (a .at + 4) 2 (kind .result + 256 * overload .result) (p2 .last .0) (a .at + 6) (omega arith) (omega (arith, s .pre .2, w1 .long)) (p2 .ensures) in
-    let w3 = wrote-number (p2 .last .0) (a .at + 6) 4 (r .deadline) (p3 .last .0) (a .at + 10) (omega arith) (omega (arith, s .pre .2, w1 .long, w2 .long)) (p3 .ensures) in
-    let w4 = wrote-number (p3 .last .0) (a .at + 10) 4 (r .gap) (p4 .last .0) (a .at + 14) (omega arith) (omega (arith, s .pre .2, w1 .long, w2 .long, w3 .long)) (p4 .ensures) in
-    let w5 = wrote-number (p4 .last .0) (a .at + 14) 2 (r .listed + 256 * r .tasks) (p5 .last .0) (a .at + 16) (omega arith) (omega (arith, s .pre .2, w1 .long, w2 .long, w3 .long, w4 .long)) (p5 .ensures) in
+    let w2 = number-on w1 2 (kind .result + 256 * overload .result) (a .at + 6) (omega arith) (omega (arith, s .pre .2)) (p2 .ensures) in
+    let w3 = number-on w2 4 (r .deadline) (a .at + 10) (omega arith) (omega (arith, s .pre .2)) (p3 .ensures) in
+    let w4 = number-on w3 4 (r .gap) (a .at + 14) (omega arith) (omega (arith, s .pre .2)) (p4 .ensures) in
+    let w5 = number-on w4 2 (r .listed + 256 * r .tasks) (a .at + 16) (omega arith) (omega (arith, s .pre .2)) (p5 .ensures) in
     let e : bytesOf 4 (18499 + 65536 * id .result) ++ bytesOf 2 (kind .result + 256 * overload .result) ++ bytesOf 4 (r .deadline) ++ bytesOf 4 (r .gap) ++ bytesOf 2 (r .listed + 256 * r .tasks) ≡ headBytes r =
     rw (id .ensures .0, kind .ensures .0, overload .ensures .0) (head-bytes r (omega (arith, kind .ensures .0, kind .ensures .1)) (s .pre .0) (s .pre .1)) in
-    subst (λ text. Wrote (now (a .out)) (a .at) text (p5 .last .0) (a .at + 16)) e (wrote-on (wrote-on (wrote-on (wrote-on w1 w2) w3) w4) w5)
+    subst (λ text. Wrote (now (a .out)) (a .at) text (p5 .last .0) (a .at + 16)) e w5
 
 pub put-head-spec : {M : Type 1} → statement M
 put-head-spec =

@@ -2,7 +2,7 @@
 use Prim.Native.Nat.{_≤_, _+_, _*_, _-_}
 use native.Mathlib.Omega.{arith}
 use native.Mathlib.Nat.{add-zero}
-use mathlib.Core.Path.{_≡_, subst, sym}
+use mathlib.Core.Path.{_≡_, subst}
 use denote.Ref.{now}
 use lib.ListN.{getD}
 use Rattle.slices.specs.code.Wrote.{Wrote}
@@ -49,9 +49,11 @@ loop-again c =
     let s = c .before .before .before .before .before .before .before .before in
     let a = s .args in
     let l = c .before .before .before .before .before .before .loop in
-    let p = c .before .before .put-u32 in
-    (omega arith, pieces-on (distanceBytes (now (a .list))) (l .i) (l .inv .1)
-    (wrote-number (l .out) (a .at + 4 * l .i) 4 (getD (now (a .list)) (l .i) 0) (p .last .0) (a .at + 4 * (l .i + 1)) (omega arith) (omega (arith, s .pre .1, l .inv .0, l .inv .1 .long)) (p .ensures)))
+    let p = c .before .before .put-u32 in (
+      omega arith,
+      pieces-on (distanceBytes (now (a .list))) (l .i) (l .inv .1)
+          (wrote-number (l .out) (a .at + 4 * l .i) 4 (getD (now (a .list)) (l .i) 0) (p .last .0) (a .at + 4 * (l .i + 1)) (omega arith) (omega (arith, s .pre .1, l .inv .0, l .inv .1 .long)) (p .ensures)),
+    )
 
 mul-result : tie.Need-mul-result Inv-loop μ-loop
 mul-result c = omega arith

@@ -5,10 +5,9 @@ use mathlib.Core.Path.{_≡_, ap, subst, _∙_}
 use mathlib.Core.List.{_++_}
 use denote.Ref.{now}
 use Rattle.slices.specs.code.Wrote.{Wrote}
-use Rattle.slices.proofs.Writes.{wrote-on}
 use Rattle.table.specs.Bytes.{bytesOf}
 use Rattle.writing.specs.Rows.{taskRecord}
-use Rattle.writing.proofs.Puts.{wrote-number, task-bytes}
+use Rattle.writing.proofs.Puts.{wrote-number, number-on, task-bytes}
 use borrow.Author.Needs.{needs}
 use Rattle.writing.proofs.put.put_task.Statement.{statement}
 use Rattle.writing.proofs.put.put_task.Tie as tie
@@ -44,10 +43,9 @@ returns c =
     let p = c .before .before .before .before .before .before .before .u32-from-u16 in
     let m = c .before .before .before .before .before .before .put-u32 in
     let v = c .before .before .put-u322 in
-    let marked = wrote-number (now (a .out)) (a .at) 4 (19284 + 65536 * p .result) (m .last .0) (a .at + 4) (omega arith) (omega (arith, s .pre)) (m .ensures) in
     let e : bytesOf 4 (19284 + 65536 * p .result) ++ bytesOf 4 (a .cost) ≡ taskRecord (a .priority) (a .cost) = ap (λ n. bytesOf 4 (19284 + 65536 * n) ++ bytesOf 4 (a .cost)) (p .ensures .0) ∙ task-bytes (a .priority) (a .cost) in
-    subst (λ text. Wrote (now (a .out)) (a .at) text (v .last .0) (a .at + 8)) e
-    (wrote-on marked (wrote-number (m .last .0) (a .at + 4) 4 (a .cost) (v .last .0) (a .at + 8) (omega arith) (omega (arith, s .pre, marked .long)) (v .ensures)))
+    let marked = wrote-number (now (a .out)) (a .at) 4 (19284 + 65536 * p .result) (m .last .0) (a .at + 4) (omega arith) (omega (arith, s .pre)) (m .ensures) in
+    subst (λ text. Wrote (now (a .out)) (a .at) text (v .last .0) (a .at + 8)) e (number-on marked 4 (a .cost) (a .at + 8) (omega arith) (omega (arith, s .pre)) (v .ensures))
 
 pub put-task-spec : {M : Type 1} → statement M
 put-task-spec =

@@ -1,9 +1,8 @@
 -- The first i tasks are put.
-use Prim.Native.Nat.{_≤_, _+_, _*_, _-_}
+use Prim.Native.Nat.{_≤_, _-_}
 use native.Mathlib.Omega.{arith}
 use mathlib.Core.Path.{_≡_, subst}
 use denote.Ref.{now}
-use lib.ListN.{getD}
 use Rattle.slices.specs.code.Wrote.{Wrote}
 use Rattle.slices.proofs.Writes.{wrote-none}
 use Rattle.writing.specs.Rows.{taskBytes, tasksBytes}
