@@ -33,7 +33,7 @@ pub number-on : {before mid text after : List ℕ} {at here : ℕ} → Wrote bef
     → after ≡ take here mid ++ bytesOf n x ++ drop (here + n) mid → Wrote before at (text ++ bytesOf n x) after next
 number-on {before} {mid} {text} {after} {at} {here} w n x next e h p = wrote-on w (wrote-number mid here n x after next e (omega (arith, w .long)) p)
 
--- a task record is two numbers of four bytes, the fixed part of a row's record five of four or two
+-- a task record is two numbers of four bytes, the fixed part of a row's record five numbers of four or two
 pub task-bytes : (priority cost : ℕ) → bytesOf 4 (19284 + 65536 * priority) ++ bytesOf 4 cost ≡ taskRecord priority cost
 task-bytes priority cost = ap (λ l. l ++ bytesOf 4 cost) (bytes-join 2 2 19284 priority (omega arith))
 

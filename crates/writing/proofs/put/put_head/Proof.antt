@@ -1,4 +1,4 @@
--- Five numbers, two of them one.
+-- Five numbers of four or two bytes, three of which hold two fields each.
 use Prim.Native.Nat.{_+_, _*_}
 use native.Mathlib.Omega.{arith}
 use mathlib.Core.Path.{_≡_, subst}
