@@ -35,6 +35,18 @@ wrote-text before at text part h e =
     rw (past, e, all, take-length, append-nil, drop-drop, append-assoc) in
     record { fits = h; holds = holds; long = ap length holds ∙ simp (length-append, length-take, length-drop) (omega arith); ends = refl }
 
+-- n bytes put in the place of n others
+pub wrote-put : (before : List ℕ) (at : ℕ) (text after : List ℕ) (n next : ℕ) → length text ≡ n → next ≡ at + n → at + n ≤ length before
+    → after ≡ take at before ++ text ++ drop (at + n) before → Wrote before at text after next
+wrote-put before at text after n next e f h w =
+    let holds : after ≡ take at before ++ text ++ drop (at + length text) before = rw e w in
+    record {
+      fits = omega arith;
+      holds = holds;
+      long = ap length holds ∙ simp (length-append, length-take, length-drop) (omega arith);
+      ends = omega arith;
+    }
+
 -- a piece, and another one after it
 pub wrote-on : {before mid after p q : List ℕ} {at next end : ℕ} → Wrote before at p mid next → Wrote mid next q after end → Wrote before at (p ++ q) after end
 wrote-on {before} {mid} {after} {p} {q} {at} {next} {end} a b =

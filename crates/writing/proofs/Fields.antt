@@ -8,9 +8,9 @@ use lib.Seq.{getD-drop}
 use Rattle.table.specs.Bytes.{word, bytesOf}
 use Rattle.table.specs.Record.{idAt, kindAt, overloadAt, deadlineAt, gapAt, listedAt, tasksAt, listPlace, afterList, priorityAt, costAt}
 use Rattle.table.specs.declared.Row.{Row}
-use Rattle.table.proofs.Words.{word-bytes, length-bytes}
+use Rattle.table.proofs.Words.{word-bytes}
 use Rattle.writing.specs.Rows.{countByte, headBytes, distanceBytes, taskRecord, taskBytes, pieces, listBytes, tasksBytes, rowBytes, Fits}
-use Rattle.writing.proofs.Pieces.{pieces-split, pieces-length}
+use Rattle.writing.proofs.Pieces.{pieces-split, head-length, list-length, tasks-length, row-length}
 
 -- a number of one byte
 one-byte : (s : List ℕ) (at : ℕ) → word 1 s at ≡ getD s at 0
@@ -73,10 +73,6 @@ module _ (r : Row) (rest : List ℕ) where
   from-id : all ≡ upTo-id ++ (bytesOf 2 (r .id) ++ (bytesOf 1 (r .kind) ++ (bytesOf 1 (r .overload) ++ after-overload)))
   from-id = from-kind ∙ append-assoc upTo-id (bytesOf 2 (r .id)) _
 
-  pub head-long : length all ≡ 16 + length rest
-  unfolding headBytes bytesOf
-  head-long = length-append (headBytes r) rest
-
   pub mark-here : word 2 all 0 ≡ 18499
   mark-here = found 2 18499 all [] _ 0 from-id refl (omega arith)
 
@@ -128,24 +124,6 @@ module _ (r : Row) (post : List ℕ) where
   unfolding rowBytes
   from-first = append-assoc (headBytes r ++ ofList) ofTasks post
 
-  head-16 : length (headBytes r) ≡ 16
-  unfolding headBytes bytesOf
-  head-16 = refl
-
-  task-8 : (i : ℕ) → length (taskBytes (r .priority) (r .cost) i) ≡ 8
-  unfolding bytesOf
-  task-8 i = refl
-
-  list-length : (n : ℕ) → length (listBytes (r .list) n) ≡ 4 * n
-  list-length n = pieces-length (distanceBytes (r .list)) 4 (λ j. length-bytes 4 (getD (r .list) j 0)) n 0
-
-  tasks-length : (n : ℕ) → length (tasksBytes (r .priority) (r .cost) n) ≡ 8 * n
-  tasks-length n = pieces-length (taskBytes (r .priority) (r .cost)) 8 task-8 n 0
-
-  pub row-long : length (rowBytes r) ≡ 16 + 4 * r .listed + 8 * r .tasks
-  unfolding rowBytes
-  row-long = omega (arith, length-append (headBytes r ++ ofList) ofTasks, length-append (headBytes r) ofList, head-16, list-length (r .listed), tasks-length (r .tasks))
-
   module _ (f : Fits r) where
     distance-here : (j : ℕ) → j < r .listed → word 4 whole (16 + 4 * j) ≡ getD (r .list) j 0
     distance-here j h =
@@ -155,7 +133,7 @@ module _ (r : Row) (post : List ℕ) where
         let after = pieces d (r .listed - (j + 1)) (0 + j + 1) in
         let e : whole ≡ before ++ (d j ++ (after ++ (ofTasks ++ post))) =
         from-list ∙ ap (λ (l : List ℕ). headBytes r ++ (l ++ (ofTasks ++ post))) (pieces-split d (r .listed) 0 j h ∙ ap (λ (i : ℕ). pieces d j 0 ++ (d i ++ after)) z) ∙ simp append-assoc in
-        found 4 (getD (r .list) j 0) whole before _ (16 + 4 * j) e (length-append (headBytes r) (pieces d j 0) ∙ omega (arith, head-16, list-length j)) (f .list j)
+        found 4 (getD (r .list) j 0) whole before _ (16 + 4 * j) e (length-append (headBytes r) (pieces d j 0) ∙ omega (arith, head-length r, list-length (r .list) j)) (f .list j)
 
     module _ (i : ℕ) (h : i < r .tasks) where
       abbrev start : ℕ
@@ -174,7 +152,7 @@ module _ (r : Row) (post : List ℕ) where
       after-task = pieces (taskBytes (r .priority) (r .cost)) (r .tasks - (i + 1)) (0 + i + 1) ++ post
 
       before-long : length before-task ≡ start
-      before-long = length-append (headBytes r ++ ofList) (tasksBytes (r .priority) (r .cost) i) ∙ omega (arith, length-append (headBytes r) ofList, head-16, list-length (r .listed), tasks-length i)
+      before-long = length-append (headBytes r ++ ofList) (tasksBytes (r .priority) (r .cost) i) ∙ omega (arith, length-append (headBytes r) ofList, head-length r, list-length (r .list) (r .listed), tasks-length (r .priority) (r .cost) i)
 
       from-task : whole ≡ before-task ++ (bytesOf 2 19284 ++ (bytesOf 2 p ++ (bytesOf 4 c ++ after-task)))
       from-task =
@@ -239,7 +217,7 @@ module _ (s : List ℕ) (at : ℕ) (r : Row) (post : List ℕ) (d : drop at s �
 
   pub stored : Stored s at r
   stored = record {
-    there = omega (arith, length-drop at s, ap length d, length-append (rowBytes r) post, row-long r post);
+    there = omega (arith, length-drop at s, ap length d, length-append (rowBytes r) post, row-length r);
     mark = word-there 2 s l at 0 at d (omega arith) ∙ ap (λ (m : List ℕ). word 2 m 0) head-first ∙ mark-here r tail;
     id = word-there 2 s l at 2 (at + 2) d refl ∙ ap (λ (m : List ℕ). word 2 m 2) head-first ∙ id-here r tail f;
     kind = byte-there s l at 4 (at + 4) d refl ∙ ap (λ (m : List ℕ). getD m 4 0) head-first ∙ kind-here r tail f;

@@ -35,8 +35,10 @@ use Rattle.writing.specs.Rows.{rowBytes, tableBytes, cleared, Fits}
 use Rattle.writing.specs.code.Judged.{firstNumber, rowNumber, unjudged, faulted, counted, judgedWith, judgedAll, mostJudged}
 use Rattle.writing.specs.code.Put.{judgedNumber}
 use Rattle.writing.specs.declared.judged.Judged.{Judged}
-use Rattle.writing.proofs.Fields.{Stored, word-there, row-long, stored}
-use Rattle.writing.proofs.Verdicts.{Says, says-number, says-none, says-when, says-unless, first-none, counts-right, chain-says, row-read, length-read}
+use Rattle.writing.proofs.Numbers.{row-counts}
+use Rattle.writing.proofs.Pieces.{row-length}
+use Rattle.writing.proofs.Fields.{Stored, word-there, stored}
+use Rattle.writing.proofs.Verdicts.{Says, says-number, says-none, says-when, says-unless, chain-says, row-read, length-read}
 
 -- The first fault stays
 
@@ -49,9 +51,9 @@ unfolding judgedAll
 stays j [] h = refl
 stays j (r ∷ rs) h = ap (λ (k : Judged). judgedAll k rs) (with-fault j r h) ∙ stays j rs h
 
-number-none : (j : Judged) → j .number ≡ 0 → judgedNumber j ≡ (11 when eqb (j .count) 0 else 0)
+sound-number : (j : Judged) → j .number ≡ 0 → judgedNumber j ≡ (11 when eqb (j .count) 0 else 0)
 unfolding byNumber
-number-none j e = ap (λ (n : ℕ). firstNumber n (11 when eqb (j .count) 0 else 0)) e
+sound-number j e = ap (λ (n : ℕ). firstNumber n (11 when eqb (j .count) 0 else 0)) e
 
 eleven : (j : Judged) → judgedNumber (faulted j 11) ≡ 11
 unfolding byNumber
@@ -84,15 +86,6 @@ module _ (j : Judged) (r : Row) (sound : j .number ≡ 0) where
         by (suc n) e =
             let w = with-wrong (λ z. omega (arith, e, z)) in
             sym (ap (λ (k : Judged). judgedNumber (judgedAll k rs)) (w ∙ ap (faulted j) e) ∙ ap judgedNumber (stays (faulted j (suc n)) rs (λ z. omega arith)))
-
--- what rowNumber 0 says of the counts
-pub row-right : (j : Judged) (r : Row) → rowNumber j r ≡ 0
-    → (1 ≤ r .listed) × (r .listed ≤ 8) × (1 ≤ r .tasks) × (r .tasks ≤ 16) × (j .tasks + r .tasks ≤ 64)
-unfolding rowNumber
-row-right j r e =
-    let a = first-none _ _ e .1 in
-    let b = first-none _ _ a .1 in
-    counts-right (j .tasks) (r .listed) (r .tasks) (first-none _ _ b .0)
 
 -- what is kept of the rows before
 abbrev before : Judged → Before
@@ -130,10 +123,10 @@ module _ (s : List ℕ) (total : ℕ) where
     -- and without one of its own
     module _ (right : rowNumber j r ≡ 0) where
       read-row : rowAt s at ≡ cleared r
-      read-row = let c = row-right j r right in row-read s at r st f (c .1) (c .3)
+      read-row = let c = row-counts j r right in row-read s at r st f (c .1) (c .2)
 
       read-length : lengthAt s at ≡ length (rowBytes r)
-      read-length = let c = row-right j r right in length-read s at r st f (c .1) (c .3) ∙ sym (row-long r [])
+      read-length = let c = row-counts j r right in length-read s at r st f (c .1) (c .2) ∙ sym (row-length r)
 
       keeps-on : Keeps (counted j r .ids) (before (counted j r)) (plus t (rowAt s at))
       keeps-on = rw read-row (before-more t (cleared r) keeps)
@@ -146,7 +139,7 @@ module _ (s : List ℕ) (total : ℕ) where
   rows-says [] m at t j in-s d f sound e few all keeps =
       let c : j .count ≡ total = omega (arith, all) in
       subst (Says (records (maxChains - t .count) s at t .verdict))
-      (ap (λ (n : ℕ). 11 when eqb n 0 else 0) (sym c) ∙ sym (number-none j sound) ∙ ap (λ (l : List Row). judgedNumber (judgedAll j l)) (sym (take-nil m)))
+      (ap (λ (n : ℕ). 11 when eqb n 0 else 0) (sym c) ∙ sym (sound-number j sound) ∙ ap (λ (l : List Row). judgedNumber (judgedAll j l)) (sym (take-nil m)))
       (end-says at t in-s d (sym (keeps .count) ∙ c) (omega arith))
   rows-says (r ∷ rs) zero at t j in-s d f sound e few all keeps = absurd (omega (arith, e))
   rows-says (r ∷ rs) (suc m) at t j in-s d f sound e few all keeps =
@@ -163,7 +156,7 @@ module _ (s : List ℕ) (total : ℕ) where
       (subst (Says _) (number-on j r sound l (take m rs)) (says-unless _ (row-says at t j r st (f .0) sound keeps) (λ z.
       let size = read-length at t j r st (f .0) sound keeps z in
       let rest : drop (at + lengthAt s at) s ≡ post = rw (size, ← drop-drop (length (rowBytes r)) at s, d′) (drop-at (rowBytes r) post (length (rowBytes r)) refl) in
-      rows-says rs m (at + lengthAt s at) (plus t (rowAt s at)) (counted j r) (omega (arith, st .there, size, row-long r [])) rest (f .1) refl (omega (arith, e)) (omega (arith, l)) (omega (arith, all))
+      rows-says rs m (at + lengthAt s at) (plus t (rowAt s at)) (counted j r) (omega (arith, st .there, size, row-length r)) rest (f .1) refl (omega (arith, e)) (omega (arith, l)) (omega (arith, all))
       (keeps-on at t j r st (f .0) sound keeps z)))))
       (λ l.
       let full : j .count ≡ maxChains = omega arith in

@@ -1,5 +1,10 @@
+pub mod Fit
+pub mod Lefts
+pub mod Numbers
 pub mod Pieces
+pub mod Puts
 pub mod Fields
 pub mod Verdicts
 pub mod Judging
+pub mod Fillings
 pub mod Loops

@@ -1,8 +1,11 @@
 -- What the walks of the lent rows need of their loops: each begins, goes on by one row, and ends. Assumes nothing.
-use Prim.Native.Nat.{ℕ, min, _+_, _<_, _≤_}
-use mathlib.Core.Path.{_≡_, refl}
-use mathlib.Core.List.{List, []}
-use lib.ListN.{length, getD, take, drop, set}
+use Prim.Native.Nat.{ℕ, suc, min, _+_, _<_, _≤_}
+use native.Mathlib.Omega.{arith}
+use native.Mathlib.Numerals.{add-one}
+use mathlib.Core.Path.{_≡_, refl, ap, subst, sym, _∙_}
+use mathlib.Core.List.{List, [], _∷_, _++_, flatten, map-append, append-nil}
+use lib.ListN.{length, getD, take, drop, set, length-take}
+use lib.Seq.{drop-cons, take-suc, getD-take, set-at, append-snoc, length-take-le}
 use Rattle.search.specs.Lists.{All}
 use Rattle.table.specs.Limits.{maxChains}
 use Rattle.table.specs.Record.{blank, rowAt, lengthAt}
@@ -20,24 +23,36 @@ use Rattle.writing.specs.code.Rows.{Answers, rowsFilled, filledTo}
 use Rattle.writing.specs.declared.judged.Judged.{Judged}
 use Rattle.writing.specs.declared.Written.{Written}
 use Rattle.writing.specs.declared.Filled.{Filled}
+use Rattle.search.proofs.Lists.{all-append}
+use Rattle.slices.proofs.Writes.{wrote-none, wrote-on}
+use Rattle.slices.proofs.Parts.{flatten-append}
+use Rattle.table.specs.Find.{rows}
+use Rattle.table.proofs.Standing.{place-none}
+use Rattle.table.proofs.Stands.{row-there, stands, place-next as next-place}
+use Rattle.writing.proofs.Lefts.{left-on, left-none, take-least, take-more}
+use Rattle.writing.proofs.Fillings.{Filling, filling, there, chain-there, all-filled}
 
 -- Rows judged one after the other
 
 pub small-start : Small unjudged
-small-start = ?
+small-start = record { count = omega arith; tasks = omega arith; bytes = omega arith }
 
 pub judged-on : (j : Judged) (ys : List Row) (k : ℕ) → k < min (length ys) mostJudged
     → judgedAll j (drop k (take mostJudged ys)) ≡ judgedAll (judgedWith j (getD ys k blank)) (drop (k + 1) (take mostJudged ys))
-judged-on j ys k h = ?
+unfolding judgedAll
+judged-on j ys k h = ap (judgedAll j) (left-on ys mostJudged k blank (omega arith) (omega arith))
 
 pub judged-end : (j : Judged) (ys : List Row) (k : ℕ) → min (length ys) mostJudged ≤ k → judgedAll j (drop k (take mostJudged ys)) ≡ j
-judged-end j ys k h = ?
+unfolding judgedAll
+judged-end j ys k h = ap (judgedAll j) (left-none ys mostJudged k h)
 
 pub fits-on : (ys : List Row) (k : ℕ) → k < length ys → All Fits (take k ys) → Fits (getD ys k blank) → All Fits (take (k + 1) ys)
-fits-on ys k h a f = ?
+fits-on ys k h a f = subst (All Fits) (sym (take-more ys k blank h)) (all-append Fits (take k ys) (getD ys k blank ∷ []) a (f, tt))
 
 pub fits-end : (ys : List Row) (k : ℕ) → k ≤ min (length ys) mostJudged → min (length ys) mostJudged ≤ k → All Fits (take k ys) → All Fits (take mostJudged ys)
-fits-end ys k g h a = ?
+fits-end ys k g h a =
+    let e : k ≡ min (length ys) mostJudged = omega arith in
+    subst (All Fits) (ap (λ n. take n ys) e ∙ take-least ys mostJudged) a
 
 -- Rows put one after the other
 
@@ -50,15 +65,21 @@ pub rows-there : (ys : List Row) (j : Judged) (room : ℕ) → JudgedRows ys j �
 rows-there ys j room h = ?
 
 pub rows-start : (ys : List Row) (buffer : List ℕ) → Wrote buffer 0 (recordsOf ys 0) buffer 0
-rows-start ys buffer = ?
+unfolding flatten
+rows-start ys buffer = wrote-none buffer 0 (omega arith)
 
 pub rows-room : (ys : List Row) (j : Judged) → JudgedRows ys j → (buffer zs : List ℕ) (k at : ℕ) → k < rowsPut j (length buffer)
     → Wrote buffer 0 (recordsOf ys k) zs at → RowRoom (getD ys k blank) zs at
 rows-room ys j h buffer zs k at l w = ?
 
+-- the records of one row more
+records-more : (ys : List Row) (k : ℕ) → k < length ys → recordsOf ys (k + 1) ≡ recordsOf ys k ++ rowBytes (getD ys k blank)
+unfolding flatten
+records-more ys k h = rw (take-more ys k blank h, map-append, flatten-append, append-nil)
+
 pub rows-on : (ys : List Row) (k : ℕ) → k < length ys → (buffer zs after : List ℕ) (at next : ℕ) → Wrote buffer 0 (recordsOf ys k) zs at
     → Wrote zs at (rowBytes (getD ys k blank)) after next → Wrote buffer 0 (recordsOf ys (k + 1)) after next
-rows-on ys k h buffer zs after at next w v = ?
+rows-on ys k h buffer zs after at next w v = subst (λ text. Wrote buffer 0 text after next) (sym (records-more ys k h)) (wrote-on w v)
 
 pub end-room : (ys : List Row) (j : Judged) → JudgedRows ys j → (buffer zs : List ℕ) (k at : ℕ) → k ≤ rowsPut j (length buffer) → rowsPut j (length buffer) ≤ k
     → Wrote buffer 0 (recordsOf ys k) zs at → EndRoom j zs at
@@ -71,25 +92,39 @@ writes ys j h buffer zs after k at r l g w e = ?
 -- Rows filled one after the other
 
 module _ (s : List ℕ) (before : List Row) (answer : Filled) (a : Answers s (length before) answer) where
+  filled : Filling s (length before) answer
+  filled = subst (Filling s (length before)) (sym (a .is)) (filling s (length before))
+
   -- no more rows are filled than there are
   pub filled-there : rowsFilled answer ≤ length before
-  filled-there = ?
+  filled-there = there filled
 
   pub fill-start : before ≡ filledTo s before 0
-  fill-start = ?
+  fill-start = refl
 
   pub place-start : 0 ≡ placeOf (tableOf s) 0
-  place-start = ?
+  place-start = place-none (tableOf s)
 
   module _ (k at : ℕ) (h : k < rowsFilled answer) (e : at ≡ placeOf (tableOf s) k) where
+    chain : k < tableOf s .count
+    chain = chain-there filled k h .1
+
+    taken : Taken s
+    taken = a .taken (chain-there filled k h .0)
+
     pub fill-stands : Stands s at
-    fill-stands = ?
+    fill-stands = stands taken e chain
 
     pub fill-on : set (filledTo s before k) k (rowAt s at) ≡ filledTo s before (k + 1)
-    fill-on = ?
+    fill-on =
+        let t = tableOf s in
+        let long : k < length (rows t) = rw length-take (omega (arith, chain, taken .good .few, taken .good .size)) in
+        ap (λ l. set (take k (rows t) ++ l) k (rowAt s at)) (drop-cons before k blank (omega (arith, h, filled-there)))
+        ∙ set-at (take k (rows t)) (getD before k blank) (drop (suc k) before) (rowAt s at) k (length-take-le k (rows t) (omega arith))
+        ∙ rw (add-one, take-suc (rows t) k blank long, getD-take (t .count) (t .row) k blank chain, ← row-there taken e chain) (sym (append-snoc (take k (rows t)) (rowAt s at) (drop (suc k) before)))
 
     pub place-next : at + lengthAt s at ≡ placeOf (tableOf s) (k + 1)
-    place-next = ?
+    place-next = next-place taken e chain
 
   pub fills : (k : ℕ) → k ≤ rowsFilled answer → rowsFilled answer ≤ k → Fills s before answer (filledTo s before k)
-  fills k l g = ?
+  fills k l g = record { answers = a .is; leaves = all-filled filled before k l g }

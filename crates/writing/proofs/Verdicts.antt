@@ -30,6 +30,7 @@ use Rattle.table.proofs.Lists.{length-spaced, spaced-at}
 use Rattle.writing.specs.Rows.{cleared, Fits}
 use Rattle.writing.specs.code.Judged.{identityNumber, timesNumber, countsNumber, listNumber, taskWrong, tasksNumber, firstNumber, listsNumber, rowNumber}
 use Rattle.writing.specs.declared.judged.Judged.{Judged}
+use Rattle.writing.proofs.Numbers.{number-none, counts-none}
 use Rattle.writing.proofs.Fields.{Stored}
 
 -- the verdict has that number, 0 for an accepted one
@@ -62,11 +63,6 @@ unfolding unless byNumber
 says-unless r Says.none s = s refl
 says-unless r (Says.fault n place) s = Says.fault n place
 
-pub first-none : (n m : ℕ) → firstNumber n m ≡ 0 → (n ≡ 0) × (m ≡ 0)
-unfolding byNumber
-first-none zero m e = (refl, e)
-first-none (suc n) m e = absurd (omega arith)
-
 first-assoc : (a b c : ℕ) → firstNumber (firstNumber a b) c ≡ firstNumber a (firstNumber b c)
 unfolding byNumber
 first-assoc zero b c = refl
@@ -88,20 +84,6 @@ cut-tasks before x = ⊎-elim
     (λ l. or-left _ _ (cut maxTasks x (omega arith) ∙ above maxTasks x (omega arith)) ∙ sym (or-left _ _ (above maxTasks x (omega arith))))
     (λ l. let e : min x 255 ≡ x = omega arith in ap (λ (n : ℕ). outside 1 maxTasks n || ltb maxAllTasks (before + n)) e)
     (lt-or-le 255 x)
-
-pub counts-right : (before listed tasks : ℕ) → countsNumber before listed tasks ≡ 0
-    → (1 ≤ listed) × (listed ≤ maxDistances) × (1 ≤ tasks) × (tasks ≤ maxTasks) × (before + tasks ≤ maxAllTasks)
-unfolding countsNumber
-counts-right before listed tasks e =
-    let a = when-zero 27 _ (outside 1 maxDistances listed) e in
-    let b = when-zero 8 0 (outside 1 maxTasks tasks || ltb maxAllTasks (before + tasks)) (a .1) in
-    let c = none-or (outside 1 maxTasks tasks) (ltb maxAllTasks (before + tasks)) (b .0) in
-    let l = inside 1 maxDistances listed (a .0) in
-    let t = inside 1 maxTasks tasks (c .0) in
-    (l .0, l .1, t .0, t .1, ltb-le (c .1))
-  where
-    ltb-le : {n m : ℕ} → ltb n m ≡ false → m ≤ n
-    ltb-le {n} {m} f = ltb-false n m f
 
 -- The list, whatever place is told
 
@@ -248,5 +230,5 @@ module _ (s : List ℕ) (at : ℕ) (r : Row) (st : Stored s at r) where
       subst (Says (headFault s at t then listFault s at then tasksFault s (tasksAt s at) (firstTask s at)))
       (first-assoc id (firstNumber times counts) (listsNumber r) ∙ ap (firstNumber id) (first-assoc times counts (listsNumber r)))
       (says-then head (λ z.
-      let c = counts-right (j .tasks) (r .listed) (r .tasks) (first-none times counts (first-none id (firstNumber times counts) z .1) .1) in
-      lists-says f (c .1) (c .3)))
+      let c = counts-none (j .tasks) (r .listed) (r .tasks) (number-none times counts (number-none id (firstNumber times counts) z .1) .1) in
+      lists-says f (c .1) (c .2)))

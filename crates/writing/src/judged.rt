@@ -4,9 +4,10 @@ use table::Row;
 use table::Table;
 use table::id_wrong;
 use table::outside;
+use table::u64_from_u32;
 ghost use mathlib.Core.Path.{_≡_};
 ghost use Prim.Native.Nat.{min, _+_, _≤_};
-ghost use lib.ListN.{take};
+ghost use lib.ListN.{length, take};
 ghost use Rattle.table.specs.Limits.{maxChains, maxAllTasks, maxDistances, maxTasks};
 ghost use Rattle.table.specs.Fault.{fallFault, gapShort};
 ghost use Rattle.table.specs.Read.{numberOf};
@@ -77,7 +78,7 @@ fn counts_number(before: usize, listed: usize, tasks: usize) -> u32
 
 // 29: one of the first n distances falls, or exceeds the limit.
 fn fall_number(list: &[u32; Table::DISTANCES], n: usize) -> u32
-    requires { ⌜ n ≤ maxDistances ⌝ }
+    requires { ⌜ (n ≤ maxDistances) × (length (now list) ≡ maxDistances) ⌝ }
     ensures { λ r. ⌜ r ≡ numberOf (fallFault 0 (take n (now (list .entry))) 0) ⌝ }
 {
     let mut before: u32 = 0;
@@ -95,12 +96,12 @@ fn fall_number(list: &[u32; Table::DISTANCES], n: usize) -> u32
 
 // Whether the gap is too small for one of the first n distances.
 fn gap_short(gap: u32, list: &[u32; Table::DISTANCES], n: usize) -> bool
-    requires { ⌜ n ≤ maxDistances ⌝ }
+    requires { ⌜ (n ≤ maxDistances) × (length (now list) ≡ maxDistances) ⌝ }
     ensures { λ r. ⌜ r ≡ gapShort gap 1 (take n (now (list .entry))) ⌝ }
 {
     let mut i: usize = 0;
     while i < n {
-        if (gap as u64) * (i as u64 + 1) < list[i] as u64 {
+        if (gap as u64) * (i as u64 + 1) < u64_from_u32(list[i]) {
             return true;
         }
         i += 1;
@@ -110,7 +111,7 @@ fn gap_short(gap: u32, list: &[u32; Table::DISTANCES], n: usize) -> bool
 
 // 29, 30 or 31: the first n distances, and the gap.
 fn list_number(gap: u32, list: &[u32; Table::DISTANCES], n: usize) -> u32
-    requires { ⌜ (1 ≤ n) × (n ≤ maxDistances) ⌝ }
+    requires { ⌜ (1 ≤ n) × (n ≤ maxDistances) × (length (now list) ≡ maxDistances) ⌝ }
     ensures { λ r. ⌜ r ≡ listNumber gap (take n (now (list .entry))) ⌝ }
 {
     let falls = fall_number(list, n);
@@ -229,7 +230,7 @@ fn counted(judged: Judged, row: Row) -> Judged
         number: 0,
         count: count + 1,
         tasks: judged.tasks + row.tasks,
-        bytes: judged.bytes + 16 + 4 * row.listed + 8 * row.tasks,
+        bytes: judged.bytes + (16 + 4 * row.listed + 8 * row.tasks),
         ids,
     }
 }

@@ -1,57 +1,66 @@
+-- The gap is too small for what is left where it is for the whole list.
+use Prim.Native.Nat.{_≤_, _+_, _-_}
+use native.Mathlib.Omega.{arith}
+use native.Mathlib.Nat.{mul-le-mul-left}
+use mathlib.Core.Path.{_≡_, refl, ap, sym, _∙_}
+use denote.Ref.{now}
+use lib.ListN.{take, drop}
+use Rattle.table.specs.Fault.{gapShort}
+use Rattle.table.proofs.Lists.{gap-end}
+use Rattle.writing.proofs.Numbers.{short-here, short-next}
+use Rattle.writing.proofs.Lefts.{left-none}
 use Rattle.writing.proofs.judged.gap_short.Statement.{statement}
 use Rattle.writing.proofs.judged.gap_short.Tie as tie
-use Rattle.writing.proofs.judged.gap_short.Reads as reads
-use Rattle.writing.proofs.judged.gap_short.Lts as lts
 
 abbrev Inv-loop : tie.InvT-loop
-Inv-loop gap list n i₀ i = ?
+Inv-loop gap list n i₀ i = (i ≤ n) × (gapShort gap (i + 1) (drop i (take n list)) ≡ gapShort gap 1 (take n list))
 
 abbrev μ-loop : tie.MeasureT-loop
-μ-loop gap list n i₀ i = ?
+μ-loop gap list n i₀ i = n - i
 
--- src/judged.rt:102:5
 loop-holds : tie.Need-loop-holds Inv-loop μ-loop
-loop-holds c = ?
+loop-holds c = (omega arith, refl)
 
--- src/judged.rt:103:28
 add-if1 : tie.Need-add-if1 Inv-loop μ-loop
-add-if1 c = ?
+add-if1 c = omega arith
 
--- src/judged.rt:103:12
 mul-if1 : tie.Need-mul-if1 Inv-loop μ-loop
-mul-if1 c = ?
+mul-if1 c =
+    let h : c .before .loop .i + 1 ≤ 8 = omega arith in
+    omega (arith, mul-le-mul-left (c .before .before .args .gap) h)
 
--- src/judged.rt:103:44
-mul-if1-2 : tie.Need-mul-if1-2 Inv-loop μ-loop
-mul-if1-2 c = ?
+mul-u64-from-u32 : tie.Need-mul-u64-from-u32 Inv-loop μ-loop
+mul-u64-from-u32 c = omega arith
 
--- src/judged.rt:103:44
-element-copy-out-if1 : tie.Need-element-copy-out-if1 Inv-loop μ-loop
-element-copy-out-if1 c = ?
+element-copy-out-u64-from-u32 : tie.Need-element-copy-out-u64-from-u32 Inv-loop μ-loop
+element-copy-out-u64-from-u32 c = omega arith
 
--- src/judged.rt:103:44
-cast-if1 : tie.Need-cast-if1 Inv-loop μ-loop
-cast-if1 c = ?
+u64-from-u32-requires : tie.Need-u64-from-u32-requires Inv-loop μ-loop
+u64-from-u32-requires c κs = tt
 
--- src/judged.rt:104:13
 returns : tie.Need-returns Inv-loop μ-loop
-returns c = ?
+returns c =
+    let a = c .before .before .before .before .before .args in
+    let l = c .before .before .before .before .loop in
+    sym (short-here (now (a .list)) (a .n) (l .i) (omega arith) (omega arith) (a .gap) (omega (arith, c .if1 .taken, c .before .u64-from-u32 .ensures .0))) ∙ l .inv .1
 
--- src/judged.rt:106:9
 add-i : tie.Need-add-i Inv-loop μ-loop
-add-i c = ?
+add-i c = omega arith
 
--- src/judged.rt:102:5
 loop-less : tie.Need-loop-less Inv-loop μ-loop
-loop-less c = ?
+loop-less c = omega arith
 
--- src/judged.rt:102:5
 loop-again : tie.Need-loop-again Inv-loop μ-loop
-loop-again c = ?
+loop-again c =
+    let a = c .before .before .before .before .before .args in
+    let l = c .before .before .before .before .loop in
+    (omega arith, sym (short-next (now (a .list)) (a .n) (l .i) (omega arith) (omega arith) (a .gap) (omega (arith, c .if1 .left, c .before .u64-from-u32 .ensures .0))) ∙ l .inv .1)
 
--- src/judged.rt:97:1
 returns-2 : tie.Need-returns-2 Inv-loop μ-loop
-returns-2 c = ?
+returns-2 c =
+    let a = c .before .before .args in
+    let l = c .before .loop in
+    sym (gap-end (a .gap) (l .i + 1)) ∙ sym (ap (gapShort (a .gap) (l .i + 1)) (left-none (now (a .list)) (a .n) (l .i) (omega arith))) ∙ l .inv .1
 
 pub gap-short-spec : {M : Type 1} → statement M
 gap-short-spec =
@@ -62,9 +71,9 @@ gap-short-spec =
     loop-holds
     add-if1
     mul-if1
-    mul-if1-2
-    element-copy-out-if1
-    cast-if1
+    mul-u64-from-u32
+    element-copy-out-u64-from-u32
+    u64-from-u32-requires
     returns
     add-i
     loop-less

@@ -1,66 +1,75 @@
+-- The first i distances are put.
+use Prim.Native.Nat.{_≤_, _+_, _*_, _-_}
+use native.Mathlib.Omega.{arith}
+use native.Mathlib.Nat.{add-zero}
+use mathlib.Core.Path.{_≡_, subst}
+use denote.Ref.{now}
+use lib.ListN.{getD}
+use Rattle.slices.specs.code.Wrote.{Wrote}
+use Rattle.slices.proofs.Writes.{wrote-none}
+use Rattle.writing.specs.Rows.{distanceBytes, listBytes}
+use Rattle.writing.proofs.Puts.{wrote-number, pieces-none, pieces-on}
 use Rattle.writing.proofs.put.put_list.Statement.{statement}
 use Rattle.writing.proofs.put.put_list.Tie as tie
-use Rattle.writing.proofs.put.put_list.Reads as reads
-use Rattle.writing.proofs.put.put_list.Lts as lts
-use Rattle.table.proofs.put_u32.Reads as put-u32-reads
 
 abbrev Inv-loop : tie.InvT-loop
-Inv-loop out₀ at list n i₀ out i = ?
+Inv-loop out₀ at list n i₀ out i = (i ≤ n) × Wrote out₀ at (listBytes list i) out (at + 4 * i)
 
 abbrev μ-loop : tie.MeasureT-loop
-μ-loop out₀ at list n i₀ out i = ?
+μ-loop out₀ at list n i₀ out i = n - i
 
--- src/put.rt:42:5
 loop-holds : tie.Need-loop-holds Inv-loop μ-loop
-loop-holds c = ?
+loop-holds c =
+    let a = c .before .args in
+    (omega arith, rw (pieces-none (distanceBytes (now (a .list))), add-zero) (wrote-none (now (a .out)) (a .at) (omega arith)))
 
--- src/put.rt:43:27
 mul-put-u32 : tie.Need-mul-put-u32 Inv-loop μ-loop
-mul-put-u32 c = ?
+mul-put-u32 c = omega arith
 
--- src/put.rt:43:22
 add-put-u32 : tie.Need-add-put-u32 Inv-loop μ-loop
-add-put-u32 c = ?
+add-put-u32 c = omega arith
 
--- src/put.rt:43:34
 mul-put-u32-2 : tie.Need-mul-put-u32-2 Inv-loop μ-loop
-mul-put-u32-2 c = ?
+mul-put-u32-2 c = omega arith
 
--- src/put.rt:43:34
 element-copy-out-put-u32 : tie.Need-element-copy-out-put-u32 Inv-loop μ-loop
-element-copy-out-put-u32 c = ?
+element-copy-out-put-u32 c = omega arith
 
--- src/put.rt:43:9
 put-u32-requires : tie.Need-put-u32-requires Inv-loop μ-loop
-put-u32-requires c κs = ?
+put-u32-requires c κs = omega (arith, c .before .before .before .loop .inv .1 .long)
 
--- src/put.rt:44:9
 add-i : tie.Need-add-i Inv-loop μ-loop
-add-i c = ?
+add-i c = omega arith
 
--- src/put.rt:42:5
 loop-less : tie.Need-loop-less Inv-loop μ-loop
-loop-less c = ?
+loop-less c = omega arith
 
--- src/put.rt:42:5
 loop-again : tie.Need-loop-again Inv-loop μ-loop
-loop-again c = ?
+loop-again c =
+    let s = c .before .before .before .before .before .before .before .before in
+    let a = s .args in
+    let l = c .before .before .before .before .before .before .loop in
+    let p = c .before .before .put-u32 in (
+      omega arith,
+      pieces-on (distanceBytes (now (a .list))) (l .i) (l .inv .1)
+          (wrote-number (l .out) (a .at + 4 * l .i) 4 (getD (now (a .list)) (l .i) 0) (p .last .0) (a .at + 4 * (l .i + 1)) (omega arith) (omega (arith, s .pre .1, l .inv .0, l .inv .1 .long)) (p .ensures)),
+    )
 
--- src/put.rt:46:10
 mul-result : tie.Need-mul-result Inv-loop μ-loop
-mul-result c = ?
+mul-result c = omega arith
 
--- src/put.rt:46:5
 add-result : tie.Need-add-result Inv-loop μ-loop
-add-result c = ?
+add-result c = omega arith
 
--- src/put.rt:37:1
 same-length : tie.Need-same-length Inv-loop μ-loop
-same-length c = ?
+same-length c = c .before .loop .inv .1 .long
 
--- src/put.rt:37:1
 returns : tie.Need-returns Inv-loop μ-loop
-returns c = ?
+returns c =
+    let a = c .before .before .before .args in
+    let l = c .before .loop in
+    let e : l .i ≡ a .n = omega arith in
+    subst (λ n. Wrote (now (a .out)) (a .at) (listBytes (now (a .list)) n) (l .out) (a .at + 4 * n)) e (l .inv .1)
 
 pub put-list-spec : {M : Type 1} → statement M
 put-list-spec =

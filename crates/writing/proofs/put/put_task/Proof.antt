@@ -1,46 +1,51 @@
+-- Two numbers of four bytes, the mark and the priority in one.
+use Prim.Native.Nat.{_+_, _*_}
+use native.Mathlib.Omega.{arith}
+use mathlib.Core.Path.{_≡_, ap, subst, _∙_}
+use mathlib.Core.List.{_++_}
+use denote.Ref.{now}
+use Rattle.slices.specs.code.Wrote.{Wrote}
+use Rattle.table.specs.Bytes.{bytesOf}
+use Rattle.writing.specs.Rows.{taskRecord}
+use Rattle.writing.proofs.Puts.{wrote-number, number-on, task-bytes}
 use borrow.Author.Needs.{needs}
 use Rattle.writing.proofs.put.put_task.Statement.{statement}
 use Rattle.writing.proofs.put.put_task.Tie as tie
-use Rattle.writing.proofs.put.put_task.Reads as reads
-use Rattle.writing.proofs.put.put_task.Lts as lts
-use Rattle.table.proofs.put_u32.Reads as put-u32-reads
-use Rattle.table.proofs.u32_from_u16.Reads as u32-from-u16-reads
 
--- src/put.rt:54:40
 u32-from-u16-requires : tie.Need-u32-from-u16-requires
 u32-from-u16-requires c κs = search needs
 
--- src/put.rt:54:31
 mul-put-u32 : tie.Need-mul-put-u32
 mul-put-u32 c = search needs
 
--- src/put.rt:54:22
 add-put-u32 : tie.Need-add-put-u32
 add-put-u32 c = search needs
 
--- src/put.rt:54:5
 put-u32-requires : tie.Need-put-u32-requires
 put-u32-requires c κs = search needs
 
--- src/put.rt:55:18
 add-put-u32-2 : tie.Need-add-put-u32-2
 add-put-u32-2 c = search needs
 
--- src/put.rt:55:5
 put-u32-requires-2 : tie.Need-put-u32-requires-2
 put-u32-requires-2 c κs = search needs
 
--- src/put.rt:56:5
 add-result : tie.Need-add-result
 add-result c = search needs
 
--- src/put.rt:50:1
 same-length : tie.Need-same-length
 same-length c = search needs
 
--- src/put.rt:50:1
 returns : tie.Need-returns
-returns c = ?
+returns c =
+    let s = c .before .before .before .before .before .before .before .before .before .before in
+    let a = s .args in
+    let p = c .before .before .before .before .before .before .before .u32-from-u16 in
+    let m = c .before .before .before .before .before .before .put-u32 in
+    let v = c .before .before .put-u322 in
+    let e : bytesOf 4 (19284 + 65536 * p .result) ++ bytesOf 4 (a .cost) ≡ taskRecord (a .priority) (a .cost) = ap (λ n. bytesOf 4 (19284 + 65536 * n) ++ bytesOf 4 (a .cost)) (p .ensures .0) ∙ task-bytes (a .priority) (a .cost) in
+    let marked = wrote-number (now (a .out)) (a .at) 4 (19284 + 65536 * p .result) (m .last .0) (a .at + 4) (omega arith) (omega (arith, s .pre)) (m .ensures) in
+    subst (λ text. Wrote (now (a .out)) (a .at) text (v .last .0) (a .at + 8)) e (number-on marked 4 (a .cost) (a .at + 8) (omega arith) (omega (arith, s .pre)) (v .ensures))
 
 pub put-task-spec : {M : Type 1} → statement M
 put-task-spec =

@@ -1,58 +1,66 @@
+-- The first i tasks are put.
+use Prim.Native.Nat.{_≤_, _-_}
+use native.Mathlib.Omega.{arith}
+use mathlib.Core.Path.{_≡_, subst}
+use denote.Ref.{now}
+use Rattle.slices.specs.code.Wrote.{Wrote}
+use Rattle.slices.proofs.Writes.{wrote-none}
+use Rattle.writing.specs.Rows.{taskBytes, tasksBytes}
+use Rattle.writing.proofs.Pieces.{tasks-length}
+use Rattle.writing.proofs.Puts.{pieces-none, pieces-on}
 use Rattle.writing.proofs.put.put_tasks.Statement.{statement}
 use Rattle.writing.proofs.put.put_tasks.Tie as tie
-use Rattle.writing.proofs.put.put_tasks.Reads as reads
-use Rattle.writing.proofs.put.put_tasks.Lts as lts
-use Rattle.writing.proofs.put.put_task.Reads as put-task-reads
 
 abbrev Inv-loop : tie.InvT-loop
-Inv-loop out₀ at priority cost n next₀ i₀ out next i = ?
+Inv-loop out₀ at priority cost n next₀ i₀ out next i = (i ≤ n) × Wrote out₀ at (tasksBytes priority cost i) out next
 
 abbrev μ-loop : tie.MeasureT-loop
-μ-loop out₀ at priority cost n next₀ i₀ out next i = ?
+μ-loop out₀ at priority cost n next₀ i₀ out next i = n - i
 
--- src/put.rt:72:5
 loop-holds : tie.Need-loop-holds Inv-loop μ-loop
-loop-holds c = ?
+loop-holds c =
+    let a = c .before .args in
+    (omega arith, rw (pieces-none (taskBytes (now (a .priority)) (now (a .cost)))) (wrote-none (now (a .out)) (a .at) (omega arith)))
 
--- src/put.rt:73:36
 mul-put-task : tie.Need-mul-put-task Inv-loop μ-loop
-mul-put-task c = ?
+mul-put-task c = omega arith
 
--- src/put.rt:73:36
 element-copy-out-put-task : tie.Need-element-copy-out-put-task Inv-loop μ-loop
-element-copy-out-put-task c = ?
+element-copy-out-put-task c = omega arith
 
--- src/put.rt:73:49
 mul-put-task-2 : tie.Need-mul-put-task-2 Inv-loop μ-loop
-mul-put-task-2 c = ?
+mul-put-task-2 c = omega arith
 
--- src/put.rt:73:49
 element-copy-out-put-task-2 : tie.Need-element-copy-out-put-task-2 Inv-loop μ-loop
-element-copy-out-put-task-2 c = ?
+element-copy-out-put-task-2 c = omega arith
 
--- src/put.rt:73:9
 put-task-requires : tie.Need-put-task-requires Inv-loop μ-loop
-put-task-requires c κs = ?
+put-task-requires c κs =
+    let s = c .before .before .before .before .before .before in
+    let l = c .before .before .before .before .loop in
+    omega (arith, s .pre .1, l .inv .1 .long, l .inv .1 .ends, tasks-length (now (s .args .priority)) (now (s .args .cost)) (l .i))
 
--- src/put.rt:74:9
 add-i : tie.Need-add-i Inv-loop μ-loop
-add-i c = ?
+add-i c = omega arith
 
--- src/put.rt:72:5
 loop-less : tie.Need-loop-less Inv-loop μ-loop
-loop-less c = ?
+loop-less c = omega arith
 
--- src/put.rt:72:5
 loop-again : tie.Need-loop-again Inv-loop μ-loop
-loop-again c = ?
+loop-again c =
+    let a = c .before .before .before .before .before .before .before .before .before .args in
+    let l = c .before .before .before .before .before .before .before .loop in
+    (omega arith, pieces-on (taskBytes (now (a .priority)) (now (a .cost))) (l .i) (l .inv .1) (c .before .before .put-task .ensures))
 
--- src/put.rt:60:1
 same-length : tie.Need-same-length Inv-loop μ-loop
-same-length c = ?
+same-length c = c .before .loop .inv .1 .long
 
--- src/put.rt:60:1
 returns : tie.Need-returns Inv-loop μ-loop
-returns c = ?
+returns c =
+    let a = c .before .before .before .args in
+    let l = c .before .loop in
+    let e : l .i ≡ a .n = omega arith in
+    subst (λ n. Wrote (now (a .out)) (a .at) (tasksBytes (now (a .priority)) (now (a .cost)) n) (l .out) (l .next)) e (l .inv .1)
 
 pub put-tasks-spec : {M : Type 1} → statement M
 put-tasks-spec =

@@ -1,0 +1,164 @@
+-- The number of a row's first fault: the steps of its loops, and what its tests say. Assumes nothing.
+use Prim.Native.Nat.{ℕ, zero, suc, _+_, _*_, _-_, _<_, _≤_}
+use mathlib.Core.Path.{_≡_, refl, ap, sym, _∙_}
+use mathlib.Core.List.{List, [], _∷_}
+use mathlib.Core.Bool.{Bool, true, false, not, _&&_}
+use mathlib.Core.Logic.{_⊎_, ⊎-elim}
+use native.Mathlib.Omega.{arith}
+use lib.Dec.{eqb, ltb}
+use lib.ListN.{length, getD, take, drop}
+use lib.Seq.{getD-take, length-take-le}
+use borrow.Author.Tests.{lt-ltb, le-ltb, ltb-false, eq-eqb, ne-eqb}
+use Rattle.search.specs.Choice.{_when_else_, byNumber}
+use Rattle.search.specs.Find.{first}
+use Rattle.search.proofs.Choice.{when-yes, when-no, when-cases, when-zero, true-not-false}
+use Rattle.search.proofs.Find.{first-miss, first-none}
+use Rattle.table.specs.Limits.{maxChains, maxTasks, maxAllTasks, maxDistances, maxDistance, maxCost}
+use Rattle.table.specs.Fault.{_then_, outside, fallFault, lastFault, gapShort, gapFault, distancesFault}
+use Rattle.table.specs.Read.{numberOf}
+use Rattle.table.specs.declared.Row.{Row}
+use Rattle.table.specs.declared.Verdict.{Verdict}
+use Rattle.table.specs.declared.Verdict.the-variants.{Accepted, Refused}
+use Rattle.table.proofs.Firsts.{or-left, or-right, or-none, none-or}
+use Rattle.table.proofs.Lists.{fall-here, fall-on, gap-yes, gap-no}
+use Rattle.writing.specs.Rows.{Fits}
+use Rattle.writing.specs.code.Judged.{countsNumber, listNumber, taskWrong, tasksNumber, firstNumber, rowNumber, faulted, counted, judgedWith, Small, JudgedWith}
+use Rattle.writing.specs.declared.judged.Judged.{Judged}
+use Rattle.writing.proofs.Lefts.{left-on}
+
+-- a number refuses, 0 does not
+pub by-fault : {A : Type 0} (refuse : ℕ → A) (n : ℕ) (answer : A) → (n ≡ 0 → ⊥) → byNumber refuse n answer ≡ refuse n
+unfolding byNumber
+by-fault refuse zero answer h = absurd (h refl)
+by-fault refuse (suc n) answer h = refl
+
+pub number-none : (n m : ℕ) → firstNumber n m ≡ 0 → (n ≡ 0) × (m ≡ 0)
+unfolding byNumber
+number-none zero m e = (refl, e)
+number-none (suc n) m e = absurd (omega (arith, e))
+
+-- outside 1 to a limit, as the code's two tests say it
+module _ (high x : ℕ) where
+  pub outside-yes : (x < 1) ⊎ (ltb high x ≡ true) → outside 1 high x ≡ true
+  outside-yes h = ⊎-elim (λ l. or-left _ _ (lt-ltb _ _ l)) (λ e. or-right (ltb x 1) _ e) h
+
+  pub outside-no : 1 ≤ x → ltb high x ≡ false → outside 1 high x ≡ false
+  outside-no l e = or-none _ _ (le-ltb _ _ l) e
+
+-- The first n of a list, from number i on
+
+module _ (list : List ℕ) (n i : ℕ) (h : n ≤ length list) (k : i < n) where
+  opened : drop i (take n list) ≡ getD list i 0 ∷ drop (i + 1) (take n list)
+  opened = left-on list n i 0 k (omega arith)
+
+  module _ (before : ℕ) where
+    pub fall-stop : outside before maxDistance (getD list i 0) ≡ true → fallFault before (drop i (take n list)) (4 * i) ≡ Refused 29 (4 * i)
+    fall-stop e = rw opened (fall-here before (getD list i 0) (drop (i + 1) (take n list)) (4 * i) e)
+
+    pub fall-next : outside before maxDistance (getD list i 0) ≡ false
+        → fallFault before (drop i (take n list)) (4 * i) ≡ fallFault (getD list i 0) (drop (i + 1) (take n list)) (4 * (i + 1))
+    fall-next e =
+        let next : 4 * i + 4 ≡ 4 * (i + 1) = omega arith in
+        rw (opened, ← next) (fall-on before (getD list i 0) (drop (i + 1) (take n list)) (4 * i) e)
+
+  module _ (gap : ℕ) where
+    pub short-here : gap * (i + 1) < getD list i 0 → gapShort gap (i + 1) (drop i (take n list)) ≡ true
+    short-here l = rw opened (gap-yes gap (i + 1) (getD list i 0) (drop (i + 1) (take n list)) l)
+
+    pub short-next : getD list i 0 ≤ gap * (i + 1) → gapShort gap (i + 1) (drop i (take n list)) ≡ gapShort gap (i + 1 + 1) (drop (i + 1) (take n list))
+    short-next l = rw opened (gap-no gap (i + 1) (getD list i 0) (drop (i + 1) (take n list)) l)
+
+-- A list's number
+
+pub fall-none : (before : ℕ) (ds : List ℕ) (at : ℕ) → numberOf (fallFault before ds at) ≡ 0 → fallFault before ds at ≡ Accepted
+unfolding fallFault
+fall-none before [] at e = refl
+fall-none before (d ∷ ds) at e = when-cases (λ v. numberOf v ≡ 0 → v ≡ Accepted) (outside before maxDistance d) (λ t z. absurd (omega (arith, z))) (λ t z. fall-none d ds (at + 4) z) e
+
+number-stop : (a b : Verdict) → (numberOf a ≡ 0 → ⊥) → numberOf (a then b) ≡ numberOf a
+unfolding _then_
+number-stop Accepted b h = absurd (h refl)
+number-stop (Refused n place) b h = refl
+
+last-or-gap : (p q : ℕ) (t u : Bool) → numberOf ((Refused 30 p when t else Accepted) then (Refused 31 q when u else Accepted)) ≡ (30 when t else 31 when u else 0)
+unfolding _then_ _when_else_
+last-or-gap p q true u = refl
+last-or-gap p q false true = refl
+last-or-gap p q false false = refl
+
+pub list-falls : (gap : ℕ) (ds : List ℕ) → (numberOf (fallFault 0 ds 0) ≡ 0 → ⊥) → listNumber gap ds ≡ numberOf (fallFault 0 ds 0)
+unfolding listNumber distancesFault
+list-falls gap ds h = number-stop (fallFault 0 ds 0) (lastFault ds 0 then gapFault gap ds 0) h
+
+pub list-rises : (gap : ℕ) (list : List ℕ) (n : ℕ) → n ≤ length list → 1 ≤ n → numberOf (fallFault 0 (take n list) 0) ≡ 0
+    → listNumber gap (take n list) ≡ (30 when eqb (getD list (n - 1) 0) 0 else 31 when not (eqb gap 0) && gapShort gap 1 (take n list) else 0)
+unfolding listNumber distancesFault lastFault gapFault _then_
+list-rises gap list n h k e =
+    let ds = take n list in
+    let last : getD ds (length ds - 1) 0 ≡ getD list (n - 1) 0 = rw (length-take-le n list h) (getD-take n list (n - 1) 0 (omega arith)) in
+    rw (← last) (ap (λ v. numberOf (v then lastFault ds 0 then gapFault gap ds 0)) (fall-none 0 ds 0 e)
+    ∙ last-or-gap (0 + 4 * (length ds - 1)) 0 (eqb (getD ds (length ds - 1) 0) 0) (not (eqb gap 0) && gapShort gap 1 ds))
+
+-- The tasks' number
+
+pub task-wrong : (priority cost : List ℕ) (i : ℕ) → (getD priority i 0 ≡ 0) ⊎ (outside 1 maxCost (getD cost i 0) ≡ true) → taskWrong priority cost i ≡ true
+task-wrong priority cost i h = ⊎-elim (λ e. or-left _ _ (eq-eqb _ _ e)) (λ e. or-right (eqb (getD priority i 0) 0) _ e) h
+
+module _ (priority cost : List ℕ) (n : ℕ) where
+  pub tasks-wrong : (i : ℕ) → i < n → taskWrong priority cost i ≡ true → tasksNumber priority cost n ≡ 10
+  unfolding tasksNumber
+  tasks-wrong i h e =
+      let u : ¬ (i < first (taskWrong priority cost) 0 n) = λ k. true-not-false e (first-miss (taskWrong priority cost) 0 n i (omega arith) k) in
+      when-yes 10 0 (lt-ltb (first (taskWrong priority cost) 0 n) n (omega arith))
+
+  pub tasks-right : ((i : ℕ) → i < n → taskWrong priority cost i ≡ true → ⊥) → tasksNumber priority cost n ≡ 0
+  unfolding tasksNumber
+  tasks-right none = when-no 10 0 (le-ltb (first (taskWrong priority cost) 0 n) n (omega (arith, first-none (taskWrong priority cost) 0 n (λ i a h e. none i (omega arith) e))))
+
+-- No fault: what it says of the counts
+
+pub counts-none : (before listed tasks : ℕ) → countsNumber before listed tasks ≡ 0
+    → (1 ≤ listed) × (listed ≤ maxDistances) × (tasks ≤ maxTasks) × (before + tasks ≤ maxAllTasks)
+unfolding countsNumber
+counts-none before listed tasks e =
+    let a = when-zero 27 _ _ e in
+    let b = when-zero 8 _ _ (a .1) in
+    let l = none-or _ _ (a .0) in
+    let t = none-or (outside 1 maxTasks tasks) _ (b .0) in
+    (ltb-false _ _ (l .0), ltb-false _ _ (l .1), ltb-false _ _ (none-or (ltb tasks 1) _ (t .0) .1), ltb-false _ _ (t .1))
+
+pub row-counts : (j : Judged) (r : Row) → rowNumber j r ≡ 0
+    → (1 ≤ r .listed) × (r .listed ≤ maxDistances) × (r .tasks ≤ maxTasks) × (j .tasks + r .tasks ≤ maxAllTasks)
+unfolding rowNumber
+row-counts j r e = counts-none (j .tasks) (r .listed) (r .tasks) (number-none _ _ (number-none _ _ (number-none _ _ e .1) .1) .0)
+
+-- One row more
+
+module _ {j : Judged} {r : Row} (f : Fits r) (s : Small j) where
+  -- a fault before it stays
+  pub with-before : (j .number ≡ 0 → ⊥) → JudgedWith j r j
+  unfolding judgedWith _when_else_
+  with-before h = record { fits = f; small = s; is = rw (ne-eqb _ _ h) }
+
+  small-faulted : (n : ℕ) → Small (faulted j n)
+  small-faulted n = record { count = s .count; tasks = s .tasks; bytes = s .bytes }
+
+  module _ (none : j .number ≡ 0) where
+    pub with-many : j .count ≡ maxChains → JudgedWith j r (faulted j 11)
+    unfolding judgedWith _when_else_
+    with-many e = record { fits = f; small = small-faulted 11; is = rw (eq-eqb _ _ none, eq-eqb _ _ e) }
+
+    module _ (few : j .count ≡ maxChains → ⊥) (n : ℕ) (e : n ≡ rowNumber j r) where
+      pub with-fault : (n ≡ 0 → ⊥) → JudgedWith j r (faulted j n)
+      unfolding judgedWith _when_else_
+      with-fault h = record { fits = f; small = small-faulted n; is = rw (eq-eqb _ _ none, ne-eqb _ _ few, ← e, ne-eqb _ _ h) }
+
+      pub with-none : n ≡ 0 → JudgedWith j r (counted j r)
+      unfolding judgedWith _when_else_
+      with-none z =
+          let b = row-counts j r (sym e ∙ z) in
+          record {
+            fits = f;
+            small = record { count = omega (arith, s .count); tasks = b .3; bytes = omega (arith, s .bytes, b .1, b .2) };
+            is = rw (eq-eqb _ _ none, ne-eqb _ _ few, ← e, eq-eqb _ _ z);
+          }

@@ -1,0 +1,79 @@
+-- Bytes put one after the other, and the answer. Assumes nothing.
+use Prim.Native.Nat.{ℕ, zero, suc, min, _+_, _*_, _<_, _≤_}
+use native.Mathlib.Omega.{arith}
+use native.Mathlib.Numerals.{add-one}
+use mathlib.Core.Path.{_≡_, refl, ap, subst}
+use mathlib.Core.List.{List, [], _++_, append-assoc}
+use mathlib.Core.Bool.{Bool, true, false}
+use lib.ListN.{length, take, drop}
+use lib.Dec.{ltb}
+use Rattle.search.specs.Choice.{_when_else_, byNumber}
+use Rattle.slices.specs.code.Wrote.{Wrote}
+use Rattle.slices.proofs.Writes.{wrote-on, wrote-put}
+use Rattle.table.specs.Limits.{maxDistances, maxTasks}
+use Rattle.table.specs.Bytes.{bytesOf}
+use Rattle.table.specs.declared.Row.{Row}
+use Rattle.table.proofs.Words.{length-bytes, bytes-join}
+use Rattle.writing.specs.Rows.{headBytes, taskRecord, pieces}
+use Rattle.writing.specs.code.Judged.{firstNumber}
+use Rattle.writing.specs.code.Put.{judgedNumber, tableLength, answerOf}
+use Rattle.writing.specs.declared.judged.Judged.{Judged}
+use Rattle.writing.specs.declared.Written.{Written}
+use Rattle.writing.specs.declared.Written.the-variants.{Used, Refused}
+use Rattle.writing.proofs.Pieces.{more-pieces}
+
+-- a number
+pub wrote-number : (before : List ℕ) (at n x : ℕ) (after : List ℕ) (next : ℕ) → next ≡ at + n → at + n ≤ length before
+    → after ≡ take at before ++ bytesOf n x ++ drop (at + n) before → Wrote before at (bytesOf n x) after next
+wrote-number before at n x after next e h w = wrote-put before at (bytesOf n x) after n next (length-bytes n x) e h w
+
+-- and one after what was put
+pub number-on : {before mid text after : List ℕ} {at here : ℕ} → Wrote before at text mid here → (n x next : ℕ) → next ≡ here + n → here + n ≤ length before
+    → after ≡ take here mid ++ bytesOf n x ++ drop (here + n) mid → Wrote before at (text ++ bytesOf n x) after next
+number-on {before} {mid} {text} {after} {at} {here} w n x next e h p = wrote-on w (wrote-number mid here n x after next e (omega (arith, w .long)) p)
+
+-- a task record is two numbers of four bytes, the fixed part of a row's record five numbers of four or two
+pub task-bytes : (priority cost : ℕ) → bytesOf 4 (19284 + 65536 * priority) ++ bytesOf 4 cost ≡ taskRecord priority cost
+task-bytes priority cost = ap (λ l. l ++ bytesOf 4 cost) (bytes-join 2 2 19284 priority (omega arith))
+
+pub head-bytes : (r : Row) → r .kind < 256 → r .listed ≤ maxDistances → r .tasks ≤ maxTasks
+    → bytesOf 4 (18499 + 65536 * r .id) ++ bytesOf 2 (r .kind + 256 * r .overload) ++ bytesOf 4 (r .deadline) ++ bytesOf 4 (r .gap) ++ bytesOf 2 (r .listed + 256 * r .tasks)
+    ≡ headBytes r
+unfolding headBytes
+head-bytes r k l t =
+    let a : min (r .listed) 255 ≡ r .listed = omega arith in
+    let b : min (r .tasks) 255 ≡ r .tasks = omega arith in
+    rw (a, b, bytes-join 2 2 18499 (r .id) (omega arith), bytes-join 1 1 (r .kind) (r .overload) (omega arith), bytes-join 1 1 (r .listed) (r .tasks) (omega arith)) (simp append-assoc)
+
+-- Pieces
+
+pub pieces-none : (f : ℕ → List ℕ) → pieces f 0 0 ≡ []
+unfolding pieces
+pieces-none f = refl
+
+-- the next piece is put
+pub pieces-on : (f : ℕ → List ℕ) (i : ℕ) {before mid after : List ℕ} {at here next : ℕ} → Wrote before at (pieces f i 0) mid here
+    → Wrote mid here (f i) after next → Wrote before at (pieces f (i + 1) 0) after next
+pieces-on f i {before} {mid} {after} {at} {here} {next} w v =
+    let z : 0 + i ≡ i = omega arith in
+    let e : pieces f i 0 ++ f i ≡ pieces f (i + 1) 0 = rw (add-one, more-pieces f i 0, z) in
+    subst (λ text. Wrote before at text after next) e (wrote-on w v)
+
+-- The answer
+
+-- a fault is the answer
+pub fault-answers : (k m : ℕ) (answer : Written) → (k ≡ 0 → ⊥) → byNumber Refused (firstNumber k m) answer ≡ Refused k
+unfolding byNumber
+fault-answers zero m answer h = absurd (h refl)
+fault-answers (suc k) m answer h = refl
+
+-- a refusal has a number
+some-number : (k l n : ℕ) (t : Bool) → byNumber Refused k (Refused 24 when t else Used l) ≡ Refused n → n ≡ 0 → ⊥
+unfolding byNumber _when_else_
+some-number zero l n true e z = let x : _≡_ {A = ℕ} 24 0 = cc in omega arith
+some-number zero l n false e z = let x : _≡_ {A = ℕ} 0 1 = cc in omega arith
+some-number (suc k) l n t e z = let x : _≡_ {A = ℕ} (suc k) 0 = cc in omega arith
+
+pub refused-number : (j : Judged) (room n : ℕ) → answerOf j room ≡ Refused n → n ≡ 0 → ⊥
+unfolding answerOf
+refused-number j room n e = some-number (judgedNumber j) (tableLength j) n (ltb room (tableLength j)) e

@@ -1,0 +1,29 @@
+-- The first of the two numbers that is not 0.
+use mathlib.Core.Path.{sym}
+use Rattle.search.specs.Choice.{byNumber}
+use Rattle.writing.specs.code.Judged.{listsNumber}
+use Rattle.writing.proofs.Fit.{row-fits}
+use Rattle.writing.proofs.Numbers.{by-fault}
+use borrow.Author.Needs.{needs}
+use Rattle.writing.proofs.judged.lists_number.Statement.{statement}
+use Rattle.writing.proofs.judged.lists_number.Tie as tie
+
+list-number-requires : tie.Need-list-number-requires
+list-number-requires c κs =
+    let s = c .before .before in
+    (s .pre .0, s .pre .1, row-fits (s .args .row) _ (s .good .0) .list-places)
+
+returns : tie.Need-returns
+unfolding listsNumber
+returns c = rw (← c .before .list-number .ensures) (sym (by-fault (λ k. k) _ _ (c .if1 .taken)))
+
+tasks-number-requires : tie.Need-tasks-number-requires
+tasks-number-requires c κs = search needs
+
+returns-2 : tie.Need-returns-2
+unfolding listsNumber byNumber
+returns-2 c = rw (← c .before .before .before .before .before .before .list-number .ensures, c .before .before .before .before .before .if1 .left, ← c .tasks-number .ensures)
+
+pub lists-number-spec : {M : Type 1} → statement M
+lists-number-spec =
+    tie.close (tie.spec list-number-requires returns tasks-number-requires returns-2)
