@@ -13,7 +13,7 @@ use Rattle.search.specs.Choice.{_when_else_, byNumber}
 use Rattle.search.specs.Find.{first}
 use Rattle.search.specs.Lists.{All}
 use Rattle.search.proofs.Choice.{when-yes, when-no, lt-or-le}
-use Rattle.table.specs.Limits.{maxChains}
+use Rattle.table.specs.Limits.{maxChains, maxDistances, maxTasks}
 use Rattle.table.specs.Bytes.{word, bytesOf}
 use Rattle.table.specs.Record.{countPlace, afterEnd, endRecord, lengthAt, rowAt}
 use Rattle.table.specs.Find.{used}
@@ -32,7 +32,8 @@ use Rattle.table.proofs.Steps.{records-mark, records-full, records-chain}
 use Rattle.table.proofs.Marks.{markNumber}
 use Rattle.table.proofs.Words.{end-length, end-mark-word, end-count}
 use Rattle.writing.specs.Rows.{rowBytes, tableBytes, cleared, Fits}
-use Rattle.writing.specs.code.Judged.{firstNumber, rowNumber, unjudged, faulted, counted, judgedWith, judgedAll, mostJudged}
+use Rattle.writing.specs.Write.{verdictOn}
+use Rattle.writing.specs.code.Judged.{firstNumber, rowNumber, unjudged, faulted, counted, judgedWith, judgedAll, mostJudged, JudgedRows}
 use Rattle.writing.specs.code.Put.{judgedNumber}
 use Rattle.writing.specs.declared.judged.Judged.{Judged}
 use Rattle.writing.proofs.Numbers.{row-counts}
@@ -164,3 +165,56 @@ module _ (s : List ℕ) (total : ℕ) where
       subst (λ (x : Reading). Says (x .verdict) number) (sym (records-full s at t here chain (sym (keeps .count) ∙ full)))
       (subst (Says (Refused 11 at)) (sym (fault ∙ eleven j)) (Says.fault 10 at)))
       (lt-or-le (j .count) maxChains)
+
+-- so it is of all rows
+pub rows-verdict : (rs : List Row) (j : Judged) → JudgedRows rs j → Says (verdictOn rs) (judgedNumber j)
+unfolding verdictOn tableBytes
+rows-verdict rs j h =
+    subst (λ (k : Judged). Says (verdictOn rs) (judgedNumber k)) (sym (h .is))
+    (rows-says (tableBytes rs) (length rs) rs mostJudged 0 empty unjudged (omega arith) refl (h .fits) refl refl (omega arith) (omega arith) (record { bear = refl; count = refl; tasks = refl }))
+
+-- Good rows: how many they are, how long their records, and each one's counts
+
+pub record Counts (r : Row) : Type 0 where
+  pub listed : r .listed ≤ maxDistances
+  pub tasks : r .tasks ≤ maxTasks
+
+pub record GoodRows (rs : List Row) (j v : Judged) : Type 0 where
+  pub few : j .count + length rs ≤ maxChains
+  pub count : v .count ≡ j .count + length rs
+  pub bytes : v .bytes ≡ j .bytes + length (flatten (map rowBytes rs))
+  pub rows : All Counts rs
+
+good-rows : (rs : List Row) (m : ℕ) (j : Judged) → m + j .count ≡ mostJudged → j .count ≤ maxChains → j .number ≡ 0
+    → judgedAll j (take m rs) .number ≡ 0 → GoodRows rs j (judgedAll j (take m rs))
+unfolding judgedAll flatten
+good-rows [] m j e few sound z =
+    subst (GoodRows [] j) (sym (ap (judgedAll j) (take-nil m)))
+    (record { few = omega arith; count = omega arith; bytes = omega arith; rows = tt })
+good-rows (r ∷ rs) zero j e few sound z = absurd (omega (arith, e))
+good-rows (r ∷ rs) (suc m) j e few sound z = ⊎-elim
+    (λ l. by l (λ z. good-rows rs m (counted j r) (omega (arith, e)) (omega (arith, l)) refl z) (rowNumber j r) refl)
+    (λ l. absurd (faulty 10 (with-full j r sound (omega arith))))
+    (lt-or-le (j .count) maxChains)
+  where
+    faulty : (n : ℕ) → judgedWith j r ≡ faulted j (suc n) → ⊥
+    faulty n w = omega (arith, sym z ∙ ap (λ (k : Judged). judgedAll k (take m rs) .number) w ∙ ap (λ (k : Judged). k .number) (stays (faulted j (suc n)) (take m rs) (λ y. omega arith)))
+
+    by : (l : j .count < maxChains) → (judgedAll (counted j r) (take m rs) .number ≡ 0 → GoodRows rs (counted j r) (judgedAll (counted j r) (take m rs)))
+        → (n : ℕ) → rowNumber j r ≡ n → GoodRows (r ∷ rs) j (judgedAll (judgedWith j r) (take m rs))
+    by l rest (suc n) q = absurd (faulty n (with-wrong j r sound l (λ y. omega (arith, q, y)) ∙ ap (faulted j) q))
+    by l rest zero q =
+        let w = with-right j r sound l q in
+        let g = rest (ap (λ (k : Judged). judgedAll k (take m rs) .number) (sym w) ∙ z) in
+        let c = row-counts j r q in
+        subst (λ (k : Judged). GoodRows (r ∷ rs) j (judgedAll k (take m rs))) (sym w)
+        (record {
+          few = omega (arith, g .few);
+          count = omega (arith, g .count);
+          bytes = omega (arith, g .bytes, length-append (rowBytes r) (flatten (map rowBytes rs)), row-length r);
+          rows = (record { listed = c .1; tasks = c .2 }, g .rows);
+        })
+
+pub judged-good : (rs : List Row) (j : Judged) → JudgedRows rs j → j .number ≡ 0 → GoodRows rs unjudged j
+judged-good rs j h z =
+    subst (GoodRows rs unjudged) (sym (h .is)) (good-rows rs mostJudged unjudged refl (omega arith) refl (ap (λ (k : Judged). k .number) (sym (h .is)) ∙ z))

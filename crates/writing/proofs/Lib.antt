@@ -6,5 +6,6 @@ pub mod Puts
 pub mod Fields
 pub mod Verdicts
 pub mod Judging
+pub mod Answering
 pub mod Fillings
 pub mod Loops

@@ -18,7 +18,7 @@ use Rattle.table.specs.Record.{idPlace, kindPlace, overloadPlace, deadlinePlace
 use Rattle.table.specs.Find.{used}
 use Rattle.table.specs.Fault.{_then_, outside, markOf, noTask, identityFault, timesFault, countsFault, headFault, fallFault, lastFault, gapShort, gapFault, distancesFault, listFault, taskMarkFault, valuesFault, taskRestFault, taskFault, tasksFault, chainFault}
 use Rattle.table.specs.Place.{lengthOf}
-use Rattle.table.specs.Read.{numberOf, unless, refusal}
+use Rattle.table.specs.Read.{numberOf, unless, byVerdict, refusal}
 use Rattle.table.specs.declared.Row.{Row}
 use Rattle.table.specs.declared.Table.{Table}
 use Rattle.table.specs.declared.Reading.{Reading}
@@ -41,6 +41,12 @@ pub data Says : Verdict → ℕ → Type 0 where
 pub says-number : {v : Verdict} {n : ℕ} → Says v n → numberOf v ≡ n
 says-number Says.none = refl
 says-number (Says.fault n place) = refl
+
+-- it refuses as its number does
+pub says-by : {A : Type 0} {v : Verdict} {n : ℕ} → Says v n → (refuse : ℕ → A) (answer : A) → byVerdict refuse v answer ≡ byNumber refuse n answer
+unfolding byNumber
+says-by Says.none refuse answer = refl
+says-by (Says.fault n place) refuse answer = refl
 
 pub says-none : {v : Verdict} {n : ℕ} → Says v n → n ≡ 0 → v ≡ Accepted
 says-none Says.none e = refl
@@ -193,8 +199,14 @@ module _ (s : List ℕ) (at : ℕ) (r : Row) (st : Stored s at r) where
     task-says : (i : ℕ) → i < r .tasks → Says (taskFault s (place i)) (10 when wrong i else 0)
     unfolding taskFault taskMarkFault taskRestFault valuesFault markOf _when_else_ _then_
     task-says i h =
-        rw (le-ltb (length s) (place i + 2) (omega (arith, st .there, h)), st .task-mark i h, le-ltb (length s) (place i + 8) (omega (arith, st .there, h)),
-        st .priority i h, st .cost i h, ← one-test 10 (eqb (getD (r .priority) i 0) 0) (outside 1 maxCost (getD (r .cost) i 0)))
+        rw (
+          le-ltb (length s) (place i + 2) (omega (arith, st .there, h)),
+          st .task-mark i h,
+          le-ltb (length s) (place i + 8) (omega (arith, st .there, h)),
+          st .priority i h,
+          st .cost i h,
+          ← one-test 10 (eqb (getD (r .priority) i 0) 0) (outside 1 maxCost (getD (r .cost) i 0)),
+        )
         (says-when 9 (priorityPlace (place i)) (eqb (getD (r .priority) i 0) 0) (says-when 9 (costPlace (place i)) (outside 1 maxCost (getD (r .cost) i 0)) Says.none))
 
     -- the first wrong task is the next one, or one of those after it
