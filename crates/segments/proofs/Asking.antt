@@ -1,7 +1,6 @@
 -- The segment query: an active segment out of the arrays, and where its task records stand. Assumes nothing.
-use Prim.Native.Nat.{ℕ, zero, suc, _+_, _*_, _-_, _<_, _≤_}
+use Prim.Native.Nat.{ℕ, _+_, _*_, _-_, _<_, _≤_}
 use native.Mathlib.Omega.{arith}
-use native.Mathlib.Numerals.{add-one}
 use mathlib.Core.Path.{_≡_, ap, ap₂, sym, _∙_}
 use mathlib.Core.List.{List}
 use mathlib.Core.Bool.{Bool, true, false, not}
@@ -12,14 +11,11 @@ use lib.ListN.{length, getD}
 use Rattle.search.proofs.Choice.{when-yes, when-no}
 use Rattle.table.specs.Find.{rowOf, findOf, used}
 use Rattle.table.specs.Place.{placeOf}
-use Rattle.table.specs.code.Good.{GoodTable}
 use Rattle.table.specs.declared.Row.{Row}
 use Rattle.table.specs.declared.Table.{Table}
-use Rattle.table.specs.Limits.{maxDistances, maxTasks}
-use Rattle.table.specs.Record.{afterList, recordLength, firstTask, rowAt}
+use Rattle.table.specs.Record.{afterList, firstTask, rowAt}
 use Rattle.table.specs.code.Taken.{Taken}
 use Rattle.table.specs.Read.{tableOf}
-use Rattle.table.proofs.Standing.{place-none, place-on}
 use Rattle.table.proofs.Stands.{row-there}
 use Rattle.table.proofs.Firsts.{or-left, or-right, or-none}
 use Rattle.table.proofs.Finds.{find-le}
@@ -87,13 +83,3 @@ module _ (t : Table) (chain other n : ℕ) (l : Actives) (e : l ≡ arraysOf (ac
   nth-records first p some few =
       let f = fetched (rowOf t chain) (rowOf t other) l n e some (ltb-false (l .count) n few) in
       rw (p, f .start, f .len) (sym (when-no _ _ (or-none _ _ (le-ltb n 1 (omega arith)) (count-is false few))))
-
--- no record is longer than one with as many distances and tasks as may be
-abbrev pub longestRecord : ℕ
-longestRecord = recordLength maxDistances maxTasks
-
-pub place-max : (t : Table) → GoodTable t → (chain : ℕ) → chain ≤ t .count → placeOf t chain ≤ longestRecord * chain
-place-max t good zero h = omega (arith, place-none t)
-place-max t good (suc chain) h =
-    let r = good .row chain (omega arith) in
-    rw (← add-one chain) (omega (arith, place-max t good chain (omega arith), place-on t chain (omega (arith, good .few, good .size)), r .list .few, r .listed, r .tasks .few))

@@ -1,11 +1,21 @@
-// Byte slices: compared and copied.
+// Byte slices: compared and copied; and where the record of a chain stands in a table.
+use table::Verdict;
 use table::u32_at;
 use table::u64_at;
 ghost use mathlib.Core.Path.{_≡_};
 ghost use mathlib.Core.Bool.{true};
 ghost use Prim.Native.Nat.{ℕ, _+_, _≤_, _<_};
 ghost use lib.ListN.{length, getD};
+ghost use Rattle.table.specs.Read.{tableOf};
+ghost use Rattle.table.specs.code.Taken.{Taken};
 ghost use Rattle.slices.specs.Slices.{same as sameOf, splice};
+ghost use Rattle.slices.specs.Locate.{recordIn, locatedOf};
+
+// Where a record stands: its offset from the table's first byte and its length, or the refusal.
+pub enum Located {
+    Record { offset: u32, length: u32 },
+    Refused(u32),
+}
 
 // Whether the two have the same four bytes from i on.
 fn same_four(a: &[u8], b: &[u8], i: usize) -> bool
@@ -64,5 +74,31 @@ pub fn put(to: &mut [u8], at: usize, from: &[u8])
     while i < from.len() {
         to[at + i] = from[i];
         i += 1;
+    }
+}
+
+// The record of the chain that bears the id, in an accepted table.
+fn record_in(s: &[u8], id: u32) -> Located
+    requires { ⌜ Taken (now s) ⌝ }
+    ensures { λ r. ⌜ r ≡ recordIn (tableOf (now (s .entry))) id ⌝ }
+{
+    let chain = table::find(s, id);
+    if chain < table::count(s) {
+        let at = table::place(s, chain);
+        return Located::Record {
+            offset: at as u32,
+            length: table::record_length(s, at) as u32,
+        };
+    }
+    Located::Refused(12)
+}
+
+// Where the record of the chain that bears the id stands.
+pub fn record(s: &[u8], id: u32) -> Located
+    ensures { λ r. ⌜ r ≡ locatedOf (now (s .entry)) id ⌝ }
+{
+    match table::judge(s) {
+        Verdict::Accepted => record_in(s, id),
+        Verdict::Refused(n, _) => Located::Refused(n),
     }
 }

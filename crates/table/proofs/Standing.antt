@@ -1,5 +1,5 @@
 -- Where records stand: the laws of `placeOf`. Assumes nothing.
-use Prim.Native.Nat.{ℕ, _+_, _<_}
+use Prim.Native.Nat.{ℕ, zero, suc, _+_, _*_, _<_, _≤_}
 use native.Mathlib.Omega.{arith}
 use native.Mathlib.Numerals.{add-one}
 use mathlib.Core.Path.{_≡_, refl}
@@ -7,9 +7,11 @@ use lib.ListN.{length}
 use lib.Seq.{take-suc}
 use Rattle.search.specs.Lists.{sumOf}
 use Rattle.search.proofs.Lists.{sum-append}
-use Rattle.table.specs.Record.{blank}
+use Rattle.table.specs.Limits.{maxDistances, maxTasks}
+use Rattle.table.specs.Record.{recordLength, blank}
 use Rattle.table.specs.Find.{rowOf}
 use Rattle.table.specs.Place.{lengthOf, placeOf}
+use Rattle.table.specs.code.Good.{GoodTable}
 use Rattle.table.specs.declared.Table.{Table}
 
 pub place-none : (t : Table) → 0 ≡ placeOf t 0
@@ -19,3 +21,13 @@ place-none t = refl
 pub place-on : (t : Table) (chain : ℕ) → chain < length (t .row) → placeOf t (chain + 1) ≡ placeOf t chain + lengthOf (rowOf t chain)
 unfolding placeOf sumOf
 place-on t chain h = rw (add-one, take-suc (t .row) chain blank h, sum-append lengthOf) (omega arith)
+
+-- no record is longer than one with as many distances and tasks as may be
+abbrev pub longestRecord : ℕ
+longestRecord = recordLength maxDistances maxTasks
+
+pub place-max : (t : Table) → GoodTable t → (chain : ℕ) → chain ≤ t .count → placeOf t chain ≤ longestRecord * chain
+place-max t good zero h = omega (arith, place-none t)
+place-max t good (suc chain) h =
+    let r = good .row chain (omega arith) in
+    rw (← add-one chain) (omega (arith, place-max t good chain (omega arith), place-on t chain (omega (arith, good .few, good .size)), r .list .few, r .listed, r .tasks .few))

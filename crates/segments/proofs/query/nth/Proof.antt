@@ -17,7 +17,8 @@ use Rattle.segments.specs.Actives.{activesOf}
 use Rattle.segments.specs.Query.{activesIn}
 use Rattle.segments.specs.code.Held.{arraysOf}
 use Rattle.segments.proofs.Levels.{floor-tail}
-use Rattle.segments.proofs.Asking.{Fetched, found-is, first-there, fetched, nth-none, nth-records, longestRecord, place-max}
+use Rattle.table.proofs.Standing.{longestRecord, place-max}
+use Rattle.segments.proofs.Asking.{Fetched, found-is, first-there, fetched, nth-none, nth-records}
 use Rattle.segments.proofs.query.nth.Statement.{statement}
 use Rattle.segments.proofs.query.nth.Tie as tie
 
