@@ -73,6 +73,20 @@ static uint32_t number16(const uint8_t *at) { return at[0] | (uint32_t)at[1] << 
 
 static uint32_t number32(const uint8_t *at) { return number16(at) | number16(at + 2) << 16; }
 
+static void put16(uint8_t *at, uint32_t value)
+{
+    at[0] = (uint8_t)value;
+    at[1] = (uint8_t)(value >> 8);
+}
+
+static void put32(uint8_t *at, uint32_t value)
+{
+    put16(at, value);
+    put16(at + 2, value >> 16);
+}
+
+static void put_mark(uint8_t *at, const char *mark) { memcpy(at, mark, 2); }
+
 static bool is_mark(const uint8_t *at, const char *mark) { return at[0] == mark[0] && at[1] == mark[1]; }
 
 /* Whether the bytes from `at` hold `wanted` more. */
@@ -222,6 +236,12 @@ static struct fault read_table(const uint8_t *bytes, size_t length, struct table
             return fault;
         at = table->chain[table->chains - 1].end;
     }
+}
+
+static void write_end(uint8_t *at, size_t chains)
+{
+    put_mark(at, "EN");
+    put16(at + CHAIN_COUNT_AT, (uint32_t)chains);
 }
 
 /* The chain of an id, or NULL. */
@@ -952,8 +972,7 @@ static size_t write_result(const struct merge *merge, uint8_t result[2 * MOST_BY
         length += state.length;
         chains += state.length > 0;
     }
-    const uint8_t end[END_BYTES] = {'E', 'N', (uint8_t)chains, 0};
-    memcpy(result + length, end, END_BYTES);
+    write_end(result + length, chains);
     return length + END_BYTES;
 }
 
@@ -976,13 +995,154 @@ static uint32_t merge_copies(const struct lent lent[TABLES], uint8_t *buffer, si
     return refusal;
 }
 
-/* ---- The C editor ---- */
+/* ---- A writer ---- */
 
-static void put32(uint8_t *at, uint32_t value)
+/* A chain as a row, 0 in the places past its counts. */
+static void fill_row(const struct chain *chain, struct mishtodran_row *row)
 {
-    for (unsigned i = 0; i < 4; i++)
-        at[i] = (uint8_t)(value >> 8 * i);
+    *row = (struct mishtodran_row){.id = (uint16_t)chain->id,
+                                   .kind = chain->asynchronous,
+                                   .overload = chain->overload,
+                                   .deadline = chain->deadline,
+                                   .gap = chain->gap,
+                                   .listed = chain->listed,
+                                   .tasks = chain->tasks};
+    memcpy(row->list, chain->distance, chain->listed * sizeof row->list[0]);
+    for (unsigned i = 0; i < chain->tasks; i++) {
+        row->priority[i] = (uint16_t)chain->task[i].priority;
+        row->cost[i] = chain->task[i].cost;
+    }
 }
+
+static uint32_t read_rows(const uint8_t *bytes, size_t length, struct mishtodran_row *rows, size_t row_count,
+                          unsigned *chains)
+{
+    struct table table;
+    uint32_t refusal = read_table(bytes, length, &table).number;
+    if (refusal)
+        return refusal;
+    if (row_count < table.chains)
+        return 24;
+    for (unsigned i = 0; i < table.chains; i++)
+        fill_row(&table.chain[i], &rows[i]);
+    *chains = table.chains;
+    return 0;
+}
+
+static bool id_used_earlier(const struct mishtodran_row *rows, size_t place)
+{
+    for (size_t i = 0; i < place; i++)
+        if (rows[i].id == rows[place].id)
+            return true;
+    return false;
+}
+
+/* The number of the first fault in what would be the row's fixed part, or 0. The counts are 64 bits wide and judged
+   before they are added up or used. */
+static uint32_t judge_fixed_part(const struct mishtodran_row *rows, size_t place, uint64_t tasks_before)
+{
+    const struct mishtodran_row *row = &rows[place];
+    if (row->id == 0 || id_used_earlier(rows, place))
+        return 4;
+    if (row->kind > 1 || row->overload > 1)
+        return 5;
+    if (row->deadline < 1 || row->deadline > MOST_TIME)
+        return 6;
+    if (row->gap > MOST_TIME)
+        return 7;
+    if (row->listed < 1 || row->listed > MOST_LISTED)
+        return 28;
+    if (row->tasks < 1 || row->tasks > MOST_TASKS || tasks_before + row->tasks > MOST_TASKS_IN_ALL)
+        return 9;
+    return 0;
+}
+
+/* All distances are held against the limit and the one before; only then do the last one and the gap count. */
+static uint32_t judge_list(const struct mishtodran_row *row)
+{
+    uint32_t before = 0;
+    bool beyond_gap = false;
+    for (unsigned i = 0; i < row->listed; i++) {
+        uint32_t distance = row->list[i];
+        if (distance < before || distance > MOST_TIME)
+            return 29;
+        beyond_gap |= (uint64_t)row->gap * (i + 1) < distance;
+        before = distance;
+    }
+    if (before == 0)
+        return 30;
+    return row->gap != 0 && beyond_gap ? 31 : 0;
+}
+
+static uint32_t judge_tasks(const struct mishtodran_row *row)
+{
+    for (unsigned i = 0; i < row->tasks; i++)
+        if (row->priority[i] == 0 || row->cost[i] < 1 || row->cost[i] > MOST_COST)
+            return 10;
+    return 0;
+}
+
+/* The number of the first fault of rows, as their bytes would be read, or 0 and the length of their table. */
+static uint32_t judge_rows(const struct mishtodran_row *rows, size_t row_count, size_t *length)
+{
+    uint64_t tasks = 0;
+    *length = END_BYTES;
+    for (size_t i = 0; i < row_count; i++) {
+        uint32_t refusal = i == MOST_CHAINS ? 11 : judge_fixed_part(rows, i, tasks);
+        if (!refusal)
+            refusal = judge_list(&rows[i]);
+        if (!refusal)
+            refusal = judge_tasks(&rows[i]);
+        if (refusal)
+            return refusal;
+        tasks += rows[i].tasks;
+        *length += FIXED_BYTES + 4 * rows[i].listed + TASK_BYTES * rows[i].tasks;
+    }
+    return row_count == 0 ? 11 : 0;
+}
+
+static void write_task(uint8_t *at, uint32_t priority, uint32_t cost)
+{
+    put_mark(at, "TK");
+    put16(at + PRIORITY_AT, priority);
+    put32(at + COST_AT, cost);
+}
+
+/* Writes the chain record of a row without fault, and gives back where it ends. */
+static uint8_t *write_row(uint8_t *at, const struct mishtodran_row *row)
+{
+    unsigned listed = (unsigned)row->listed, tasks = (unsigned)row->tasks;
+    put_mark(at, "CH");
+    put16(at + ID_AT, row->id);
+    at[KIND_AT] = row->kind;
+    at[OVERLOAD_AT] = row->overload;
+    put32(at + DEADLINE_AT, row->deadline);
+    put32(at + GAP_AT, row->gap);
+    at[LIST_LENGTH_AT] = (uint8_t)listed;
+    at[TASK_COUNT_AT] = (uint8_t)tasks;
+    at += FIXED_BYTES;
+    for (unsigned i = 0; i < listed; i++, at += 4)
+        put32(at, row->list[i]);
+    for (unsigned i = 0; i < tasks; i++, at += TASK_BYTES)
+        write_task(at, row->priority[i], row->cost[i]);
+    return at;
+}
+
+static uint32_t write_rows(const struct mishtodran_row *rows, size_t row_count, uint8_t *buffer, size_t buffer_len,
+                           size_t *used)
+{
+    uint32_t refusal = judge_rows(rows, row_count, used);
+    if (refusal)
+        return refusal;
+    if (*used > buffer_len)
+        return 24;
+    for (size_t i = 0; i < row_count; i++)
+        buffer = write_row(buffer, &rows[i]);
+    write_end(buffer, row_count);
+    return 0;
+}
+
+/* ---- The C editor ---- */
 
 uint32_t plain_latency(const uint8_t *table, size_t table_len, uint32_t id, uint8_t *answer, size_t answer_len)
 {
@@ -1072,6 +1232,46 @@ uint32_t plain_conflict(const uint8_t *ancestor, size_t ancestor_len, const uint
     if (!refusal)
         put32(answer, smallest_conflict(&merge, above));
     return refusal;
+}
+
+uint32_t plain_read(const uint8_t *table, size_t table_len, struct mishtodran_row *rows, size_t row_count,
+                    uint8_t *answer, size_t answer_len)
+{
+    unsigned chains;
+    if (answer_len < 4)
+        return 27;
+    uint32_t refusal = read_rows(table, table_len, rows, row_count, &chains);
+    if (!refusal)
+        put32(answer, chains);
+    return refusal;
+}
+
+uint32_t plain_write(const struct mishtodran_row *rows, size_t row_count, uint8_t *buffer, size_t buffer_len,
+                     uint8_t *answer, size_t answer_len)
+{
+    size_t used;
+    if (answer_len < 4)
+        return 27;
+    uint32_t refusal = write_rows(rows, row_count, buffer, buffer_len, &used);
+    if (!refusal)
+        put32(answer, (uint32_t)used);
+    return refusal;
+}
+
+uint32_t plain_record(const uint8_t *table, size_t table_len, uint32_t id, uint8_t *answer, size_t answer_len)
+{
+    struct table read;
+    if (answer_len < 8)
+        return 27;
+    uint32_t refusal = read_table(table, table_len, &read).number;
+    if (refusal)
+        return refusal;
+    const struct chain *chain = find_chain(&read, id);
+    if (!chain)
+        return 12;
+    put32(answer, (uint32_t)chain->at);
+    put32(answer + 4, (uint32_t)(chain->end - chain->at));
+    return 0;
 }
 
 uint32_t plain_check(const uint8_t *table, size_t table_len, uint8_t *answer, size_t answer_len)

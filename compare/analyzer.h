@@ -1,7 +1,10 @@
-/* The analyzer once more, in plain C, written from documents 01 and 02 alone and sharing nothing with the proved one.
-   It takes the straightforward way everywhere and is slow on hard tables. It is there to be compared with. */
+/* The analyzer once more, in plain C, written from documents 01 and 02 alone and sharing nothing with the proved one
+   but the row that both take. It takes the straightforward way everywhere and is slow on hard tables. It is there to be
+   compared with. */
 #ifndef PLAIN_ANALYZER_H
 #define PLAIN_ANALYZER_H
+
+#include "../include/mishtodran.h"
 
 #include <stddef.h>
 #include <stdint.h>
@@ -20,6 +23,11 @@ uint32_t plain_merge(const uint8_t *ancestor, size_t ancestor_len, const uint8_t
                      size_t answer_len);
 uint32_t plain_conflict(const uint8_t *ancestor, size_t ancestor_len, const uint8_t *first, size_t first_len,
                         const uint8_t *second, size_t second_len, uint32_t above, uint8_t *answer, size_t answer_len);
+uint32_t plain_read(const uint8_t *table, size_t table_len, struct mishtodran_row *rows, size_t row_count,
+                    uint8_t *answer, size_t answer_len);
+uint32_t plain_write(const struct mishtodran_row *rows, size_t row_count, uint8_t *buffer, size_t buffer_len,
+                     uint8_t *answer, size_t answer_len);
+uint32_t plain_record(const uint8_t *table, size_t table_len, uint32_t id, uint8_t *answer, size_t answer_len);
 uint32_t plain_report(const uint8_t *table, size_t table_len, uint8_t *text, size_t text_len, uint8_t *answer,
                       size_t answer_len);
 

@@ -15,23 +15,31 @@
 #include <string.h>
 #include <time.h>
 
-enum { LATENCY, MISSES, SEGMENT, CHECK, SAVE, MERGE, CONFLICT, REPORT };
+enum { LATENCY, MISSES, SEGMENT, RECORD, CHECK, SAVE, MERGE, CONFLICT, READ, WRITE, REPORT };
 enum { MOST_CALLS = 512, MOST_TABLES = 32, ROUNDS = 200 };
-/* Of an answer, and of a report's text or a merge's result after it. */
-enum { ROOM = 16 + MISHTODRAN_MOST_TABLE_BYTES };
 
 static const double LEAST_SECONDS = 0.005; /* of one run: many short ones find a quiet moment */
 static const double MOST_SECONDS = 3;      /* of all runs of a line, but for the first two */
 
+/* A table, and its chains as rows. */
 struct stored {
     uint8_t bytes[MOST_GENERATED];
     size_t length;
+    struct mishtodran_row row[MISHTODRAN_MOST_CHAINS];
+    size_t rows;
+};
+
+/* What a call is lent: room for an answer, for a table or a report's text, and for rows. */
+struct room {
+    uint8_t answer[16];
+    uint8_t bytes[MISHTODRAN_MOST_TABLE_BYTES];
+    struct mishtodran_row row[MISHTODRAN_MOST_CHAINS];
 };
 
 struct call {
     unsigned entry;
     struct stored *table; /* of a merge, the ancestor; its copies stand after it */
-    uint32_t number[3];   /* id; id, k; chain, against, number; above; a check has none */
+    uint32_t number[3];   /* id; id, k; chain, against, number; id; above; others have none */
 };
 
 struct bench_case {
@@ -46,19 +54,24 @@ struct side {
     uint32_t (*latency)(const uint8_t *, size_t, uint32_t, uint8_t *, size_t);
     uint32_t (*misses)(const uint8_t *, size_t, uint32_t, uint32_t, uint8_t *, size_t);
     uint32_t (*segment)(const uint8_t *, size_t, uint32_t, uint32_t, uint32_t, uint8_t *, size_t);
+    uint32_t (*record)(const uint8_t *, size_t, uint32_t, uint8_t *, size_t);
     uint32_t (*check)(const uint8_t *, size_t, uint8_t *, size_t);
     uint32_t (*save)(uint8_t *, size_t, uint64_t, const uint8_t *, size_t, const uint8_t *, size_t, uint8_t *, size_t);
     uint32_t (*merge)(const uint8_t *, size_t, const uint8_t *, size_t, const uint8_t *, size_t, uint8_t *, size_t,
                       uint8_t *, size_t);
     uint32_t (*conflict)(const uint8_t *, size_t, const uint8_t *, size_t, const uint8_t *, size_t, uint32_t, uint8_t *,
                          size_t);
+    uint32_t (*read)(const uint8_t *, size_t, struct mishtodran_row *, size_t, uint8_t *, size_t);
+    uint32_t (*write)(const struct mishtodran_row *, size_t, uint8_t *, size_t, uint8_t *, size_t);
     uint32_t (*report)(const uint8_t *, size_t, uint8_t *, size_t, uint8_t *, size_t);
 };
 
-static const struct side proved = {mishtodran_latency, mishtodran_misses, mishtodran_segment,  mishtodran_check,
-                                   mishtodran_save,    mishtodran_merge,  mishtodran_conflict, mishtodran_report};
-static const struct side plain = {plain_latency, plain_misses, plain_segment,  plain_check,
-                                  plain_save,    plain_merge,  plain_conflict, plain_report};
+static const struct side proved = {mishtodran_latency,  mishtodran_misses, mishtodran_segment, mishtodran_record,
+                                   mishtodran_check,    mishtodran_save,   mishtodran_merge,
+                                   mishtodran_conflict, mishtodran_read,   mishtodran_write,   mishtodran_report};
+static const struct side plain = {plain_latency,  plain_misses, plain_segment, plain_record,
+                                  plain_check,    plain_save,   plain_merge,
+                                  plain_conflict, plain_read,   plain_write,   plain_report};
 
 /* The deadline of a table's first chain becomes another, and then what it was. */
 static uint32_t save_and_back(const struct side *side, const struct call *call, uint8_t *answer)
@@ -73,11 +86,11 @@ static uint32_t save_and_back(const struct side *side, const struct call *call, 
     return side->save(table->bytes, sizeof table->bytes, table->length, new, length, old, length, answer, 4);
 }
 
-static uint32_t merge(const struct side *side, const struct stored *ancestor, uint8_t *answer)
+static uint32_t merge(const struct side *side, const struct stored *ancestor, struct room *room)
 {
     const struct stored *first = ancestor + 1, *second = ancestor + 2;
     return side->merge(ancestor->bytes, ancestor->length, first->bytes, first->length, second->bytes, second->length,
-                       answer + 16, MISHTODRAN_MOST_TABLE_BYTES, answer, 4);
+                       room->bytes, sizeof room->bytes, room->answer, 4);
 }
 
 static uint32_t conflict(const struct side *side, const struct stored *ancestor, uint32_t above, uint8_t *answer)
@@ -87,10 +100,12 @@ static uint32_t conflict(const struct side *side, const struct stored *ancestor,
                           above, answer, 4);
 }
 
-static uint32_t run_call(const struct side *side, const struct call *call, uint8_t *answer)
+static uint32_t run_call(const struct side *side, const struct call *call, struct room *room)
 {
-    const uint8_t *bytes = call->table->bytes;
-    size_t length = call->table->length;
+    const struct stored *table = call->table;
+    const uint8_t *bytes = table->bytes;
+    size_t length = table->length;
+    uint8_t *answer = room->answer;
     switch (call->entry) {
     case LATENCY:
         return side->latency(bytes, length, call->number[0], answer, 16);
@@ -98,14 +113,20 @@ static uint32_t run_call(const struct side *side, const struct call *call, uint8
         return side->misses(bytes, length, call->number[0], call->number[1], answer, 4);
     case SEGMENT:
         return side->segment(bytes, length, call->number[0], call->number[1], call->number[2], answer, 8);
+    case RECORD:
+        return side->record(bytes, length, call->number[0], answer, 8);
     case CHECK:
         return side->check(bytes, length, answer, 8);
     case MERGE:
-        return merge(side, call->table, answer);
+        return merge(side, table, room);
     case CONFLICT:
-        return conflict(side, call->table, call->number[0], answer);
+        return conflict(side, table, call->number[0], answer);
+    case READ:
+        return side->read(bytes, length, room->row, MISHTODRAN_MOST_CHAINS, answer, 4);
+    case WRITE:
+        return side->write(table->row, table->rows, room->bytes, sizeof room->bytes, answer, 4);
     case REPORT:
-        return side->report(bytes, length, answer + 16, MISHTODRAN_LONGEST_REPORT, answer, 4);
+        return side->report(bytes, length, room->bytes, MISHTODRAN_LONGEST_REPORT, answer, 4);
     default:
         return save_and_back(side, call, answer);
     }
@@ -122,11 +143,11 @@ static double now(void)
 
 static double seconds_for(const struct side *side, const struct bench_case *what, unsigned long times)
 {
-    uint8_t answer[ROOM];
+    struct room room;
     double start = now();
     for (unsigned long i = 0; i < times; i++)
         for (unsigned n = 0; n < what->calls; n++)
-            run_call(side, &what->call[n], answer);
+            run_call(side, &what->call[n], &room);
     return now() - start;
 }
 
@@ -148,9 +169,11 @@ static double least(double a, double b) { return a < b ? a : b; }
 static bool agree(const struct bench_case *what)
 {
     for (unsigned i = 0; i < what->calls; i++) {
-        uint8_t one[ROOM] = {0}, other[ROOM] = {0};
-        if (run_call(&proved, &what->call[i], one) != run_call(&plain, &what->call[i], other) ||
-            memcmp(one, other, sizeof one) != 0)
+        struct room one = {0}, other = {0};
+        if (run_call(&proved, &what->call[i], &one) != run_call(&plain, &what->call[i], &other) ||
+            memcmp(one.answer, other.answer, sizeof one.answer) != 0 ||
+            memcmp(one.bytes, other.bytes, sizeof one.bytes) != 0 ||
+            !same_rows(one.row, other.row, MISHTODRAN_MOST_CHAINS))
             return false;
     }
     return true;
@@ -183,7 +206,10 @@ static unsigned tables_used;
 static struct stored *keep(struct made_table table)
 {
     struct stored *stored = &tables[tables_used++];
+    uint8_t answer[4];
     stored->length = encode(&table, stored->bytes);
+    plain_read(stored->bytes, stored->length, stored->row, MISHTODRAN_MOST_CHAINS, answer, sizeof answer);
+    stored->rows = table.chains;
     return stored;
 }
 
@@ -193,6 +219,16 @@ static struct stored *keep_miscounted(const struct stored *table)
     struct stored *stored = &tables[tables_used++];
     *stored = *table;
     stored->bytes[stored->length - 2]++;
+    return stored;
+}
+
+/* The same table, but for its last row: the last task costs nothing. */
+static struct stored *keep_faulty_row(const struct stored *table)
+{
+    struct stored *stored = &tables[tables_used++];
+    *stored = *table;
+    struct mishtodran_row *last = &stored->row[stored->rows - 1];
+    last->cost[last->tasks - 1] = 0;
     return stored;
 }
 
@@ -287,6 +323,21 @@ static void merge_cases(struct source *source)
     measure_one("merge, full tables, one changed in each", MERGE, full_edited, 0, 0, 0);
     measure_one("merge, full tables, refusal 32", MERGE, apart, 0, 0, 0);
     measure_one("conflict, full tables", CONFLICT, apart, 0, 0, 0);
+}
+
+/* ---- Rows ---- */
+
+static void row_cases(struct source *source)
+{
+    tables_used = 0;
+    struct stored *sample = keep(sample_table());
+    struct stored *full = keep(full_table(source));
+    struct stored *faulty = keep_faulty_row(full);
+    measure_one("write, sample", WRITE, sample, 0, 0, 0);
+    measure_one("write, full table", WRITE, full, 0, 0, 0);
+    measure_one("write, full table, fault in the last row", WRITE, faulty, 0, 0, 0);
+    measure_one("read into rows, full table", READ, full, 0, 0, 0);
+    measure_one("record, full table, the last chain", RECORD, full, full->row[full->rows - 1].id, 0, 0);
 }
 
 /* ---- Slow cases ---- */
@@ -456,6 +507,7 @@ int main(int count, char **words)
     printf("%-44s %14s %14s %10s\n", "microseconds a call", "mishtodran", "plain", "ratio");
     usual_cases(&source);
     merge_cases(&source);
+    row_cases(&source);
     slow_cases();
     growth_cases();
     return 0;

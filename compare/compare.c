@@ -1,9 +1,9 @@
 /* Holds the entries of mishtodran.h against the plain analyzer, on generated tables.
    Usage: compare SEED N [walked]
 
-   Makes N tables from SEED, and for each some to be merged, asks both every question about them, and stops at the first
-   difference, with the tables and the call. With `walked` the tables are those on which counting arrivals one by one
-   takes seconds, and nothing is merged. */
+   Makes N tables from SEED, and for each some to be merged and some rows to be written, asks both every question about
+   them, and stops at the first difference, with the tables or the rows and the call. With `walked` the tables are those
+   on which counting arrivals one by one takes seconds, and nothing is merged or written. */
 #include "../include/mishtodran.h"
 #include "analyzer.h"
 #include "generate.h"
@@ -15,13 +15,14 @@
 #include <stdlib.h>
 #include <string.h>
 
-enum { LATENCY, MISSES, SEGMENT, CHECK, SAVE, MERGE, CONFLICT, REPORT, ENTRIES };
+enum { LATENCY, MISSES, SEGMENT, RECORD, CHECK, SAVE, MERGE, CONFLICT, READ, WRITE, REPORT, ENTRIES };
 enum { LONGEST_RECORD = 4096, ANSWER_ROOM = 32, TEXT_ROOM = MISHTODRAN_LONGEST_REPORT + 32, NUMBERS = 33 };
 enum { MERGE_ROOM = 2 * MISHTODRAN_MOST_TABLE_BYTES + 64 }; /* more than any merge takes */
+enum { WRITE_ROOM = MISHTODRAN_MOST_TABLE_BYTES + 64, READ_ROOM = MISHTODRAN_MOST_CHAINS + 4 };
 
-static const char *const entry_name[] = {"latency", "misses", "segment",  "check",
-                                         "save",    "merge",  "conflict", "report"};
-static const size_t answer_bytes[] = {16, 4, 8, 8};
+static const char *const entry_name[] = {"latency",  "misses", "segment", "record", "check", "save", "merge",
+                                         "conflict", "read",   "write",   "report"};
+static const size_t answer_bytes[] = {16, 4, 8, 8, 8};
 
 /* What decides a merge: one of its tables, or all of them together where each is accepted. */
 enum { ANCESTOR, FIRST, SECOND, TOGETHER, DECIDERS };
@@ -89,7 +90,7 @@ static void note(uint64_t counts[NUMBERS], uint32_t number)
 
 struct query {
     unsigned entry;
-    uint32_t number[3]; /* id; id, k; chain, against, number; a check has none */
+    uint32_t number[3]; /* id; id, k; chain, against, number; id; a check has none */
     size_t answer_len;
 };
 
@@ -101,6 +102,8 @@ static uint32_t ask_proved(const struct generated *table, const struct query *qu
         return mishtodran_latency(table->bytes, table->length, number[0], answer, query->answer_len);
     case MISSES:
         return mishtodran_misses(table->bytes, table->length, number[0], number[1], answer, query->answer_len);
+    case RECORD:
+        return mishtodran_record(table->bytes, table->length, number[0], answer, query->answer_len);
     case CHECK:
         return mishtodran_check(table->bytes, table->length, answer, query->answer_len);
     default:
@@ -117,6 +120,8 @@ static uint32_t ask_plain(const struct generated *table, const struct query *que
         return plain_latency(table->bytes, table->length, number[0], answer, query->answer_len);
     case MISSES:
         return plain_misses(table->bytes, table->length, number[0], number[1], answer, query->answer_len);
+    case RECORD:
+        return plain_record(table->bytes, table->length, number[0], answer, query->answer_len);
     case CHECK:
         return plain_check(table->bytes, table->length, answer, query->answer_len);
     default:
@@ -194,6 +199,7 @@ static void ask_figures(const struct generated *table, const struct places *plac
 {
     for (unsigned i = 0; i < places->chains; i++) {
         ask_whole(table, LATENCY, places->id[i], 0, 0);
+        ask_whole(table, RECORD, places->id[i], 0, 0);
         for (unsigned r = 0; r < sizeof runs / sizeof runs[0]; r++)
             ask_whole(table, MISSES, places->id[i], runs[r], 0);
     }
@@ -220,6 +226,7 @@ static void ask_oddly(struct source *source, const struct generated *table, cons
     const uint32_t ids[] = {0, known, known + 65536, known ^ 1, 65535, UINT32_MAX};
     for (unsigned i = 0; i < 6; i++) {
         ask_whole(table, LATENCY, ids[i], 0, 0);
+        ask_whole(table, RECORD, ids[i], 0, 0);
         ask_whole(table, MISSES, ids[i], one_in(source, 2) ? 0 : 1001, 0);
         ask_whole(table, MISSES, ids[i], 1u << 16 | 10, 0);
         ask_whole(table, SEGMENT, known, ids[i], (uint32_t)draw(source, 0, 1) * 99);
@@ -227,7 +234,7 @@ static void ask_oddly(struct source *source, const struct generated *table, cons
         ask_whole(table, SEGMENT, ids[i], ids[draw(source, 0, 5)], 1);
         ask_whole(table, SEGMENT, ids[i], ids[i], (uint32_t)draw(source, 0, 2));
     }
-    for (unsigned entry = LATENCY; entry <= SEGMENT; entry++) {
+    for (unsigned entry = LATENCY; entry <= RECORD; entry++) {
         size_t whole = answer_bytes[entry];
         const size_t lengths[] = {0, whole - 1, whole + 1, ANSWER_ROOM};
         for (unsigned i = 0; i < 4; i++) {
@@ -244,17 +251,6 @@ static void ask_checks(const struct generated *table)
     const size_t lengths[] = {0, 1, whole - 1, whole, whole + 1, ANSWER_ROOM};
     for (unsigned i = 0; i < sizeof lengths / sizeof lengths[0]; i++)
         ask(table, (struct query){.entry = CHECK, .answer_len = lengths[i]});
-}
-
-/* Spoils an accepted table again and again: a check costs little, and reading has many faults. */
-static void check_spoiled(struct source *source, struct generated *table, unsigned chains)
-{
-    const struct generated accepted = *table;
-    for (unsigned i = 0; i < 16; i++) {
-        *table = accepted;
-        spoil_together(source, table, chains);
-        ask_whole(table, CHECK, 0, 0, 0);
-    }
 }
 
 /* ---- Saves ---- */
@@ -657,6 +653,213 @@ static void merge_somehow(struct source *source, const struct generated *table)
     compare_both_ways(source, &other);
 }
 
+/* ---- Rows, read and written ---- */
+
+struct read {
+    struct outcome outcome;
+    struct mishtodran_row row[READ_ROOM]; /* the lent rows and what follows them */
+};
+
+struct written {
+    struct outcome outcome;
+    uint8_t buffer[WRITE_ROOM + 32]; /* the lent buffer and what follows it */
+};
+
+/* The rows under way, to be shown where a library crashes on them; NULL where none are. */
+static const struct made_rows *rows_under_way;
+
+static void print_row(const struct mishtodran_row *row)
+{
+    printf("id %u, kind %u, overload %u, deadline %" PRIu32 ", gap %" PRIu32 ", list of %" PRIu64 ":", row->id,
+           row->kind, row->overload, row->deadline, row->gap, row->listed);
+    for (unsigned i = 0; i < MISHTODRAN_MOST_DISTANCES; i++)
+        printf(" %" PRIu32, row->list[i]);
+    printf(", tasks, %" PRIu64 ":", row->tasks);
+    for (unsigned i = 0; i < MISHTODRAN_MOST_TASKS; i++)
+        printf(" %u/%" PRIu32, row->priority[i], row->cost[i]);
+    putchar('\n');
+}
+
+static void print_rows(const char *what, const struct mishtodran_row *rows, size_t count)
+{
+    printf("%s, %zu:\n", what, count);
+    for (size_t i = 0; i < count; i++)
+        print_row(&rows[i]);
+}
+
+/* What a read is lent: something in every byte. */
+static struct read nothing_read(void)
+{
+    struct read read = {.outcome = nothing_yet()};
+    uint8_t *bytes = (uint8_t *)read.row;
+    for (size_t i = 0; i < sizeof read.row; i++)
+        bytes[i] = (uint8_t)(0x47 + 11 * i);
+    return read;
+}
+
+static bool same_read(const struct read *one, const struct read *other)
+{
+    return same(&one->outcome, &other->outcome) && same_rows(one->row, other->row, READ_ROOM);
+}
+
+static void stop_at_read(const struct generated *table, const struct read *proved, const struct read *plain,
+                         size_t row_count, size_t answer_len)
+{
+    printf("difference in read, or the table was written to; %zu rows, %zu bytes for the answer\n", row_count,
+           answer_len);
+    printf("family: %s %s\n", table->family, table->damage);
+    print_hex("table", table->bytes, table->length);
+    print_outcome("mishtodran", &proved->outcome);
+    print_rows("its rows and beyond", proved->row, READ_ROOM);
+    print_outcome("plain", &plain->outcome);
+    print_rows("its rows and beyond", plain->row, READ_ROOM);
+    exit(1);
+}
+
+/* Reads with both, and gives back what they give. */
+static struct read read_rows(const struct generated *table, size_t row_count, size_t answer_len)
+{
+    static struct generated lent;
+    struct read proved = nothing_read(), plain = proved;
+    lent = *table;
+    proved.outcome.returned =
+        mishtodran_read(lent.bytes, lent.length, proved.row, row_count, proved.outcome.answer, answer_len);
+    plain.outcome.returned =
+        plain_read(table->bytes, table->length, plain.row, row_count, plain.outcome.answer, answer_len);
+    if (!same_read(&proved, &plain) || memcmp(lent.bytes, table->bytes, sizeof lent.bytes) != 0)
+        stop_at_read(table, &proved, &plain, row_count, answer_len);
+    note(met[READ], plain.outcome.returned);
+    return plain;
+}
+
+static struct written nothing_written(void)
+{
+    struct written written = {.outcome = nothing_yet()};
+    for (size_t i = 0; i < sizeof written.buffer; i++)
+        written.buffer[i] = (uint8_t)(0x33 + 5 * i);
+    return written;
+}
+
+static bool same_written(const struct written *one, const struct written *other)
+{
+    return same(&one->outcome, &other->outcome) && memcmp(one->buffer, other->buffer, sizeof one->buffer) == 0;
+}
+
+/* What a write must come to, by the bytes of its rows: their number, then room, else these bytes. */
+static struct written by_bytes(const struct made_rows *made, size_t room, size_t answer_len)
+{
+    struct written written = nothing_written();
+    uint8_t verdict[8];
+    plain_check(made->bytes.bytes, made->bytes.length, verdict, sizeof verdict);
+    uint32_t number = answer_len < 4 ? 27 : get32(verdict);
+    if (number == 0 && room < made->bytes.length)
+        number = 24;
+    written.outcome.returned = number;
+    if (number == 0) {
+        put32(written.outcome.answer, made->bytes.length);
+        memcpy(written.buffer, made->bytes.bytes, made->bytes.length);
+    }
+    return written;
+}
+
+static void print_written(const char *whose, const struct written *written)
+{
+    print_outcome(whose, &written->outcome);
+    print_hex("the buffer and beyond", written->buffer, sizeof written->buffer);
+}
+
+static void stop_at_write(const struct made_rows *made, const struct written *proved, const struct written *plain,
+                          const struct written *expected, size_t room, size_t answer_len)
+{
+    printf("difference in write, or a row was written to; %zu bytes for the table, %zu for the answer\n", room,
+           answer_len);
+    printf("family: %s %s\n", made->bytes.family, made->bytes.damage);
+    print_rows("rows", made->row, made->count);
+    print_written("mishtodran", proved);
+    print_written("plain", plain);
+    print_written("a reader of the rows' bytes", expected);
+    exit(1);
+}
+
+/* Writes with both, and gives back what they return. Both must do what the rows' bytes say. */
+static uint32_t write_rows(const struct made_rows *made, size_t room, size_t answer_len)
+{
+    static struct mishtodran_row lent[MOST_ROWS];
+    struct written proved = nothing_written(), plain = proved, expected = by_bytes(made, room, answer_len);
+    memcpy(lent, made->row, sizeof lent);
+    proved.outcome.returned =
+        mishtodran_write(lent, made->count, proved.buffer, room, proved.outcome.answer, answer_len);
+    plain.outcome.returned =
+        plain_write(made->row, made->count, plain.buffer, room, plain.outcome.answer, answer_len);
+    if (!same_written(&proved, &plain) || !same_written(&plain, &expected) ||
+        memcmp(lent, made->row, sizeof lent) != 0)
+        stop_at_write(made, &proved, &plain, &expected, room, answer_len);
+    note(met[WRITE], plain.outcome.returned);
+    return plain.outcome.returned;
+}
+
+/* The row as it reads back. */
+static struct mishtodran_row without_rest(struct mishtodran_row row)
+{
+    for (uint64_t i = row.listed; i < MISHTODRAN_MOST_DISTANCES; i++)
+        row.list[i] = 0;
+    for (uint64_t i = row.tasks; i < MISHTODRAN_MOST_TASKS; i++) {
+        row.priority[i] = 0;
+        row.cost[i] = 0;
+    }
+    return row;
+}
+
+/* Reads what was written: the same rows, and the others as they were. */
+static void read_back(const struct made_rows *made, size_t row_count)
+{
+    struct read expected = nothing_read(), read = read_rows(&made->bytes, row_count, 4);
+    put32(expected.outcome.answer, made->count);
+    for (size_t i = 0; i < made->count; i++)
+        expected.row[i] = without_rest(made->row[i]);
+    if (same_read(&read, &expected))
+        return;
+    puts("what was written does not read back");
+    print_rows("rows", made->row, made->count);
+    print_outcome("both", &read.outcome);
+    print_rows("the rows read and beyond", read.row, READ_ROOM);
+    exit(1);
+}
+
+/* Into the room given and into just enough, and with an answer buffer of some length up to 8. */
+static void write_somehow(struct source *source)
+{
+    const struct made_rows made = generate_rows(source);
+    rows_under_way = &made;
+    write_rows(&made, made.room, 4);
+    write_rows(&made, made.room, draw(source, 0, 8));
+    if (write_rows(&made, made.bytes.length, 4) == 0)
+        read_back(&made, draw(source, made.count, READ_ROOM));
+    rows_under_way = NULL;
+}
+
+/* Writes what was read of a table: the same bytes. */
+static void write_back(const struct generated *table, const struct read *read)
+{
+    struct made_rows made = {.count = get32(read->outcome.answer), .bytes = *table};
+    memcpy(made.row, read->row, sizeof read->row);
+    rows_under_way = &made;
+    write_rows(&made, table->length, 4);
+    write_rows(&made, WRITE_ROOM, 4);
+    rows_under_way = NULL;
+}
+
+/* Into as many rows as there are chains, more, fewer, and some; an answer too short comes before that. */
+static void ask_reads(struct source *source, const struct generated *table, const struct places *places)
+{
+    struct read read = read_rows(table, places->chains, 4);
+    if (read.outcome.returned == 0)
+        write_back(table, &read);
+    read_rows(table, READ_ROOM, draw(source, 4, ANSWER_ROOM));
+    read_rows(table, places->chains ? places->chains - 1 : 0, 4);
+    read_rows(table, draw(source, 0, READ_ROOM), draw(source, 0, 8));
+}
+
 /* ---- Reports ---- */
 
 struct told {
@@ -709,6 +912,19 @@ static void ask_reports(struct source *source, const struct generated *table)
 
 /* ---- All tables ---- */
 
+/* Spoils an accepted table again and again: reading has many faults, and a check, a record and a read cost little. */
+static void ask_spoiled(struct source *source, struct generated *table, const struct places *places)
+{
+    const struct generated accepted = *table;
+    for (unsigned i = 0; i < 16; i++) {
+        *table = accepted;
+        spoil_together(source, table, places->chains);
+        ask_whole(table, CHECK, 0, 0, 0);
+        ask_whole(table, RECORD, places->id[0], 0, 0);
+        read_rows(table, draw(source, 0, READ_ROOM), 4);
+    }
+}
+
 /* The table is spoiled at the end. */
 static void compare_table(struct source *source, struct generated *table)
 {
@@ -717,13 +933,16 @@ static void compare_table(struct source *source, struct generated *table)
     ask_segments(table, &places);
     ask_oddly(source, table, &places);
     ask_checks(table);
+    ask_reads(source, table, &places);
     for (unsigned i = 0; i < 12; i++)
         save_somehow(source, table, &places);
     for (unsigned i = 0; i < 3; i++)
         merge_somehow(source, table);
+    for (unsigned i = 0; i < 12; i++)
+        write_somehow(source);
     ask_reports(source, table);
     if (places.chains > 0)
-        check_spoiled(source, table, places.chains);
+        ask_spoiled(source, table, &places);
 }
 
 /* The first chain alone, and once. */
@@ -743,6 +962,8 @@ static void on_crash(int number)
     print_hex("table", under_way.bytes, under_way.length);
     if (merge_under_way)
         print_triple(merge_under_way);
+    if (rows_under_way)
+        print_rows("rows", rows_under_way->row, rows_under_way->count);
     exit(1);
 }
 
@@ -757,6 +978,9 @@ static void print_counts(const char *what, const uint64_t counts[NUMBERS])
 
 static const uint8_t of_table[] = {1, 2, 3, 4, 5, 6, 7, 9, 10, 11, 28, 29, 30, 31};
 static const uint8_t of_merge[] = {0, 1, 9, 11, 24, 32};
+static const uint8_t of_read[] = {0, 1, 2, 3, 4, 5, 6, 7, 9, 10, 11, 24, 27, 28, 29, 30, 31};
+static const uint8_t of_write[] = {0, 4, 5, 6, 7, 9, 10, 11, 24, 27, 28, 29, 30, 31};
+static const uint8_t of_record[] = {0, 1, 2, 3, 4, 5, 6, 7, 9, 10, 11, 12, 27, 28, 29, 30, 31};
 
 /* Whether one of these numbers was never counted. */
 static bool lacks(const char *what, const uint64_t counts[NUMBERS], const uint8_t *numbers, size_t length)
@@ -770,13 +994,16 @@ static bool lacks(const char *what, const uint64_t counts[NUMBERS], const uint8_
     return missing;
 }
 
-/* Whether the check, or a merge, has not given a number that it can give. */
+/* Whether a check, a merge, a read, a write or a record has not given a number that it can give. */
 static bool misses_number(void)
 {
     bool missing = lacks("answered by check", answered, of_table, sizeof of_table);
     for (unsigned by = ANCESTOR; by <= SECOND; by++)
         missing |= lacks(decided_by[by], decided[by], of_table, sizeof of_table);
-    return lacks(decided_by[TOGETHER], decided[TOGETHER], of_merge, sizeof of_merge) || missing;
+    missing |= lacks(decided_by[TOGETHER], decided[TOGETHER], of_merge, sizeof of_merge);
+    missing |= lacks("read", met[READ], of_read, sizeof of_read);
+    missing |= lacks("write", met[WRITE], of_write, sizeof of_write);
+    return lacks("record", met[RECORD], of_record, sizeof of_record) || missing;
 }
 
 static void print_met(void)

@@ -827,36 +827,50 @@ static uint8_t wrong_task_count(struct source *source, unsigned tasks_before)
 }
 
 /* One distance above the limit, or below the one before it; now and then two of them. */
-static void spoil_distances(struct source *source, uint8_t *list, unsigned listed)
+static void spoil_distances(struct source *source, uint32_t *list, unsigned listed)
 {
     for (unsigned count = one_in(source, 3) ? 2 : 1; count > 0; count--) {
         unsigned place = (unsigned)draw(source, 0, listed - 1);
-        uint8_t *distance = list + 4 * place;
         if (place == 0 || one_in(source, 2)) {
-            put(distance, one_in(source, 2) ? LATEST + 1 : UINT32_MAX, 4);
+            list[place] = one_in(source, 2) ? LATEST + 1 : UINT32_MAX;
             continue;
         }
-        if (get(distance - 4, 4) == 0)
-            put(distance - 4, 1, 4);
-        put(distance, one_in(source, 2) ? 0 : get(distance - 4, 4) - 1, 4);
+        if (list[place - 1] == 0)
+            list[place - 1] = 1;
+        list[place] = one_in(source, 2) ? 0 : list[place - 1] - 1;
     }
 }
 
 /* A last distance of 0, after what stands before it or with all others. */
-static void spoil_last_distance(struct source *source, uint8_t *list, unsigned listed)
+static void spoil_last_distance(struct source *source, uint32_t *list, unsigned listed)
 {
     unsigned from = one_in(source, 2) ? 0 : listed - 1;
-    memset(list + 4 * from, 0, 4 * (listed - from));
+    memset(list + from, 0, (listed - from) * sizeof list[0]);
 }
 
-/* A list that the gap just allows, but for one distance. */
-static void exceed_gap(struct source *source, uint8_t *gap_field, uint8_t *list, unsigned listed)
+/* A list that the gap just allows, but for one distance; gives back the gap. */
+static uint32_t exceed_gap(struct source *source, uint32_t *list, unsigned listed)
 {
     uint32_t gap = (uint32_t)draw(source, 1, one_in(source, 2) ? 9 : LATEST / 9);
     unsigned place = (unsigned)draw(source, 0, listed - 1);
-    put(gap_field, gap, 4);
     for (unsigned i = 0; i < listed; i++)
-        put(list + 4 * i, gap * (i + 1) + (i == place), 4);
+        list[i] = gap * (i + 1) + (i == place);
+    return gap;
+}
+
+/* Makes a list wrong in one of its three steps; gives back its gap, which is another where it is too small. */
+static uint32_t spoil_list(struct source *source, uint32_t gap, uint32_t *list, unsigned listed, unsigned step)
+{
+    switch (step) {
+    case DISTANCES:
+        spoil_distances(source, list, listed);
+        return gap;
+    case LAST_DISTANCE:
+        spoil_last_distance(source, list, listed);
+        return gap;
+    default:
+        return exceed_gap(source, list, listed);
+    }
 }
 
 /* The mark after a task, or the count after the last one. */
@@ -895,19 +909,16 @@ static void spoil_fixed_part(struct source *source, struct generated *table, con
     }
 }
 
-static void spoil_list(struct source *source, struct generated *table, const struct layout *record, unsigned step)
+static void spoil_stored_list(struct source *source, struct generated *table, const struct layout *record,
+                              unsigned step)
 {
-    uint8_t *list = table->bytes + record->list;
-    switch (step) {
-    case DISTANCES:
-        spoil_distances(source, list, record->listed);
-        break;
-    case LAST_DISTANCE:
-        spoil_last_distance(source, list, record->listed);
-        break;
-    default:
-        exceed_gap(source, table->bytes + record->at + 10, list, record->listed);
-    }
+    uint8_t *gap = table->bytes + record->at + 10, *stored = table->bytes + record->list;
+    uint32_t list[8];
+    for (unsigned i = 0; i < record->listed; i++)
+        list[i] = get(stored + 4 * i, 4);
+    put(gap, spoil_list(source, get(gap, 4), list, record->listed, step), 4);
+    for (unsigned i = 0; i < record->listed; i++)
+        put(stored + 4 * i, list[i], 4);
 }
 
 static void spoil_task(struct source *source, uint8_t *task, unsigned step)
@@ -937,7 +948,7 @@ static void spoil_value(struct source *source, struct generated *table, const st
     else if (step < LIST_THERE)
         spoil_fixed_part(source, table, record, step);
     else if (step < TASK_MARK_THERE)
-        spoil_list(source, table, record, step);
+        spoil_stored_list(source, table, record, step);
     else
         spoil_task(source, table->bytes + record->task, step);
 }
@@ -1432,4 +1443,221 @@ void spoil_triple(struct source *source, struct triple *triple)
         if (some >> i & 1)
             spoil_together(source, table, get(table->bytes + table->length - 2, 2));
     }
+}
+
+/* ---- Rows to be written ---- */
+
+bool same_rows(const struct mishtodran_row *one, const struct mishtodran_row *other, size_t count)
+{
+    for (; count > 0; count--, one++, other++)
+        if (one->id != other->id || one->kind != other->kind || one->overload != other->overload ||
+            one->deadline != other->deadline || one->gap != other->gap || one->listed != other->listed ||
+            one->tasks != other->tasks || memcmp(one->list, other->list, sizeof one->list) != 0 ||
+            memcmp(one->priority, other->priority, sizeof one->priority) != 0 ||
+            memcmp(one->cost, other->cost, sizeof one->cost) != 0)
+            return false;
+    return true;
+}
+
+/* How many rows there are, and how many tasks and distances each has. */
+struct batch {
+    const char *name;
+    unsigned share; /* of a hundred */
+    struct range rows, tasks, listed;
+};
+
+/* Full rows make a table of 1,284 bytes. The last two may be over 64 tasks before the 17th row. */
+static const struct batch batches[] = {
+    {"no row", 2, {0, 0}, {1, 1}, {1, 1}},
+    {"few rows", 28, {1, 4}, {1, 16}, {1, 8}},
+    {"some rows", 30, {1, 16}, {1, 4}, {1, 8}},
+    {"full rows", 10, {16, 16}, {4, 4}, {8, 8}},
+    {"one row too many", 6, {17, 17}, {1, 4}, {1, 8}},
+    {"many tasks", 12, {4, 6}, {12, 16}, {1, 8}},
+    {"many rows", 12, {16, MOST_ROWS}, {1, 5}, {1, 8}},
+};
+
+static const struct batch *any_batch(struct source *source)
+{
+    const struct batch *batch = batches;
+    for (uint64_t turn = draw(source, 1, 100); turn > batch->share; batch++)
+        turn -= batch->share;
+    return batch;
+}
+
+/* The least or the greatest deadline, priority, cost and list that are allowed. */
+static void reach_limits(struct source *source, struct made_chain *chain)
+{
+    struct made_task *task = &chain->task[draw(source, 0, chain->tasks - 1)];
+    bool longest = one_in(source, 2);
+    chain->deadline = one_in(source, 2) ? 1 : LATEST;
+    task->priority = one_in(source, 2) ? 1 : HIGHEST;
+    task->cost = one_in(source, 2) ? 1 : DEAREST;
+    for (unsigned i = 0; i < chain->listed; i++)
+        chain->distance[i] = longest ? LATEST : 0;
+    if (!longest)
+        chain->distance[chain->listed - 1] = 1;
+    chain->gap = one_in(source, 2) ? least_gap(chain) : one_in(source, 2) ? LATEST : 0;
+}
+
+/* The row of a chain. In the places past its counts stands 0, as after a read, or something else. */
+static struct mishtodran_row row_of(struct source *source, const struct made_chain *chain)
+{
+    const uint32_t rests[] = {0, 1, UINT32_MAX, (uint32_t)draw(source, 0, UINT32_MAX)};
+    const uint32_t rest = pick(source, rests, 4);
+    struct mishtodran_row row = {.id = (uint16_t)chain->id,
+                                 .kind = chain->asynchronous,
+                                 .overload = chain->overload,
+                                 .deadline = chain->deadline,
+                                 .gap = chain->gap,
+                                 .listed = chain->listed,
+                                 .tasks = chain->tasks};
+    for (unsigned i = 0; i < 8; i++)
+        row.list[i] = i < chain->listed ? chain->distance[i] : rest;
+    for (unsigned i = 0; i < 16; i++) {
+        row.priority[i] = (uint16_t)(i < chain->tasks ? chain->task[i].priority : rest);
+        row.cost[i] = i < chain->tasks ? chain->task[i].cost : rest;
+    }
+    return row;
+}
+
+/* A count that is not 1 to `most`: close by, or any up to 64 bits, with the right one in its lowest bits or without. */
+static uint64_t count_outside(struct source *source, uint64_t count, uint64_t most)
+{
+    static const unsigned widths[] = {8, 16, 31, 32, 63};
+    const uint64_t values[] = {0,
+                               most + 1,
+                               draw(source, most + 1, 254),
+                               255,
+                               256,
+                               (1ull << 32) + 1,
+                               UINT64_MAX,
+                               count + (1ull << widths[draw(source, 0, 4)])};
+    return values[draw(source, 0, 7)];
+}
+
+static uint64_t wrong_tasks(struct source *source, const struct made_rows *made, unsigned place)
+{
+    uint64_t before = 0;
+    for (unsigned i = 0; i < place; i++)
+        before += made->row[i].tasks;
+    if (before > 48 && before <= MOST_IN_ALL && one_in(source, 2))
+        return draw(source, MOST_IN_ALL + 1 - before, 16);
+    return count_outside(source, made->row[place].tasks, 16);
+}
+
+static void spoil_row_fields(struct source *source, struct made_rows *made, unsigned place, unsigned step)
+{
+    static const uint32_t deadlines[] = {0, LATEST + 1, UINT32_MAX};
+    struct mishtodran_row *row = &made->row[place];
+    switch (step) {
+    case ID:
+        row->id = place == 0 || one_in(source, 2) ? 0 : made->row[draw(source, 0, place - 1)].id;
+        break;
+    case KIND:
+        row->kind = (uint8_t)draw(source, 2, one_in(source, 2) ? 2 : 255);
+        break;
+    case OVERLOAD:
+        row->overload = (uint8_t)draw(source, 2, one_in(source, 2) ? 2 : 255);
+        break;
+    case DEADLINE:
+        row->deadline = pick(source, deadlines, 3);
+        break;
+    case GAP:
+        row->gap = one_in(source, 2) ? LATEST + 1 : UINT32_MAX;
+        break;
+    case LIST_LENGTH:
+        row->listed = count_outside(source, row->listed, 8);
+        break;
+    default:
+        row->tasks = wrong_tasks(source, made, place);
+    }
+}
+
+static void spoil_row_task(struct source *source, struct mishtodran_row *row, unsigned step)
+{
+    static const uint32_t costs[] = {0, DEAREST + 1, UINT32_MAX};
+    unsigned task = (unsigned)draw(source, 0, row->tasks - 1);
+    if (step == PRIORITY)
+        row->priority[task] = 0;
+    else
+        row->cost[task] = pick(source, costs, 3);
+}
+
+/* Makes the value wrong that is looked at in this step. Its list or task takes a count that is right. */
+static void spoil_row_value(struct source *source, struct made_rows *made, unsigned place, unsigned step)
+{
+    struct mishtodran_row *row = &made->row[place];
+    if (step <= TASK_COUNT)
+        spoil_row_fields(source, made, place, step);
+    else if (step <= GAP_TOO_SMALL)
+        row->gap = spoil_list(source, row->gap, row->list, (unsigned)row->listed, step);
+    else
+        spoil_row_task(source, row, step);
+}
+
+/* A fault of a row, and some of the three that are looked for after it; these go first, while the counts are right. */
+static void spoil_row(struct source *source, struct made_rows *made, unsigned place)
+{
+    static const uint8_t steps[] = {ID,         KIND,      OVERLOAD,      DEADLINE,      GAP,      LIST_LENGTH,
+                                    TASK_COUNT, DISTANCES, LAST_DISTANCE, GAP_TOO_SMALL, PRIORITY, COST};
+    unsigned first = (unsigned)draw(source, 0, sizeof steps - 1);
+    for (unsigned i = least(first + 3, sizeof steps - 1); i > first; i--)
+        if (one_in(source, 2))
+            spoil_row_value(source, made, place, steps[i]);
+    spoil_row_value(source, made, place, steps[first]);
+}
+
+/* A row at fault, and now and then one after it. The later goes first: for its fault all counts before it are right. */
+static void spoil_rows(struct source *source, struct made_rows *made)
+{
+    unsigned last = (unsigned)made->count - 1, place = (unsigned)draw(source, 0, last);
+    if (place < last && one_in(source, 3))
+        spoil_row(source, made, (unsigned)draw(source, place + 1, last));
+    spoil_row(source, made, place);
+    made->bytes.damage = "spoiled";
+}
+
+/* The record that a row says, whatever it says. A count that no byte holds is 255; what has no place is left out. */
+static uint8_t *put_row(uint8_t *at, const struct mishtodran_row *row)
+{
+    at = put(put_mark(at, "CH"), row->id, 2);
+    at = put(put(at, row->kind, 1), row->overload, 1);
+    at = put(put(at, row->deadline, 4), row->gap, 4);
+    at = put(put(at, least(row->listed, 255), 1), least(row->tasks, 255), 1);
+    for (unsigned i = 0; i < row->listed && i < 8; i++)
+        at = put(at, row->list[i], 4);
+    for (unsigned i = 0; i < row->tasks && i < 16; i++)
+        at = put(put(put_mark(at, "TK"), row->priority[i], 2), row->cost[i], 4);
+    return at;
+}
+
+/* The bytes of the rows, but no more than a table may have: the first fault, where there is one, is among them. */
+static void encode_rows(struct made_rows *made)
+{
+    const uint8_t *end = made->bytes.bytes + 1284;
+    uint8_t *at = made->bytes.bytes;
+    for (unsigned i = 0; i < made->count && at < end; i++)
+        at = put_row(at, &made->row[i]);
+    at = put(put_mark(at, "EN"), made->count, 2);
+    made->bytes.length = (size_t)((at < end ? at : end) - made->bytes.bytes);
+}
+
+struct made_rows generate_rows(struct source *source)
+{
+    const struct batch *batch = any_batch(source);
+    struct ids ids = any_ids(source);
+    struct made_rows made = {.count = draw_from(source, batch->rows), .bytes = {.family = batch->name, .damage = ""}};
+    for (unsigned i = 0; i < made.count; i++) {
+        unsigned tasks = draw_from(source, batch->tasks);
+        struct made_chain chain = any_chain(source, id_at(ids, i), tasks, draw_from(source, batch->listed));
+        if (one_in(source, 4))
+            reach_limits(source, &chain);
+        made.row[i] = row_of(source, &chain);
+    }
+    if (made.count > 0 && one_in(source, 2))
+        spoil_rows(source, &made);
+    encode_rows(&made);
+    made.room = any_room(source, made.bytes.length);
+    return made;
 }

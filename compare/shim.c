@@ -45,6 +45,23 @@ uint32_t mishtodran_conflict(const uint8_t *ancestor, size_t ancestor_len, const
     return plain_conflict(ancestor, ancestor_len, first, first_len, second, second_len, above, answer, answer_len);
 }
 
+uint32_t mishtodran_read(const uint8_t *table, size_t table_len, struct mishtodran_row *rows, size_t row_count,
+                         uint8_t *answer, size_t answer_len)
+{
+    return plain_read(table, table_len, rows, row_count, answer, answer_len);
+}
+
+uint32_t mishtodran_write(const struct mishtodran_row *rows, size_t row_count, uint8_t *buffer, size_t buffer_len,
+                          uint8_t *answer, size_t answer_len)
+{
+    return plain_write(rows, row_count, buffer, buffer_len, answer, answer_len);
+}
+
+uint32_t mishtodran_record(const uint8_t *table, size_t table_len, uint32_t id, uint8_t *answer, size_t answer_len)
+{
+    return plain_record(table, table_len, id, answer, answer_len);
+}
+
 uint32_t mishtodran_report(const uint8_t *table, size_t table_len, uint8_t *text, size_t text_len, uint8_t *answer,
                            size_t answer_len)
 {

@@ -32,7 +32,7 @@ extern "C" {
 
 /* The version of this header; mishtodran_version gives that of the library. An editor compares them at its start: where
  * they differ, an answer, a refusal or an entry may. CHANGELOG.md says which. */
-#define MISHTODRAN_VERSION 3
+#define MISHTODRAN_VERSION 4
 
 /* The limits. A table beyond one of them is refused, and so is a k. */
 enum {
@@ -95,6 +95,41 @@ enum {
     MISHTODRAN_END_RECORD_BYTES = 4
 };
 
+/* A chain, decoded: what its record holds, as mishtodran_read gives it and mishtodran_write takes it. `listed` says how
+ * many of the distances count, `tasks` how many of the priorities and costs; what stands in a place past its count is
+ * not looked at by a write, and is 0 after a read. */
+struct mishtodran_row {
+    uint16_t id;
+    uint8_t kind;
+    uint8_t overload;
+    uint32_t deadline;
+    uint32_t gap;
+    uint64_t listed;
+    uint64_t tasks;
+    uint32_t list[MISHTODRAN_MOST_DISTANCES];
+    uint16_t priority[MISHTODRAN_MOST_TASKS];
+    uint32_t cost[MISHTODRAN_MOST_TASKS];
+};
+
+/* The library was compiled for this layout. */
+#ifdef __cplusplus
+#define MISHTODRAN_LAYOUT(what) static_assert(what, "mishtodran_row is laid out differently")
+#else
+#define MISHTODRAN_LAYOUT(what) _Static_assert(what, "mishtodran_row is laid out differently")
+#endif
+MISHTODRAN_LAYOUT(offsetof(struct mishtodran_row, id) == 0);
+MISHTODRAN_LAYOUT(offsetof(struct mishtodran_row, kind) == 2);
+MISHTODRAN_LAYOUT(offsetof(struct mishtodran_row, overload) == 3);
+MISHTODRAN_LAYOUT(offsetof(struct mishtodran_row, deadline) == 4);
+MISHTODRAN_LAYOUT(offsetof(struct mishtodran_row, gap) == 8);
+MISHTODRAN_LAYOUT(offsetof(struct mishtodran_row, listed) == 16);
+MISHTODRAN_LAYOUT(offsetof(struct mishtodran_row, tasks) == 24);
+MISHTODRAN_LAYOUT(offsetof(struct mishtodran_row, list) == 32);
+MISHTODRAN_LAYOUT(offsetof(struct mishtodran_row, priority) == 64);
+MISHTODRAN_LAYOUT(offsetof(struct mishtodran_row, cost) == 96);
+MISHTODRAN_LAYOUT(sizeof(struct mishtodran_row) == 160);
+#undef MISHTODRAN_LAYOUT
+
 /* Why an entry refuses. The numbers of the first group, 1 to 7, 9 to 11 and 28 to 31, are what a table is refused with:
  * in what follows, a table's number. 8 is no longer given. */
 enum mishtodran_refusal {
@@ -146,6 +181,9 @@ enum {
     MISHTODRAN_SAVE_BYTES = 4,
     MISHTODRAN_MERGE_BYTES = 4,
     MISHTODRAN_CONFLICT_BYTES = 4,
+    MISHTODRAN_READ_BYTES = 4,
+    MISHTODRAN_WRITE_BYTES = 4,
+    MISHTODRAN_RECORD_BYTES = 8,
     MISHTODRAN_REPORT_BYTES = 4
 };
 
@@ -218,6 +256,28 @@ uint32_t mishtodran_conflict(const uint8_t *ancestor, size_t ancestor_len,
                              const uint8_t *first, size_t first_len,
                              const uint8_t *second, size_t second_len, uint32_t above,
                              uint8_t *answer, size_t answer_len);
+
+/* The chains of a table as rows, in its order: 4 bytes of answer, how many there are. They become the first of `rows`,
+ * 0 in the places past a count; the rows after them stay.
+ * Refuses with 27, then a table's number, then 24 where there are fewer rows than chains. */
+uint32_t mishtodran_read(const uint8_t *table, size_t table_len,
+                         struct mishtodran_row *rows, size_t row_count,
+                         uint8_t *answer, size_t answer_len);
+
+/* The table that has these rows, in their order, in a buffer: 4 bytes of answer, the table's length; it stands at the
+ * start of the buffer, and bytes past it stay. What is written reads back as these rows, with 0 in the places past a
+ * count, and the rows of a table give the same bytes again. MISHTODRAN_MOST_TABLE_BYTES of buffer hold every table.
+ * Refuses with 27, then the table's number that the bytes of these rows would have, 4 to 7, 9 to 11 or 28 to 31, and
+ * then with 24. No row at all is 11. */
+uint32_t mishtodran_write(const struct mishtodran_row *rows, size_t row_count,
+                          uint8_t *buffer, size_t buffer_len,
+                          uint8_t *answer, size_t answer_len);
+
+/* Where the record of chain `id` stands in the table: 8 bytes of answer, its offset from the table's first byte and its
+ * length in bytes. These bytes are what mishtodran_save takes for an old record.
+ * Refuses with 27, then a table's number, then 12. */
+uint32_t mishtodran_record(const uint8_t *table, size_t table_len, uint32_t id,
+                           uint8_t *answer, size_t answer_len);
 
 /* The report of a table, as text: 4 bytes of answer, the text's length in bytes. The text is what `mishtodran report`
  * prints, a header and a line for each chain; it stands at the start of the text buffer, and no byte of 0 ends it. A
