@@ -3,8 +3,8 @@
 
    Every slice lent to an entry, of bytes or of rows, stands against unreadable pages, in a first pass with its end and
    in a second with its start, and slices that are only read are write-protected: a step outside is caught and counts as
-   a failure. Checked are the returned number, every byte of every slice afterwards, and some bytes beside it; and at the
-   end how much stack the calls took. */
+   a failure. Checked are the returned number, every byte of every slice afterwards, and some bytes beside it; and at
+   the end how much stack the calls took. */
 #define _GNU_SOURCE
 #include "mishtodran.h"
 

@@ -1,8 +1,8 @@
-"""Cases of a write with known answers, packed for a program over rows.
+"""Cases of a write with known answers, for the C entry (pack_entries.py), and packed for a program over rows.
 
 After those of tests/cases/write.jsonl, each held against the write from the words (written.py), as they stand and with junk in
-the places past their counts, come those made here: each field at its limits and past them, in the first row, in the second and
-in the last; few rows and many; just the room that a table needs, less and more. What each is refused with is told here, and held
+the places past their counts, come those made here: each field at its limits and past them, in a row alone and in one between two
+others; few rows and many; just the room that a table needs, less and more. What each is refused with is told here, and held
 against the same. Last come the cases that only an order decides (orders.py).
 
 A packed case, every number little-endian:
@@ -21,6 +21,7 @@ import orders
 import pack
 from orders import GOOD_ROW, MUCH_ROOM, SIXTEEN_ROWS, WIDE_ROWS, row_with
 from stored import LONGEST, TIME
+from table import U32
 from written import Row, Written, in_memory, past_counts, write
 
 PADDING = b"\xc3\x00\xff\x69"
@@ -50,7 +51,6 @@ def of_file():
 # ---- Each field at its limits, and past them ----
 
 HUNDREDS = tuple(range(100, 900, 100))
-U32, U64 = 2**32 - 1, 2**64 - 1
 
 # What a row has that is accepted, and its fields.
 GOOD_FIELDS = [
@@ -70,10 +70,11 @@ BAD_FIELDS = [
     *((6, f"deadline {value}", {"deadline": value}) for value in (0, TIME + 1, U32)),
     *((7, f"gap {value}", {"gap": value}) for value in (TIME + 1, U32)),
     *((28, f"list length {value}", {"distances": HUNDREDS, "listed": value})
-      for value in (0, 9, 255, 256, 264, 2**16 + 8, 2**32, 2**32 + 1, 2**63, U64)),
+      for value in (0, 9, 255, 256, 264, 2**16 + 8, 2**32, 2**32 + 1, 2**63, 2**64 - 1)),
     *((9, f"task count {value}", {"tasks": [(5, 10)] * 16, "count": value})
-      for value in (0, 17, 255, 256, 272, 2**16 + 16, 2**32, 2**32 + 1, 2**63, U64)),
-    (29, "a distance above the greatest", {"gap": 0, "distances": [TIME + 1]}), (29, "a distance of 2^32 - 1", {"distances": [U32]}),
+      for value in (0, 17, 255, 256, 272, 2**16 + 16, 2**32, 2**32 + 1, 2**63, 2**64 - 1)),
+    (29, "a distance above the greatest", {"gap": 0, "distances": [TIME + 1]}),
+    (29, "a distance of 2^32 - 1", {"distances": [U32]}),
     (30, "one distance of 0", {"distances": [0]}), (30, "eight distances of 0", {"gap": 0, "distances": [0] * 8}),
     (31, "a gap below the only distance", {"gap": 99}), (31, "a gap of 1", {"gap": 1, "distances": [2]}),
 ]
@@ -117,7 +118,8 @@ def numbers_of_rows():
     for what, rows, number in (
         ("no row", (), 11), ("16 rows", SIXTEEN_ROWS, 0), ("17 rows", SIXTEEN_ROWS + more[:1], 11),
         ("40 rows", SIXTEEN_ROWS + more[:24], 11), ("272 rows", SIXTEEN_ROWS + more[:256], 11),
-        ("40 rows, none of them good", (row_with(id=0),) * 40, 4), ("64 tasks", WIDE_ROWS, 0), ("65 tasks", WIDE_ROWS + more[:1], 9),
+        ("40 rows, none of them good", (row_with(id=0),) * 40, 4),
+        ("64 tasks", WIDE_ROWS, 0), ("65 tasks", WIDE_ROWS + more[:1], 9),
         ("64 tasks, and then 16", WIDE_ROWS + (row_with(tasks=[(5, 10)] * 16),), 9),
         ("60 tasks, and then 5", SIXTEEN_ROWS[:15] + (row_with(id=16, tasks=[(5, 10)] * 5),), 9),
     ):
