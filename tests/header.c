@@ -272,9 +272,9 @@ static bool merges_hold(void)
 /* Whether a row is the other one, with 0 in the places past its counts. */
 static bool is_same_row(const char *what, const struct mishtodran_row *found, const struct mishtodran_row *wanted)
 {
-    bool right = is_same(what, found->id, wanted->id) & is_same(what, found->kind, wanted->kind) &
-                 is_same(what, found->overload, wanted->overload) & is_same(what, found->deadline, wanted->deadline) &
-                 is_same(what, found->gap, wanted->gap) & is_same(what, found->listed, wanted->listed) &
+    bool right = is_same(what, found->id, wanted->id) && is_same(what, found->kind, wanted->kind) &&
+                 is_same(what, found->overload, wanted->overload) && is_same(what, found->deadline, wanted->deadline) &&
+                 is_same(what, found->gap, wanted->gap) && is_same(what, found->listed, wanted->listed) &&
                  is_same(what, found->tasks, wanted->tasks);
     for (unsigned i = 0; i < MISHTODRAN_MOST_DISTANCES; i++)
         right &= is_same(what, found->list[i], i < wanted->listed ? wanted->list[i] : 0);
