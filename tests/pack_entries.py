@@ -3,8 +3,8 @@
 A report of tests/cases has a table and its text alone: its buffers are made here, as long as the text, longer, or too short.
 After the cases of the files come those that document 01 tells (pack.py), those that only an order decides (orders.py), and
 answer buffers too short for each of them. Every table of all these is checked too. Then come the merges of pack_merge.py, each
-with its conflicts one after the other, and the writes of pack_write.py. Last, every table is read into rows, too few of them
-too, its records are found, and the rows that were read are written back.
+with its conflicts one after the other, and the writes of pack_write.py. Last, every table and every result is read into rows, too
+few of them too, its records are found, and the rows that were read are written back.
 
 Packed, little-endian: for each case the entry (1 byte: 0 latency, 1 misses, 2 segment, 3 save, 4 report, 5 check, 6 merge,
 7 conflict, 8 read, 9 write, 10 record); its name (1 byte of length, text); three numbers (8 bytes each: id; id, k; a, b, n; used;
@@ -276,13 +276,24 @@ def finds(turn, name, table, number):
     return [of_record(name, table, number, ident) for ident in [*known, unknown]]
 
 
-def known_tables():
-    """Every table that is tried anywhere, and those that are written; with name and number."""
-    found = {table: (name, told.number) for name, table, told in pack.tables()}
+def results():
+    """The tables that accepted saves, merges and writes come to, each with the name of its case."""
+    for turn, case in enumerate(pack.cases("save"), 1):
+        if case["rc"] == 0:
+            used, = struct.unpack_from("<I", bytes_of(case, "after"))
+            yield f"result of save:{turn}", (bytes_of(case, "buffer_after") or bytes_of(case, "buffer"))[:used]
+    for name, call_of in pack_merge.calls():
+        yield f"result of {name}", merge(*call_of).result
     for name, rows, room in pack_write.calls():
-        made = write(rows, room)
-        if made.number == 0:
-            found.setdefault(made.table, (name, 0))
+        yield f"result of {name}", write(rows, room).table
+
+
+def known_tables():
+    """Every table that is tried anywhere, and every result; with name and number."""
+    found = {table: (name, told.number) for name, table, told in pack.tables()}
+    for name, table in results():
+        if table:  # none where the call is refused
+            found.setdefault(table, (name, 0))
     return [(name, table, number) for table, (name, number) in found.items()]
 
 
