@@ -3,8 +3,8 @@
 
    Shows the figures of chain ID, asks for a new deadline, saves it to the file, and shows the figures again and the
    report of the whole table. Ends with 0; with 1 where the library refuses; with 2 where it is used wrongly, or
-   something cannot be read or written. It is built by the line that `./mishtodran lib` prints, with examples/editor.c for
-   program.c. */
+   something cannot be read or written. The bytes of a table are the library's: it reads them into rows, and writes them
+   from rows. It is built by the line that `./mishtodran lib` prints, with examples/editor.c for program.c. */
 #define _DEFAULT_SOURCE /* for flock and realpath */
 #include "mishtodran.h"
 
@@ -27,8 +27,15 @@ struct document {
     mode_t mode;
 };
 
+/* The chains of a table as rows. */
+struct chains {
+    struct mishtodran_row rows[MISHTODRAN_MOST_CHAINS];
+    size_t count;
+};
+
+/* A chain's record, where it stands in its table. */
 struct record {
-    uint8_t bytes[MISHTODRAN_MOST_CHAIN_RECORD_BYTES];
+    const uint8_t *bytes;
     size_t length;
 };
 
@@ -54,19 +61,10 @@ static void flush_output(void)
 
 /* ---- Numbers ---- */
 
-/* Answers and tables are little-endian on every machine. */
-static uint32_t get(const uint8_t *at, unsigned bytes)
+/* Answers are little-endian on every machine. */
+static uint32_t get(const uint8_t *at)
 {
-    uint32_t value = 0;
-    for (unsigned i = 0; i < bytes; i++)
-        value |= (uint32_t)at[i] << 8 * i;
-    return value;
-}
-
-static void put(uint8_t *at, unsigned bytes, uint32_t value)
-{
-    for (unsigned i = 0; i < bytes; i++)
-        at[i] = (uint8_t)(value >> 8 * i);
+    return at[0] | (uint32_t)at[1] << 8 | (uint32_t)at[2] << 16 | (uint32_t)at[3] << 24;
 }
 
 /* The number that digits alone stand for, from 1 to `most`; 0 for any other text. */
@@ -91,14 +89,14 @@ static void show_figures(const struct document *document, uint32_t id)
         refuse("latency", refusal);
     else
         printf("chain %lu: K %lu, latency %lu, late %lu, margin %ld\n", (unsigned long)id,
-               (unsigned long)get(answer, 4), (unsigned long)get(answer + 4, 4), (unsigned long)get(answer + 8, 4),
-               (long)(int32_t)get(answer + 12, 4));
+               (unsigned long)get(answer), (unsigned long)get(answer + 4), (unsigned long)get(answer + 8),
+               (long)(int32_t)get(answer + 12));
 
     refusal = mishtodran_misses(document->bytes, document->used, id, RUN, answer, sizeof answer);
     if (refusal)
         printf("misses refused, %lu\n", (unsigned long)refusal);
     else
-        printf("misses in %d activations: at most %lu\n", RUN, (unsigned long)get(answer, 4));
+        printf("misses in %d activations: at most %lu\n", RUN, (unsigned long)get(answer));
 }
 
 /* A text buffer that every report fits into, so that none is refused. */
@@ -108,7 +106,7 @@ static void show_report(const struct document *document)
     uint32_t refusal = mishtodran_report(document->bytes, document->used, text, sizeof text, answer, sizeof answer);
     if (refusal)
         refuse("report", refusal);
-    printf("%.*s", (int)get(answer, 4), (const char *)text);
+    printf("%.*s", (int)get(answer), (const char *)text);
 }
 
 /* The deadline that the user types, or 0 for none. */
@@ -135,34 +133,55 @@ static uint32_t ask_deadline(uint32_t deadline)
     return typed;
 }
 
-/* ---- Records ---- */
+/* ---- Rows and records ---- */
 
-/* The record of a chain that is there, in a table that has been accepted. */
-static struct record find_record(const struct document *document, uint32_t id)
+static void read_rows(const struct document *document, struct chains *chains)
 {
-    struct record found;
-    const uint8_t *at = document->bytes;
-    for (;;) {
-        size_t listed = at[MISHTODRAN_CHAIN_LISTED_AT], tasks = at[MISHTODRAN_CHAIN_TASKS_AT];
-        found.length = MISHTODRAN_CHAIN_DISTANCES_AT + MISHTODRAN_DISTANCE_BYTES * listed +
-                       MISHTODRAN_TASK_RECORD_BYTES * tasks;
-        if (get(at + MISHTODRAN_CHAIN_ID_AT, MISHTODRAN_CHAIN_ID_BYTES) == id)
-            break;
-        at += found.length;
-    }
-    memcpy(found.bytes, at, found.length);
-    return found;
+    uint8_t answer[MISHTODRAN_READ_BYTES];
+    uint32_t refusal = mishtodran_read(document->bytes, document->used, chains->rows, MISHTODRAN_MOST_CHAINS, answer,
+                                       sizeof answer);
+    if (refusal)
+        refuse("read", refusal);
+    chains->count = get(answer);
 }
 
-/* Puts `changed` in the place of the record that was seen. */
-static void save_record(struct document *document, const struct record *seen, const struct record *changed)
+static void write_rows(const struct chains *chains, struct document *document)
+{
+    uint8_t answer[MISHTODRAN_WRITE_BYTES];
+    uint32_t refusal = mishtodran_write(chains->rows, chains->count, document->bytes, sizeof document->bytes, answer,
+                                        sizeof answer);
+    if (refusal)
+        refuse("write", refusal);
+    document->used = get(answer);
+}
+
+/* The row of a chain that is there. */
+static struct mishtodran_row *find_row(struct chains *chains, uint32_t id)
+{
+    struct mishtodran_row *row = chains->rows;
+    while (row->id != id)
+        row++;
+    return row;
+}
+
+static struct record find_record(const struct document *document, uint32_t id)
+{
+    uint8_t answer[MISHTODRAN_RECORD_BYTES];
+    uint32_t refusal = mishtodran_record(document->bytes, document->used, id, answer, sizeof answer);
+    if (refusal)
+        refuse("record", refusal);
+    return (struct record){document->bytes + get(answer), get(answer + 4)};
+}
+
+/* Puts the record of the changed table in the place of the one that was seen. */
+static void save_record(struct document *document, struct record seen, struct record changed)
 {
     uint8_t answer[MISHTODRAN_SAVE_BYTES];
-    uint32_t refusal = mishtodran_save(document->bytes, sizeof document->bytes, document->used, seen->bytes,
-                                       seen->length, changed->bytes, changed->length, answer, sizeof answer);
+    uint32_t refusal = mishtodran_save(document->bytes, sizeof document->bytes, document->used, seen.bytes, seen.length,
+                                       changed.bytes, changed.length, answer, sizeof answer);
     if (refusal)
         refuse("save", refusal);
-    document->used = get(answer, 4);
+    document->used = get(answer);
 }
 
 /* ---- Files ---- */
@@ -182,10 +201,10 @@ static void check_table(const struct document *document, const char *path)
     uint32_t refusal = mishtodran_check(document->bytes, document->used, answer, sizeof answer);
     if (refusal)
         refuse("check", refusal);
-    if (get(answer, 4) == 0)
+    if (get(answer) == 0)
         return;
-    fprintf(stderr, "editor: %s: refused, %lu at byte %lu\n", path, (unsigned long)get(answer, 4),
-            (unsigned long)get(answer + 4, 4));
+    fprintf(stderr, "editor: %s: refused, %lu at byte %lu\n", path, (unsigned long)get(answer),
+            (unsigned long)get(answer + 4));
     exit(REFUSED);
 }
 
@@ -250,15 +269,17 @@ static void write_table(const struct document *document, const char *path)
 
 static void edit(const char *path, uint32_t id)
 {
-    struct document document;
-    read_table(&document, path);
-    show_figures(&document, id);
-    struct record seen = find_record(&document, id), changed = seen;
-    uint8_t *deadline = changed.bytes + MISHTODRAN_CHAIN_DEADLINE_AT;
-    uint32_t typed = ask_deadline(get(deadline, MISHTODRAN_CHAIN_DEADLINE_BYTES));
+    struct document seen, changed, document;
+    struct chains chains;
+    read_table(&seen, path);
+    show_figures(&seen, id);
+    read_rows(&seen, &chains);
+    struct mishtodran_row *row = find_row(&chains, id);
+    uint32_t typed = ask_deadline(row->deadline);
     if (typed == 0)
         return;
-    put(deadline, MISHTODRAN_CHAIN_DEADLINE_BYTES, typed);
+    row->deadline = typed;
+    write_rows(&chains, &changed);
     if (access(path, W_OK) != 0) /* a file that is renamed over it would not ask */
         fail(path, strerror(errno));
 
@@ -266,7 +287,7 @@ static void edit(const char *path, uint32_t id)
        where this very record is another now, the save is refused. */
     int held = lock(path);
     read_table(&document, path);
-    save_record(&document, &seen, &changed);
+    save_record(&document, find_record(&seen, id), find_record(&changed, id));
     write_table(&document, path);
     close(held);
 

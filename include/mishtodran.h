@@ -2,23 +2,25 @@
  *
  * Every entry but the version returns 0 and writes its answer, or returns the number of a refusal (below) and writes
  * nothing. Answers are little-endian. Bytes of an answer buffer past the answer stay as they are, and so do those of a
- * text buffer past the text.
+ * text buffer past the text, and rows past those that a read fills.
  *
  * What the caller keeps:
- * - a pointer is good for the length that stands beside it; a null pointer with length 0 is fine;
- * - a slice that is written (answer, buffer, text) overlaps no other slice of the call.
- * Nothing else: any bytes may stand in a table or a record, and any number is taken at its full width.
+ * - a pointer is good for the length that stands beside it, in bytes, or for as many rows as their count says; a null
+ *   pointer with length or count 0 is fine;
+ * - a slice that is written (answer, buffer, text, the rows of a read) overlaps no other slice of the call.
+ * Nothing else: any bytes may stand in a table or a record, any values in a row, and any number is taken at its full
+ * width.
  *
  * Threads: entries have no state and keep nothing between calls. Any number of threads may call them at once, also on
- * one table, as long as no call writes what another reads or writes.
+ * one table or the same rows, as long as no call writes what another reads or writes.
  *
  * Stack: a call takes less than MISHTODRAN_STACK_BYTES. This is measured, not proved.
  *
- * Duration: every call ends; how soon is measured, not proved. On an x86-64 machine of 2 GHz, a check, a segment or a
- * save takes about a microsecond at most, a merge or its conflicts a few, and any call on an ordinary table less than a
- * millisecond. The slowest tables that we know have full lists whose last distance is 1, before windows of almost
- * 10,000,000 ticks: there a latency or misses take 3 seconds, and a report 50. An editor that must not stand still makes
- * these calls in a thread of its own.
+ * Duration: every call ends; how soon is measured, not proved. On an x86-64 machine of 2 GHz, a check, a segment, a
+ * record or a save takes about a microsecond at most, a read, a write, a merge or its conflicts a few, and any call on
+ * an ordinary table less than a millisecond. The slowest tables that we know have full lists whose last distance is 1,
+ * before windows of almost 10,000,000 ticks: there a latency or misses take 3 seconds, and a report 50. An editor that
+ * must not stand still makes these calls in a thread of its own.
  */
 #ifndef MISHTODRAN_H
 #define MISHTODRAN_H
@@ -95,27 +97,29 @@ enum {
     MISHTODRAN_END_RECORD_BYTES = 4
 };
 
-/* A chain, decoded: what its record holds, as mishtodran_read gives it and mishtodran_write takes it. `listed` says how
- * many of the distances count, `tasks` how many of the priorities and costs; what stands in a place past its count is
- * not looked at by a write, and is 0 after a read. */
+/* A chain, decoded: what its record holds, as mishtodran_read gives it and mishtodran_write takes it. What stands in a
+ * place past its count is not looked at by a write, and is 0 after a read. Four bytes of padding follow the gap: a write
+ * does not look at them either, and after a read they may be anything. */
 struct mishtodran_row {
     uint16_t id;
-    uint8_t kind;
-    uint8_t overload;
+    uint8_t kind;     /* 0 synchronous, 1 asynchronous */
+    uint8_t overload; /* 0, or 1 for an overload chain */
     uint32_t deadline;
-    uint32_t gap;
-    uint64_t listed;
-    uint64_t tasks;
-    uint32_t list[MISHTODRAN_MOST_DISTANCES];
-    uint16_t priority[MISHTODRAN_MOST_TASKS];
-    uint32_t cost[MISHTODRAN_MOST_TASKS];
+    uint32_t gap;    /* the largest gap, or 0 where none is known */
+    uint64_t listed; /* how many distances count */
+    uint64_t tasks;  /* how many priorities and costs count */
+    uint32_t list[MISHTODRAN_MOST_DISTANCES]; /* the distances of 2, 3, .. activations */
+    uint16_t priority[MISHTODRAN_MOST_TASKS]; /* of each task */
+    uint32_t cost[MISHTODRAN_MOST_TASKS];     /* of each task */
 };
 
-/* The library was compiled for this layout. */
-#ifdef __cplusplus
+/* The library was compiled for this layout. Older C and C++ have no way to ask for it. */
+#if defined __cplusplus && __cplusplus >= 201103L
 #define MISHTODRAN_LAYOUT(what) static_assert(what, "mishtodran_row is laid out differently")
-#else
+#elif defined __STDC_VERSION__ && __STDC_VERSION__ >= 201112L
 #define MISHTODRAN_LAYOUT(what) _Static_assert(what, "mishtodran_row is laid out differently")
+#else
+#define MISHTODRAN_LAYOUT(what) struct mishtodran_row
 #endif
 MISHTODRAN_LAYOUT(offsetof(struct mishtodran_row, id) == 0);
 MISHTODRAN_LAYOUT(offsetof(struct mishtodran_row, kind) == 2);
@@ -131,7 +135,7 @@ MISHTODRAN_LAYOUT(sizeof(struct mishtodran_row) == 160);
 #undef MISHTODRAN_LAYOUT
 
 /* Why an entry refuses. The numbers of the first group, 1 to 7, 9 to 11 and 28 to 31, are what a table is refused with:
- * in what follows, a table's number. 8 is no longer given. */
+ * in what follows, a table's number. Rows that no table can have get the number of their bytes. 8 is no longer given. */
 enum mishtodran_refusal {
     /* The table */
     MISHTODRAN_TABLE_LENGTH = 1,       /* the table's length is 0, above 1,284 or above its buffer */
@@ -148,7 +152,7 @@ enum mishtodran_refusal {
     MISHTODRAN_DISTANCE = 29,          /* a distance falls or exceeds 10,000,000 */
     MISHTODRAN_LAST_DISTANCE = 30,     /* the last distance is 0 */
     MISHTODRAN_GAP_TOO_SMALL = 31,     /* a gap other than 0 is too small for the distances */
-    /* A chain's figures; 12 of a segment too */
+    /* A chain's figures; 12 of a segment and of a record too */
     MISHTODRAN_UNKNOWN_ID = 12,        /* the id is not in the table */
     MISHTODRAN_RUN_LENGTH = 13,        /* k is not 1 to 1,000 */
     MISHTODRAN_OF_OVERLOAD = 14,       /* misses are asked of an overload chain */
@@ -159,7 +163,7 @@ enum mishtodran_refusal {
     MISHTODRAN_STARTS_AGAIN = 19,      /* an overload chain may start more than once in the last window */
     MISHTODRAN_ALWAYS_LATE = 20,       /* a deadline is missed without any overload */
     MISHTODRAN_CAPACITY = 21,          /* an overload active segment's capacity is above 40 */
-    /* A save; 24 in a merge and a report too */
+    /* A save; 24 in a merge, a write and a report too, and in a read where there are too few rows */
     MISHTODRAN_STALE_RECORD = 22,      /* the old record equals no stored chain record */
     MISHTODRAN_NEW_RECORD = 23,        /* the new record has not a chain record's form, or bears another id */
     MISHTODRAN_BUFFER_TOO_SHORT = 24,  /* the result, or the report's text, is longer than its buffer */
@@ -258,8 +262,8 @@ uint32_t mishtodran_conflict(const uint8_t *ancestor, size_t ancestor_len,
                              uint8_t *answer, size_t answer_len);
 
 /* The chains of a table as rows, in its order: 4 bytes of answer, how many there are. They become the first of `rows`,
- * 0 in the places past a count; the rows after them stay.
- * Refuses with 27, then a table's number, then 24 where there are fewer rows than chains. */
+ * with 0 in the places past a count; the rows after them stay. MISHTODRAN_MOST_CHAINS rows are enough for every table.
+ * Refuses with 27, then a table's number, then 24 where there are fewer rows than chains; every row then stays. */
 uint32_t mishtodran_read(const uint8_t *table, size_t table_len,
                          struct mishtodran_row *rows, size_t row_count,
                          uint8_t *answer, size_t answer_len);
@@ -267,14 +271,16 @@ uint32_t mishtodran_read(const uint8_t *table, size_t table_len,
 /* The table that has these rows, in their order, in a buffer: 4 bytes of answer, the table's length; it stands at the
  * start of the buffer, and bytes past it stay. What is written reads back as these rows, with 0 in the places past a
  * count, and the rows of a table give the same bytes again. MISHTODRAN_MOST_TABLE_BYTES of buffer hold every table.
- * Refuses with 27, then the table's number that the bytes of these rows would have, 4 to 7, 9 to 11 or 28 to 31, and
- * then with 24. No row at all is 11. */
+ * Refuses with 27, then the table's number that the bytes of these rows would have, 4 to 7, 9 to 11 or 28 to 31, then
+ * with 24. The first fault decides, row by row, and within a row in the order in which its record is read: a 17th row is
+ * 11 where the 16 before it are good, `listed` outside 1 to 8 is 28 and `tasks` outside 1 to 16 is 9, however large. No
+ * row at all is 11. */
 uint32_t mishtodran_write(const struct mishtodran_row *rows, size_t row_count,
                           uint8_t *buffer, size_t buffer_len,
                           uint8_t *answer, size_t answer_len);
 
 /* Where the record of chain `id` stands in the table: 8 bytes of answer, its offset from the table's first byte and its
- * length in bytes. These bytes are what mishtodran_save takes for an old record.
+ * length in bytes. These bytes are what mishtodran_save takes for a record, the old one or the new.
  * Refuses with 27, then a table's number, then 12. */
 uint32_t mishtodran_record(const uint8_t *table, size_t table_len, uint32_t id,
                            uint8_t *answer, size_t answer_len);

@@ -1,10 +1,10 @@
 /* Replays packed cases (tests/pack_entries.py) through the entries of mishtodran.h.
    Usage: entries CASES
 
-   Every slice lent to an entry stands against unreadable pages, in a first pass with its end and in a second with its
-   start, and slices that are only read are write-protected: a step outside is caught and counts as a failure. Checked
-   are the returned number, every byte of every slice afterwards, and some bytes beside it; and at the end how much stack
-   the calls took. */
+   Every slice lent to an entry, of bytes or of rows, stands against unreadable pages, in a first pass with its end and
+   in a second with its start, and slices that are only read are write-protected: a step outside is caught and counts as
+   a failure. Checked are the returned number, every byte of every slice afterwards, and some bytes beside it; and at
+   the end how much stack the calls took. */
 #define _GNU_SOURCE
 #include "mishtodran.h"
 
@@ -20,19 +20,22 @@
 enum {
     PAGE = 65536, /* at least a page of any machine, also of one that emulates */
     BESIDE = 64,  /* bytes beside a slice that are checked too */
-    FILLER = 0xA5,
-    SAME = 65535 /* the packed length of bytes that do not change */
+    FILLER = 0xA5
 };
 
-enum { LATENCY, MISSES, SEGMENT, SAVE, REPORT, CHECK, MERGE, CONFLICT };
-enum { TABLE, OLD, NEW, TEXT, ANSWER, SLICES };
-/* What a merge, and the question for its conflicts, lend in these places. */
-enum { ANCESTOR = TABLE, FIRST = OLD, SECOND = NEW, BUFFER = TEXT };
+/* What is packed for the length of junk, and for a slice that is lent as in the case before. */
+enum { JUNK = 65535, AS_BEFORE = 65534 };
 
-/* Bytes to lend, and what they must be afterwards. */
+enum { LATENCY, MISSES, SEGMENT, SAVE, REPORT, CHECK, MERGE, CONFLICT, READ, WRITE, RECORD };
+enum { TABLE, OLD, NEW, TEXT, ANSWER, SLICES };
+/* What a merge, and the question for its conflicts, lend in these places; what a write, and what a read. */
+enum { ANCESTOR = TABLE, FIRST = OLD, SECOND = NEW, BUFFER = TEXT };
+enum { ROWS_TO_WRITE = TABLE, ROWS_TO_FILL = TEXT };
+
+/* Bytes to lend, and what must stand in the first of them afterwards; the others stay. */
 struct slice {
     const uint8_t *before, *after;
-    size_t length;
+    size_t length, changed;
 };
 
 struct entry_case {
@@ -47,6 +50,7 @@ struct entry_case {
 /* ---- The packed cases ---- */
 
 static const uint8_t *packed, *packed_end;
+static uint8_t junk[JUNK];
 
 static const uint8_t *take(size_t length)
 {
@@ -69,33 +73,34 @@ static uint64_t take_number(unsigned width)
 
 static void take_before(struct slice *slice)
 {
-    slice->length = take_number(2);
-    slice->before = take(slice->length);
-    slice->after = slice->before;
+    size_t length = take_number(2);
+    slice->changed = 0;
+    if (length == AS_BEFORE)
+        return;
+    slice->length = length == JUNK ? take_number(2) : length;
+    slice->before = length == JUNK ? junk : take(length);
 }
 
 static void take_after(struct slice *slice)
 {
-    size_t length = take_number(2);
-    if (length != SAME)
-        slice->after = take(slice->length);
+    slice->changed = take_number(2);
+    slice->after = take(slice->changed);
 }
 
-static struct entry_case take_case(void)
+/* The next case, in the place of the one before. */
+static void take_case(struct entry_case *given)
 {
-    struct entry_case found;
-    found.entry = (unsigned)take_number(1);
-    found.name_length = (int)take_number(1);
-    found.name = (const char *)take((size_t)found.name_length);
+    given->entry = (unsigned)take_number(1);
+    given->name_length = (int)take_number(1);
+    given->name = (const char *)take((size_t)given->name_length);
     for (unsigned i = 0; i < 3; i++)
-        found.number[i] = take_number(8);
-    found.returns = (uint32_t)take_number(4);
+        given->number[i] = take_number(8);
+    given->returns = (uint32_t)take_number(4);
     for (unsigned i = 0; i < SLICES; i++)
-        take_before(&found.slice[i]);
-    take_after(&found.slice[TABLE]);
-    take_after(&found.slice[TEXT]);
-    take_after(&found.slice[ANSWER]);
-    return found;
+        take_before(&given->slice[i]);
+    take_after(&given->slice[TABLE]);
+    take_after(&given->slice[TEXT]);
+    take_after(&given->slice[ANSWER]);
 }
 
 static void load_cases(const char *path)
@@ -110,6 +115,8 @@ static void load_cases(const char *path)
     fclose(file);
     packed = bytes;
     packed_end = bytes + length;
+    for (unsigned i = 0; i < sizeof junk; i++)
+        junk[i] = (uint8_t)(0x5A + 11 * i);
 }
 
 /* ---- Lending ---- */
@@ -137,11 +144,11 @@ static void protect(unsigned which, int how)
     }
 }
 
-/* An entry writes the answer, save and merge their buffer, and report its text. */
+/* An entry writes the answer; save, merge and write their buffer, report its text, and read its rows. */
 static bool is_written(unsigned entry, unsigned which)
 {
     return which == ANSWER || (entry == SAVE && which == TABLE) || (entry == REPORT && which == TEXT) ||
-           (entry == MERGE && which == BUFFER);
+           (entry == READ && which == ROWS_TO_FILL) || ((entry == MERGE || entry == WRITE) && which == BUFFER);
 }
 
 /* Where a slice of this length stands: against the page after it, or against the page before it. */
@@ -173,14 +180,26 @@ static uint8_t *lent(const struct entry_case *given, unsigned which, bool at_end
     return length == 0 && !at_end ? NULL : place(which, length, at_end);
 }
 
+/* Whether a byte is padding in a row that a read fills: it may be anything. */
+static bool is_padding(const struct entry_case *given, unsigned which, size_t at)
+{
+    size_t row = at / sizeof(struct mishtodran_row), in_row = at % sizeof(struct mishtodran_row);
+    return given->entry == READ && which == ROWS_TO_FILL && row < given->number[0] &&
+           in_row >= offsetof(struct mishtodran_row, gap) + sizeof(uint32_t) &&
+           in_row < offsetof(struct mishtodran_row, listed);
+}
+
 static bool is_as_expected(const struct entry_case *given, unsigned which, bool at_end)
 {
     const struct slice *slice = &given->slice[which];
-    const uint8_t *side = beside(which, slice->length, at_end);
+    const uint8_t *side = beside(which, slice->length, at_end), *there = place(which, slice->length, at_end);
     for (unsigned i = 0; i < BESIDE; i++)
         if (side[i] != FILLER)
             return false;
-    return memcmp(place(which, slice->length, at_end), slice->after, slice->length) == 0;
+    for (size_t i = 0; i < slice->length; i++)
+        if (there[i] != (i < slice->changed ? slice->after : slice->before)[i] && !is_padding(given, which, i))
+            return false;
+    return true;
 }
 
 /* ---- Calling ---- */
@@ -226,6 +245,25 @@ static uint32_t call_merge(const struct entry_case *given, bool at_end)
                             slice[BUFFER].length, answer, answer_len);
 }
 
+/* Rows stand at multiples of their length from an end of a page, so they are aligned. */
+static struct mishtodran_row *lent_rows(const struct entry_case *given, unsigned which, bool at_end)
+{
+    return (struct mishtodran_row *)(void *)lent(given, which, at_end);
+}
+
+static uint32_t call_with_rows(const struct entry_case *given, bool at_end)
+{
+    const struct slice *slice = given->slice;
+    uint8_t *answer = lent(given, ANSWER, at_end);
+    if (given->entry == READ)
+        return mishtodran_read(lent(given, TABLE, at_end), slice[TABLE].length, lent_rows(given, ROWS_TO_FILL, at_end),
+                               slice[ROWS_TO_FILL].length / sizeof(struct mishtodran_row), answer,
+                               slice[ANSWER].length);
+    return mishtodran_write(lent_rows(given, ROWS_TO_WRITE, at_end),
+                            slice[ROWS_TO_WRITE].length / sizeof(struct mishtodran_row), lent(given, BUFFER, at_end),
+                            slice[BUFFER].length, answer, slice[ANSWER].length);
+}
+
 static uint32_t call(const struct entry_case *given, bool at_end)
 {
     called_from = __builtin_frame_address(0);
@@ -249,6 +287,11 @@ static uint32_t call(const struct entry_case *given, bool at_end)
     case MERGE:
     case CONFLICT:
         return call_merge(given, at_end);
+    case READ:
+    case WRITE:
+        return call_with_rows(given, at_end);
+    case RECORD:
+        return mishtodran_record(table, table_len, (uint32_t)number[0], answer, answer_len);
     default:
         return mishtodran_save(table, table_len, number[0], lent(given, OLD, at_end), slice[OLD].length,
                                lent(given, NEW, at_end), slice[NEW].length, answer, answer_len);
@@ -277,9 +320,9 @@ static bool run(const struct entry_case *given, bool at_end)
     if (!is_as_expected(given, ANSWER, at_end))
         return fails(given, "the answer buffer is not as expected");
     if (!is_as_expected(given, TABLE, at_end))
-        return fails(given, "the table is not as expected");
+        return fails(given, "the table, or the rows to write, are not as expected");
     if (!is_as_expected(given, TEXT, at_end))
-        return fails(given, "the text, or the buffer of a merge, is not as expected");
+        return fails(given, "the text, the buffer of a merge or a write, or the rows to fill, are not as expected");
     if (!is_as_expected(given, OLD, at_end) || !is_as_expected(given, NEW, at_end))
         return fails(given, "a record, or a copy, has changed");
     return true;
@@ -289,8 +332,9 @@ static unsigned cases, right;
 
 static void run_cases(void)
 {
+    struct entry_case given = {0};
     while (packed < packed_end) {
-        struct entry_case given = take_case();
+        take_case(&given);
         cases++;
         if (run(&given, true) && run(&given, false))
             right++;

@@ -1,11 +1,12 @@
 /* Holds the constants of mishtodran.h against the library: the version, the fields of the records, the limits, a table's
-   numbers, those of a merge and the lengths of the answers. Tables are made by the constants alone, and what the library
-   says of each shows whether they are right.
+   numbers, those of a merge, the layout of a row and the lengths of the answers. Tables and rows are made by the
+   constants alone, and what the library says of each shows whether they are right.
    Usage: header */
 #include "mishtodran.h"
 
 #include <stdbool.h>
 #include <stdio.h>
+#include <string.h>
 
 /* What the misses of chain 1 are refused with where its table is accepted: it has no gap. */
 enum { ACCEPTED = MISHTODRAN_NO_GAP };
@@ -32,6 +33,18 @@ _Static_assert(MISHTODRAN_END_RECORD_BYTES == MISHTODRAN_END_CHAINS_AT + MISHTOD
 /* An id and a priority may be all that their bytes hold. */
 _Static_assert(MISHTODRAN_MOST_ID == (1 << 8 * MISHTODRAN_CHAIN_ID_BYTES) - 1, "id");
 _Static_assert(MISHTODRAN_MOST_PRIORITY == (1 << 8 * MISHTODRAN_TASK_PRIORITY_BYTES) - 1, "priority");
+
+/* A field of a row is as wide as that of its record, each place of one that has several, and a count is wider. */
+#define ROW_BYTES(field) sizeof((struct mishtodran_row *)0)->field
+_Static_assert(ROW_BYTES(id) == MISHTODRAN_CHAIN_ID_BYTES, "id of a row");
+_Static_assert(ROW_BYTES(kind) == MISHTODRAN_CHAIN_KIND_BYTES, "kind of a row");
+_Static_assert(ROW_BYTES(overload) == MISHTODRAN_CHAIN_OVERLOAD_BYTES, "overload of a row");
+_Static_assert(ROW_BYTES(deadline) == MISHTODRAN_CHAIN_DEADLINE_BYTES, "deadline of a row");
+_Static_assert(ROW_BYTES(gap) == MISHTODRAN_CHAIN_GAP_BYTES, "gap of a row");
+_Static_assert(ROW_BYTES(listed) == 8 && ROW_BYTES(tasks) == 8, "counts of a row");
+_Static_assert(ROW_BYTES(list) == MISHTODRAN_MOST_DISTANCES * MISHTODRAN_DISTANCE_BYTES, "list of a row");
+_Static_assert(ROW_BYTES(priority) == MISHTODRAN_MOST_TASKS * MISHTODRAN_TASK_PRIORITY_BYTES, "priorities of a row");
+_Static_assert(ROW_BYTES(cost) == MISHTODRAN_MOST_TASKS * MISHTODRAN_TASK_COST_BYTES, "costs of a row");
 
 static void put(uint8_t *at, unsigned bytes, uint32_t value)
 {
@@ -80,6 +93,23 @@ static size_t put_table(uint8_t *table, unsigned chains, unsigned listed, unsign
     put_mark(at + MISHTODRAN_END_MARK_AT, "EN");
     put(at + MISHTODRAN_END_CHAINS_AT, MISHTODRAN_END_CHAINS_BYTES, chains);
     return (size_t)(at - table) + MISHTODRAN_END_RECORD_BYTES;
+}
+
+/* The row of such a chain; the places past its counts stay. */
+static void put_row(struct mishtodran_row *row, unsigned id, unsigned listed, unsigned tasks)
+{
+    row->id = (uint16_t)id;
+    row->kind = row->overload = 0;
+    row->deadline = MISHTODRAN_MOST_TIME;
+    row->gap = 0;
+    row->listed = listed;
+    row->tasks = tasks;
+    for (unsigned i = 0; i < listed; i++)
+        row->list[i] = MISHTODRAN_MOST_TIME;
+    for (unsigned i = 0; i < tasks; i++) {
+        row->priority[i] = MISHTODRAN_MOST_PRIORITY;
+        row->cost[i] = MISHTODRAN_MOST_COST;
+    }
 }
 
 /* ---- Cases ---- */
@@ -239,6 +269,80 @@ static bool merges_hold(void)
     return right & is_merged("a conflict", 2, 3, LONGEST_OF_ONE, MISHTODRAN_IN_CONFLICT);
 }
 
+/* Whether a row is the other one, with 0 in the places past its counts. */
+static bool is_same_row(const char *what, const struct mishtodran_row *found, const struct mishtodran_row *wanted)
+{
+    bool right = is_same(what, found->id, wanted->id) && is_same(what, found->kind, wanted->kind) &&
+                 is_same(what, found->overload, wanted->overload) && is_same(what, found->deadline, wanted->deadline) &&
+                 is_same(what, found->gap, wanted->gap) && is_same(what, found->listed, wanted->listed) &&
+                 is_same(what, found->tasks, wanted->tasks);
+    for (unsigned i = 0; i < MISHTODRAN_MOST_DISTANCES; i++)
+        right &= is_same(what, found->list[i], i < wanted->listed ? wanted->list[i] : 0);
+    for (unsigned i = 0; i < MISHTODRAN_MOST_TASKS; i++) {
+        right &= is_same(what, found->priority[i], i < wanted->tasks ? wanted->priority[i] : 0);
+        right &= is_same(what, found->cost[i], i < wanted->tasks ? wanted->cost[i] : 0);
+    }
+    return right;
+}
+
+/* Whether rows are written as this table and read back, or refused with its number. */
+static bool is_written(const char *what, const struct mishtodran_row *rows, unsigned count, const uint8_t *table,
+                       size_t length, uint32_t refusal)
+{
+    static struct mishtodran_row found[MISHTODRAN_MOST_CHAINS];
+    static uint8_t buffer[MISHTODRAN_MOST_TABLE_BYTES];
+    uint8_t answer[MISHTODRAN_WRITE_BYTES], read_answer[MISHTODRAN_READ_BYTES];
+    uint32_t returned = mishtodran_write(rows, count, buffer, sizeof buffer, answer, sizeof answer);
+    if (refusal != ACCEPTED)
+        return is_same(what, returned, refusal);
+    if (!is_same(what, returned, 0) || !is_same(what, get(answer), length) ||
+        !is_same(what, (unsigned long)memcmp(buffer, table, length), 0) ||
+        !is_same(what, mishtodran_read(buffer, length, found, count, read_answer, sizeof read_answer), 0) ||
+        !is_same(what, get(read_answer), count))
+        return false;
+    bool right = true;
+    for (unsigned i = 0; i < count; i++)
+        right &= is_same_row(what, &found[i], &rows[i]);
+    return right;
+}
+
+/* The records of a table stand where its constants say. */
+static bool is_found(const char *what, const uint8_t *table, size_t length, unsigned count)
+{
+    uint8_t answer[MISHTODRAN_RECORD_BYTES];
+    size_t record = (length - MISHTODRAN_END_RECORD_BYTES) / count;
+    bool right = true;
+    for (unsigned i = 0; i < count; i++)
+        right &= is_same(what, mishtodran_record(table, length, i + 1, answer, sizeof answer), 0) &&
+                 is_same(what, get(answer), i * record) && is_same(what, get(answer + 4), record);
+    return right & is_same(what, mishtodran_record(table, length, count + 1, answer, sizeof answer),
+                           MISHTODRAN_UNKNOWN_ID);
+}
+
+static bool rows_hold(void)
+{
+    bool right = true;
+    static uint8_t table[2 * MISHTODRAN_MOST_TABLE_BYTES];
+    static struct mishtodran_row rows[MISHTODRAN_MOST_CHAINS + 1];
+    memset(rows, 0xA5, sizeof rows);
+    for (size_t i = 0; i < sizeof count_cases / sizeof *count_cases; i++) {
+        const struct count_case *count = &count_cases[i];
+        size_t length = put_table(table, count->chains, count->listed, count->tasks);
+        for (unsigned j = 0; j < count->chains; j++)
+            put_row(&rows[j], j + 1, count->listed, count->tasks);
+        right &= is_written(count->what, rows, count->chains, table, length, count->refusal);
+        if (count->refusal == ACCEPTED)
+            right &= is_found(count->what, table, length, count->chains);
+    }
+    put_row(rows, 1, 1, 1);
+    rows->listed = MISHTODRAN_MOST_DISTANCES + 1;
+    right &= is_written("a distance too many", rows, 1, NULL, 0, MISHTODRAN_LIST_LENGTH);
+    rows->listed = 1;
+    rows->tasks = MISHTODRAN_MOST_TASKS + 1;
+    right &= is_written("a task too many", rows, 1, NULL, 0, MISHTODRAN_TASK_COUNT);
+    return right & is_written("no row", rows, 0, NULL, 0, MISHTODRAN_END);
+}
+
 /* An entry takes an answer buffer of its length, and none that is shorter. */
 #define FITS(entry, call) \
     (length = MISHTODRAN_##entry##_BYTES, is_same(#entry, (call) == MISHTODRAN_ANSWER_TOO_SHORT, false)) && \
@@ -248,8 +352,10 @@ static bool answers_hold(void)
 {
     uint8_t table[MISHTODRAN_MOST_TABLE_BYTES], old[MISHTODRAN_LEAST_CHAIN_RECORD_BYTES];
     uint8_t answer[MISHTODRAN_LATENCY_BYTES], text[MISHTODRAN_LONGEST_REPORT];
+    struct mishtodran_row row;
     size_t used = put_table(table, 1, 1, 1), length;
     put_chain(old, 1, 1, 1);
+    put_row(&row, 1, 1, 1);
     return FITS(CHECK, mishtodran_check(table, used, answer, length)) &&
            FITS(LATENCY, mishtodran_latency(table, used, 1, answer, length)) &&
            FITS(MISSES, mishtodran_misses(table, used, 1, 1, answer, length)) &&
@@ -257,15 +363,19 @@ static bool answers_hold(void)
            FITS(SAVE, mishtodran_save(table, sizeof table, used, old, sizeof old, old, sizeof old, answer, length)) &&
            FITS(MERGE, mishtodran_merge(table, used, table, used, table, used, text, sizeof text, answer, length)) &&
            FITS(CONFLICT, mishtodran_conflict(table, used, table, used, table, used, 0, answer, length)) &&
+           FITS(READ, mishtodran_read(table, used, &row, 1, answer, length)) &&
+           FITS(WRITE, mishtodran_write(&row, 1, text, sizeof text, answer, length)) &&
+           FITS(RECORD, mishtodran_record(table, used, 1, answer, length)) &&
            FITS(REPORT, mishtodran_report(table, used, text, sizeof text, answer, length));
 }
 
 int main(void)
 {
     bool version = is_same("version of the library", mishtodran_version(), MISHTODRAN_VERSION);
-    bool fields = fields_hold(), limits = limits_hold(), merges = merges_hold(), answers = answers_hold();
-    if (!version || !fields || !limits || !merges || !answers)
+    bool fields = fields_hold(), limits = limits_hold(), merges = merges_hold(), rows = rows_hold();
+    bool answers = answers_hold();
+    if (!version || !fields || !limits || !merges || !rows || !answers)
         return 1;
-    puts("the header's version, fields, limits, table's and merge's numbers and answers are the library's");
+    puts("the header's version, fields, limits, table's and merge's numbers, rows and answers are the library's");
     return 0;
 }

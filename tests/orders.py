@@ -3,7 +3,8 @@
 For every two neighbours in the documents' orders of faults and refusals that can both hold at once, and for some further
 apart, a case with both: the first decides. Beside it stands the same case with the first mended, where the second decides;
 so both do hold. Swapping the two in an order changes the answer of the first case. Of a table number and offset are told, so
-that two faults with one number are told apart by their places; of a merge its number and detail (merged.py).
+that two faults with one number are told apart by their places; of a merge its number and detail (merged.py); of a write its
+number (written.py).
 
 Not told apart, since number and place are the same: the two parts of 4, of 6 and of 9, no chain and a wrong end count, and
 the parts of 23.
@@ -12,7 +13,8 @@ chain record accepted so far ends past byte 1,280), 30 and 31 where no distance 
 distance is too large, 16 and 17 of one window, no late activation and 20 (windows without overload are never longer), 4, 2
 or 11 in the result of a save (the new record is whole and has the id of the old one), 24 and a new record under 16 bytes
 (the result is shorter than the table), any other number than 1, 9 and 11 in the result of a merge (its records are those of
-accepted tables, each id once). There 1 never stands alone: above 1,284 bytes there are over 16 chains or over 64 tasks.
+accepted tables, each id once), 1, 2 or 3 in the bytes of rows (these are whole, and their length is not judged). In a merge 1
+never stands alone: above 1,284 bytes there are over 16 chains or over 64 tasks.
 
 Run as a program it lists the pairs.
 """
@@ -21,6 +23,7 @@ from collections import namedtuple
 from merged import merge
 from stored import AT, COST_AT, COUNT_AT, LONGEST, NUMBERS, PRIORITY_AT, TIME, Verdict, save_verdict, verdict
 from table import DISTANCE, END, FIXED, TASK, chain, end, fixed_part, stored
+from written import row, write
 
 # What is told of the first and of the second, what both are about, the case in which both hold, and the one in which only
 # the second does. Told are number and offset of a table, number and detail of a merge, and the number of any other call; in
@@ -626,12 +629,108 @@ def refused_results():
 MERGE = of_tables() + two_conflicts() + refused_results()
 
 
+# ---- Writes: (rows, room) ----
+
+def row_with(id=2, kind=0, overload=0, deadline=40, gap=100, distances=(100,), tasks=((5, 10), (3, 10)), listed=None, count=None):
+    """A row that is good but for what is named; its two counts may say something else than it has."""
+    made = row(id, kind, overload, deadline, gap, distances, tasks)
+    return made._replace(listed=made.listed if listed is None else listed, tasks=made.tasks if count is None else count)
+
+
+GOOD_ROW = row_with(id=1)
+SIXTEEN_ROWS = tuple(row_with(id=i + 1, tasks=[(5, 10)] * 4) for i in range(16))
+WIDE_ROWS = tuple(row_with(id=i + 11, tasks=[(5, 10)] * 16) for i in range(4))
+
+# Counts that would be good ones if they were cut to a byte or to four, and one that wraps a sum.
+LARGE_COUNTS = [
+    *(Fault(28, AT.listed, f"list length {count}", {"listed": count}) for count in (2**8 + 1, 2**32 + 1, 2**64 - 1)),
+    *(Fault(9, AT.tasks, f"task count {count}", {"count": count}) for count in (2**8 + 2, 2**32 + 2, 2**64 - 1)),
+]
+TASK_FAULTS = [Fault(10, FIRST_TASK + at, what, {"tasks": [bad]}) for what, at, bad in BAD_TASKS]
+# Every fault of a row, in the order in which its bytes would be read: those of its fixed part, then the others.
+FIXED_ROW_FAULTS = sorted(FIXED_FAULTS + LARGE_COUNTS, key=lambda fault: fault.at)
+ROW_FAULTS = FIXED_ROW_FAULTS + LISTS + TASK_FAULTS
+
+
+def writing(first, second, what, both, later, room=MUCH_ROOM):
+    """A pair of writes into as much room."""
+    return Pair(first, second, what, (tuple(both), room), (tuple(later), room))
+
+
+def in_one_row():
+    """Every two faults of a row."""
+    return [writing(one.number, other.number, f"{one.what}, {other.what} in a row",
+                    [GOOD_ROW, row_with(**{**other.fields, **one.fields})], [GOOD_ROW, row_with(**other.fields)])
+            for i, one in enumerate(ROW_FAULTS) for other in ROW_FAULTS[i + 1:]
+            if one.number != other.number and (one.number, other.number) not in ((7, 31), (29, 30), (29, 31), (30, 31))]
+
+
+def in_one_list():
+    return [writing(29, number, f"the list of a row {what}", [GOOD_ROW, row_with(distances=both)],
+                    [GOOD_ROW, row_with(distances=later)])
+            for _, what, both, number, _, later in SEVERAL if number != 29]
+
+
+def in_two_rows():
+    """A fault of one row, and one of the next that is looked at as early in a row, or earlier."""
+    early = (FIXED_FAULTS[0], FIXED_FAULTS[2], FIXED_FAULTS[4], FIXED_FAULTS[6])
+    return [writing(one.number, other.number, f"{one.what} in a row, {other.what} in the next",
+                    [GOOD_ROW, row_with(**one.fields), row_with(**{"id": 3, **other.fields})],
+                    [GOOD_ROW, row_with(), row_with(**{"id": 3, **other.fields})])
+            for one in ROW_FAULTS for other in early if one.number != other.number and one.at >= other.at]
+
+
+def so_far():
+    """65 tasks so far, and each fault before or after it in a row."""
+    one_task = {"tasks": [(5, 10)]}
+    pairs = [writing(one.number, 9, f"{one.what}, 65 tasks so far",
+                     [*WIDE_ROWS, row_with(**{**one_task, **one.fields, **({"id": 11} if one.what == "id used" else {})})],
+                     [*WIDE_ROWS, row_with(**one_task)])
+             for one in FIXED_ROW_FAULTS if one.number != 9]
+    return pairs + [writing(9, one.number, f"65 tasks so far, {one.what}", [*WIDE_ROWS, row_with(**{**one_task, **one.fields})],
+                            [GOOD_ROW, row_with(**one.fields)])
+                    for one in LISTS + TASK_FAULTS]
+
+
+def seventeenth_row():
+    """A 17th row, and a fault in it or in the one before."""
+    pairs, fifteen, good = [], SIXTEEN_ROWS[:15], row_with(id=17)
+    for one in ROW_FAULTS:
+        bad_16, bad_17 = (row_with(**{"id": i, **one.fields}) for i in (16, 17))
+        pairs += [
+            writing(one.number, 11, f"{one.what} in the 16th row, a 17th", [*fifteen, bad_16, good], [*SIXTEEN_ROWS, good]),
+            writing(11, one.number, f"a 17th row, {one.what} in it", [*SIXTEEN_ROWS, bad_17], [*fifteen, bad_17]),
+        ]
+    wide = row_with(id=17, tasks=[(5, 10)] * 5)
+    return pairs + [
+        writing(11, 9, "a 17th row, over 64 tasks with it", [*SIXTEEN_ROWS, wide], [*fifteen, wide]),
+        writing(9, 11, "over 64 tasks with the 16th row, a 17th", [*fifteen, wide, row_with(id=18)], [*SIXTEEN_ROWS, good]),
+        writing(28, 11, "list length 0 in the 3rd of 40 rows", [*SIXTEEN_ROWS[:2], row_with(id=3, listed=0), *[good] * 37],
+                [*SIXTEEN_ROWS, *[good] * 24]),
+    ]
+
+
+def no_room():
+    """Each number before 24: no byte of room, and a byte too few."""
+    bad = [(one.number, one.what, [GOOD_ROW, row_with(**one.fields)]) for one in ROW_FAULTS]
+    bad += [(11, "a 17th row", [*SIXTEEN_ROWS, row_with(id=17)]),
+            (9, "65 tasks so far", [*WIDE_ROWS, row_with(tasks=[(5, 10)])])]
+    pairs = [writing(number, 24, f"{what}, {room} bytes of room", rows, [GOOD_ROW, row_with()], room)
+             for number, what, rows in bad for room in (0, len(TWO) - 1)]
+    return pairs + [writing(11, 24, f"no row, {room} bytes of room", [], [GOOD_ROW], room) for room in (0, END.size - 1)]
+
+
+WRITE = in_one_row() + in_one_list() + in_two_rows() + so_far() + seventeenth_row() + no_room()
+
+
 # ---- All calls, what is told of them held against the reader written from the documents ----
 
 def told_by_reader(call, told):
-    """What that reader tells: of a table, of a merge, of a save, or of a query's table."""
+    """What that reader tells: of a table, of a write, of a merge, of a save, or of a query's table."""
     if isinstance(call, bytes):
         return verdict(call)
+    if isinstance(call[0], tuple):
+        return write(*call).number
     if isinstance(call[1], bytes):
         return Verdict(*merge(*call)[:2])
     if isinstance(call[1], int) and isinstance(call[-1], bytes):
@@ -660,5 +759,5 @@ def calls(pairs):
 
 if __name__ == "__main__":
     for orders, pairs in (("table", READING), ("latency", LATENCY), ("misses", MISSES), ("segment", SEGMENT), ("save", SAVE),
-                          ("merge", MERGE)):
+                          ("merge", MERGE), ("write", WRITE)):
         print(*(f"{orders}: {shown(pair.first)} before {shown(pair.second)}: {pair.what}" for pair in pairs), sep="\n")

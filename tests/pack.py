@@ -36,6 +36,7 @@ KEYS = {  # of the cases of each file, one set of these; tests/cases/README.md h
     "read": [REFUSED, {"table", "rc", "chains"}],
     "faults": [REFUSED],
     "merge": [MERGE | {"table", "taken"}, MERGE | {"taken"}, MERGE | {"detail"}, MERGE | {"detail", "taken"}],
+    "write": [{"rows", "room", "rc"}, {"rows", "room", "rc", "table"}],
 }
 
 # The sample table of document 01, and the published case study.

@@ -2,49 +2,80 @@
 
 A report of tests/cases has a table and its text alone: its buffers are made here, as long as the text, longer, or too short.
 After the cases of the files come those that document 01 tells (pack.py), those that only an order decides (orders.py), and
-answer buffers too short for each of them. Every table of all these is checked too. Last come the merges of pack_merge.py, each
-with its conflicts one after the other.
+answer buffers too short for each of them. Every table of all these is checked too. Then come the merges of pack_merge.py, each
+with its conflicts one after the other, and the writes of pack_write.py. Last, every table and every result is read into rows, too
+few of them too, its records are found, and the rows that were read are written back.
 
 Packed, little-endian: for each case the entry (1 byte: 0 latency, 1 misses, 2 segment, 3 save, 4 report, 5 check, 6 merge,
-7 conflict); its name (1 byte of length, text); three numbers (8 bytes each: id; id, k; a, b, n; used; none; none; none;
-above); what it returns (4 bytes); then, before the call, the table or buffer, the old record, the new record, the text and the
-answer, and after it the table or buffer, the text and the answer: 2 bytes of length, then the bytes, or the length 65,535
-alone for no change. The ancestor of a merge stands in the table's place, its copies in those of the records, and its buffer in
-that of the text.
+7 conflict, 8 read, 9 write, 10 record); its name (1 byte of length, text); three numbers (8 bytes each: id; id, k; a, b, n; used;
+none; none; none; above; how many rows are filled, which is not lent; none; id); what it returns (4 bytes); then the slices.
+Before the call, the table or buffer, the old record, the new record, the text and the answer: 2 bytes of length and the bytes;
+or 65,535 and 2 bytes of length, for as many bytes of junk (`lent`); or 65,534 alone, where they are those of the case before.
+After it the table or buffer, the text and the answer: 2 bytes, how many of the first bytes to compare with those that follow;
+the others stay. The ancestor of a merge stands in the table's place, its copies in those of the records, and its buffer in that
+of the text. So does the buffer of a write, whose rows are in the table's place; those of a read are in that of the text. Rows are
+packed as they stand in memory.
 """
 import struct
+from collections import namedtuple
 
 import orders
 import pack
 import pack_merge
+import pack_write
 from merged import conflicts, first_fault, merge, next_conflict
-from stored import NUMBERS
+from stored import NUMBERS, records
+from table import fixed_part
+from written import ROW, in_memory, rows_of, write
 
-SAME = 65535
-ENTRIES = ("latency", "misses", "segment", "save", "report", "check", "merge", "conflict")
-ANSWER_BYTES = {"latency": 16, "misses": 4, "segment": 8, "save": 4, "report": 4, "check": 8, "merge": 4, "conflict": 4}
+JUNK, AS_BEFORE = 65535, 65534
+ANSWER_BYTES = {"latency": 16, "misses": 4, "segment": 8, "save": 4, "report": 4, "check": 8, "merge": 4, "conflict": 4,
+                "read": 4, "write": 4, "record": 8}
+ENTRIES = [*ANSWER_BYTES]
+
+# A call of an entry, what it returns, and the slices lent to it, in the order in which they are packed: `before` all of them,
+# `after` those that may change, None where one does not.
+Call = namedtuple("Call", "entry name numbers rc before after")
 
 
-def slice_of(data):
-    if data is None:
-        return struct.pack("<H", SAME)
-    assert len(data) < SAME
-    return struct.pack("<H", len(data)) + data
-
-
-def packed(entry, name, numbers, rc, table, answer, after=None, old=b"", new=b"", table_after=None, text=b"", text_after=None):
-    """A case; None stands for no change."""
-    label = name.encode()[:255]
-    numbers = list(numbers) + [0] * (3 - len(numbers))
+def call(entry, name, numbers, rc, table, answer, after=None, old=b"", new=b"", table_after=None, text=b"", text_after=None):
     for before, changed in ((table, table_after), (text, text_after), (answer, after)):
         assert changed is None or len(changed) == len(before), f"{name}: a slice changes its length"
-    return (struct.pack("<BB", ENTRIES.index(entry), len(label)) + label + struct.pack("<QQQI", *numbers, rc)
-            + b"".join(slice_of(data) for data in (table, old, new, text, answer, table_after, text_after, after)))
+    return Call(entry, name, [*numbers, 0, 0, 0][:3], rc, (table, old, new, text, answer), (table_after, text_after, after))
+
+
+# ---- Packing ----
+
+LENT = bytes((0x5A + 11 * i) % 256 for i in range(256)) * 255
 
 
 def lent(length):
     """Bytes of a buffer before a call."""
-    return bytes((0x5A + 11 * i) % 256 for i in range(length))
+    return LENT[:length]
+
+
+def packed_before(data, last):
+    """A slice before the call, after one that had these bytes in its place."""
+    assert len(data) < AS_BEFORE
+    if data == last:
+        return struct.pack("<H", AS_BEFORE)
+    return struct.pack("<HH", JUNK, len(data)) if data == lent(len(data)) else struct.pack("<H", len(data)) + data
+
+
+def packed_after(before, after):
+    """A slice after the call, up to the last byte that has changed."""
+    changed = 0 if after is None else len(after)
+    while changed and after[changed - 1] == before[changed - 1]:
+        changed -= 1
+    return struct.pack("<H", changed) + (after or b"")[:changed]
+
+
+def packed(one, last):
+    """A call, after one that lent these slices."""
+    label, (table, _, _, text, answer) = one.name.encode()[:255], one.before
+    return b"".join([
+        struct.pack("<BB", ENTRIES.index(one.entry), len(label)), label, struct.pack("<QQQI", *one.numbers, one.rc),
+        *map(packed_before, one.before, last), *map(packed_after, (table, text, answer), one.after)])
 
 
 def written(answer, buffer):
@@ -75,13 +106,13 @@ def of_file(name, turn, case):
         return reports(name, turn, bytes.fromhex(case["table"]), case["text"].encode("ascii"))
     entry, numbers = entry_of(case)
     table = bytes_of(case, "buffer" if entry == "save" else "table")
-    return [packed(entry, name, numbers, case["rc"], table, bytes_of(case, "answer"), bytes_of(case, "after"),
+    return [call(entry, name, numbers, case["rc"], table, bytes_of(case, "answer"), bytes_of(case, "after"),
                    old=bytes_of(case, "old") or b"", new=bytes_of(case, "new") or b"",
                    table_after=bytes_of(case, "buffer_after"))]
 
 
 def accepted_report(name, table, told, text, answer):
-    return packed("report", name, (), 0, table, answer, written(struct.pack("<I", len(told)), answer), text=text,
+    return call("report", name, (), 0, table, answer, written(struct.pack("<I", len(told)), answer), text=text,
                   text_after=written(told, text))
 
 
@@ -93,7 +124,7 @@ def reports(name, turn, table, told):
     if turn % 3 == 0:
         refused = ((24, short, 4), (27, short + 1, 3), (24, 0, 8), (27, short, 3), (27, 0, 0))
         rc, room, answer = refused[turn // 3 % len(refused)]
-        found.append(packed("report", f"{name}, {room} bytes of text", (), rc, table, lent(answer), text=lent(room)))
+        found.append(call("report", f"{name}, {room} bytes of text", (), rc, table, lent(answer), text=lent(room)))
     return found
 
 
@@ -103,15 +134,15 @@ def documented():
     for table, ident, rc, k, latency, late, margin in pack.LATENCIES:
         answer = lent(16 + 3)
         after = written(struct.pack("<IIIi", k, latency, late, margin), answer) if rc == 0 else None
-        yield packed("latency", f"document 01, chain {ident}", (ident,), rc, table, answer, after)
+        yield call("latency", f"document 01, chain {ident}", (ident,), rc, table, answer, after)
     for table, ident, k, misses in pack.MISSES:
-        yield packed("misses", f"document 01, chain {ident}", (ident, k), 0, table, lent(4), struct.pack("<I", misses))
+        yield call("misses", f"document 01, chain {ident}", (ident, k), 0, table, lent(4), struct.pack("<I", misses))
     for table, told in pack.REPORTS:
         told = told.encode("ascii")
         for more in (0, 1):
             yield accepted_report(f"document 01, {more} bytes more", table, told, lent(len(told) + more), lent(4))
         for rc, room, answer in ((24, len(told) - 1, 4), (27, len(told) - 1, 3), (27, len(told), 0)):
-            yield packed("report", f"document 01, {room} bytes of text", (), rc, table, lent(answer), text=lent(room))
+            yield call("report", f"document 01, {room} bytes of text", (), rc, table, lent(answer), text=lent(room))
 
 
 # ---- Cases that only an order decides ----
@@ -131,7 +162,7 @@ def two_refusals():
     for entry, name, numbers, table, old, new, rc in ordered():
         answer = lent(ANSWER_BYTES[entry])
         after = bytes(4) if rc == 0 else None  # misses of 0
-        yield packed(entry, name, numbers, rc, table, answer, after, old, new)
+        yield call(entry, name, numbers, rc, table, answer, after, old, new)
 
 
 def short_answers():
@@ -139,12 +170,12 @@ def short_answers():
     for turn, (entry, name, numbers, table, old, new, rc) in enumerate(ordered()):
         if entry != "latency" or rc not in NUMBERS:
             answer = lent(0 if turn % 5 == 0 else ANSWER_BYTES[entry] - 1)
-            yield packed(entry, f"27 before {name}", numbers, 27, table, answer, old=old, new=new)
+            yield call(entry, f"27 before {name}", numbers, 27, table, answer, old=old, new=new)
     for number, table in orders.REFUSED.items():
         for entry, numbers in (("latency", (1,)), ("misses", (1, 10)), ("segment", (1, 2, 1)), ("save", (len(table),)),
                                ("check", ())):
-            yield packed(entry, f"27 before {number}", numbers, 27, table, lent(ANSWER_BYTES[entry] - 1))
-        yield packed("report", f"27 before 24, a table refused {number}", (), 27, table, lent(3), text=lent(9))
+            yield call(entry, f"27 before {number}", numbers, 27, table, lent(ANSWER_BYTES[entry] - 1))
+        yield call("report", f"27 before 24, a table refused {number}", (), 27, table, lent(3), text=lent(9))
 
 
 # ---- Every table, checked ----
@@ -153,10 +184,10 @@ def checks():
     """The answer in a buffer that it just fits or a longer one, by turns; and every fourth time one that is too short."""
     for turn, (name, table, told) in enumerate(pack.tables()):
         answer = lent(ANSWER_BYTES["check"] + (0, 1, 0, 5)[turn % 4])
-        yield packed("check", f"check, {name}", (), 0, table, answer, written(struct.pack("<II", *told), answer))
+        yield call("check", f"check, {name}", (), 0, table, answer, written(struct.pack("<II", *told), answer))
         if turn % 4 == 0:
             short = lent((7, 0, 4, 1)[turn // 4 % 4])
-            yield packed("check", f"check, {name}, {len(short)} bytes of answer", (), 27, table, short)
+            yield call("check", f"check, {name}, {len(short)} bytes of answer", (), 27, table, short)
 
 
 # ---- Merges ----
@@ -166,7 +197,7 @@ def of_merge(name, tables, room, spare):
     ancestor, first, second = tables
     found, buffer, answer = merge(*tables, room), lent(room), lent(ANSWER_BYTES["merge"] + spare)
     accepted = found.number == 0
-    return packed("merge", name, (), found.number, ancestor, answer, old=first, new=second, text=buffer,
+    return call("merge", name, (), found.number, ancestor, answer, old=first, new=second, text=buffer,
                   after=written(struct.pack("<I", len(found.result)), answer) if accepted else None,
                   text_after=written(found.result, buffer) if accepted else None)
 
@@ -179,7 +210,7 @@ def of_conflicts(name, tables, spare):
     found = [] if number else conflicts(*tables)
     for above in [0, *found] + ([found[-1] - 1, 65_536, 2**32 - 1] if found else []):
         after = None if number else written(struct.pack("<I", next_conflict(tables, above)), answer)
-        yield packed("conflict", f"{name}, conflicts above {above}", (above,), number, ancestor, answer, after, first, second)
+        yield call("conflict", f"{name}, conflicts above {above}", (above,), number, ancestor, answer, after, first, second)
 
 
 def merges():
@@ -189,7 +220,93 @@ def merges():
         yield from of_conflicts(name, tables, (0, 0, 1, 5)[turn % 4])
         ancestor, first, second = tables
         for entry, length, buffer in (("merge", turn % 4, lent(min(room, 8))), ("conflict", 3 - turn % 4, b"")):
-            yield packed(entry, f"{entry}, 27 before {name}", (), 27, ancestor, lent(length), old=first, new=second, text=buffer)
+            yield call(entry, f"{entry}, 27 before {name}", (), 27, ancestor, lent(length), old=first, new=second, text=buffer)
+
+
+# ---- Rows ----
+
+def of_write(name, rows, room, spare):
+    """The write, into an answer buffer that has so many bytes to spare."""
+    found, buffer, answer = write(rows, room), lent(room), lent(ANSWER_BYTES["write"] + spare)
+    accepted = found.number == 0
+    return call("write", name, (), found.number, in_memory(rows, pack_write.PADDING), answer, text=buffer,
+                after=written(struct.pack("<I", len(found.table)), answer) if accepted else None,
+                text_after=written(found.table, buffer) if accepted else None)
+
+
+def writes():
+    """Each write, and 27 for it; that comes before all else, so a short buffer will do for it."""
+    for turn, (name, rows, room) in enumerate(pack_write.calls()):
+        yield of_write(name, rows, room, turn % 3)
+        yield call("write", f"write, 27 before {name}", (), 27, in_memory(rows, pack_write.PADDING), lent(turn % 4),
+                   text=lent(min(room, 8)))
+
+
+def of_read(name, table, number, room, spare):
+    """The read into so many rows, full of junk; where it is accepted, its number is how many it fills."""
+    rows, answer = lent(ROW.size * room), lent(ANSWER_BYTES["read"] + spare)
+    found = [] if number else rows_of(table)
+    if number or len(found) > room:
+        return call("read", f"{name}, {room} rows", (), number or 24, table, answer, text=rows)
+    return call("read", f"{name}, {room} rows", (len(found),), 0, table, answer, written(struct.pack("<I", len(found)), answer),
+                text=rows, text_after=written(in_memory(found), rows))
+
+
+def reads(turn, name, table, number):
+    """A refused table into none to three rows. An accepted one into as many as it has chains, or more; and into too few."""
+    if number:
+        return [of_read(name, table, number, turn % 4, turn % 3)]
+    count = len(rows_of(table))
+    more, fewer = (0, 1, 0, 16 - count, 40 - count)[turn % 5], (1, count, 1 + count // 2)[turn % 3]
+    return [of_read(name, table, 0, count + more, turn % 3), of_read(name, table, 0, count - fewer, turn % 2)]
+
+
+def of_record(name, table, number, ident):
+    answer = lent(ANSWER_BYTES["record"] + ident % 3)
+    places = [] if number else [(at, after - at) for at, after in records(table) if fixed_part(table, at).id == ident]
+    after = written(struct.pack("<II", *places[0]), answer) if places else None
+    return call("record", f"{name}, id {ident}", (ident,), number or (0 if places else 12), table, answer, after)
+
+
+def finds(turn, name, table, number):
+    """The record of each id, and of one that the table has not; of a refused table one call."""
+    known = [] if number else [fixed_part(table, at).id for at, _ in records(table)]
+    other = next(ident for ident in range(1, 65_536) if ident not in known)
+    unknown = (0, other, 65_536 + (known or [1])[0], 2**32 - 1)[turn % 4]
+    return [of_record(name, table, number, ident) for ident in [*known, unknown]]
+
+
+def results():
+    """The tables that accepted saves, merges and writes come to, each with the name of its case."""
+    for turn, case in enumerate(pack.cases("save"), 1):
+        if case["rc"] == 0:
+            used, = struct.unpack_from("<I", bytes_of(case, "after"))
+            yield f"result of save:{turn}", (bytes_of(case, "buffer_after") or bytes_of(case, "buffer"))[:used]
+    for name, call_of in pack_merge.calls():
+        yield f"result of {name}", merge(*call_of).result
+    for name, rows, room in pack_write.calls():
+        yield f"result of {name}", write(rows, room).table
+
+
+def known_tables():
+    """Every table that is tried anywhere, and every result; with name and number."""
+    found = {table: (name, told.number) for name, table, told in pack.tables()}
+    for name, table in results():
+        if table:  # none where the call is refused
+            found.setdefault(table, (name, 0))
+    return [(name, table, number) for table, (name, number) in found.items()]
+
+
+def rows_and_records():
+    """Each table read, and its records; every third time 27 for both; and what is read, written back."""
+    for turn, (name, table, number) in enumerate(known_tables()):
+        yield from reads(turn, f"read, {name}", table, number)
+        yield from finds(turn, f"record, {name}", table, number)
+        if turn % 3 == 0:
+            yield call("read", f"read, 27 before {name}", (), 27, table, lent(turn % 4), text=lent(ROW.size * (turn % 2)))
+            yield call("record", f"record, 27 before {name}", (1,), 27, table, lent(turn % 8))
+        if number == 0:
+            yield of_write(f"written back, {name}", rows_of(table), len(table) + (0, 7, 200)[turn % 3], turn % 2)
 
 
 def of_files():
@@ -198,5 +315,10 @@ def of_files():
             yield from of_file(name, turn, case)
 
 
+def calls():
+    return [*of_files(), *documented(), *two_refusals(), *short_answers(), *checks(), *merges(), *writes(), *rows_and_records()]
+
+
 def everything():
-    return [*of_files(), *documented(), *two_refusals(), *short_answers(), *checks(), *merges()]
+    found = calls()
+    return map(packed, found, [(b"",) * 5, *(one.before for one in found)])

@@ -99,8 +99,11 @@ def end_fault(s, at, chains):
 
 def verdict(s):
     """The first fault of document 01, 'Stored table', at its offset, or ACCEPTED."""
-    if not 1 <= len(s) <= LONGEST:
-        return Verdict(1, 0)
+    return verdict_of_records(s) if 1 <= len(s) <= LONGEST else Verdict(1, 0)
+
+
+def verdict_of_records(s):
+    """The same with the check of the length left out."""
     at, ids, total = 0, [], 0
     while True:
         if len(s) < at + MARK:
