@@ -204,12 +204,12 @@ note_made() {
 }
 
 # c_program NAME SOURCE WORDS..: builds target/FOLDER/NAME of these words, FOLDER being the source's, unless it was made of
-# just the same: words, files among them, compiler, FOLDER and include/. Sets c_program to it.
+# just the same: words, files among them, compiler, the C files of FOLDER, and include/. Sets c_program to it.
 c_program() {
     local program=$1 folder files from word
     folder=${2%/*}
     folder=${folder##*/}
-    files=("$folder" include)
+    files=("$top/$folder"/*.[ch] include)
     shift
     for word in "$@"; do
         [ ! -f "$word" ] || files+=("$word")

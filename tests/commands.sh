@@ -279,6 +279,8 @@ texts() {
         "*rt staticlib editor"$'\n'"$built" ./mishtodran text examples/sample.table
     expect 0 $'ran rows for table.py\n<--text>' "" "" ./mishtodran text
     expect 0 $'ran rows for table.py\n<examples/sample.txt><new>' "" "" ./mishtodran table examples/sample.txt new
+    echo "# more" >>"$copy/examples/sample.txt"
+    expect 0 "*" "" "" ./mishtodran text
     echo >>"$copy/examples/rows.c"
     expect 0 "*" "mishtodran: compiling rows" "$built" ./mishtodran text
     echo more >"$copy/crates/search/src/lib.rt"
