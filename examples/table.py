@@ -1,76 +1,81 @@
 #!/usr/bin/env python3
 """Makes a stored table from text, and text from a stored table.
 
-Usage: table.py TEXT TABLE     makes the table of a text
-       table.py --text TABLE   prints the text of a table
+Usage: table.py TEXT TABLE       makes the table of a text
+       table.py --text [TABLE]   prints the text of a table, in a file or on standard input
 
 The text has a line for each chain, then a line for each of its tasks, in order; '#' starts a comment:
 
     chain ID synchronous|asynchronous [overload] deadline D gap G list D2 D3 ..
     task PRIORITY COST
 
-Numbers are decimal digits, as large as their bytes hold. Each chain has a distance and a task. Nothing else is judged here:
-`mishtodran check` does that. The text of a table gives the same bytes again.
+Numbers are decimal digits. What a table may hold is judged by the library, which makes and reads its bytes: the program rows
+(examples/rows.c) asks it. `./mishtodran table` and `./mishtodran text` build that program and call this one. The environment
+variable MISHTODRAN_ROWS names it otherwise, words as in a shell, so that an emulator can stand before it. The text of a table
+gives the same bytes again.
 
-A mistake in a text is told as FILE:LINE: WHAT, one in a table as FILE: offset N: WHAT, on standard error. The exit status is
-then 2 and the target stays as it was; else it is 0.
+A mistake in a text is told as FILE:LINE: WHAT, a rule that a chain breaks as FILE:LINE: refused N: WHY, with the chain's line,
+and a refused table as FILE: refused N at byte B: WHY, on standard error. The exit status is 0; 1 where something is refused;
+2 where there is a mistake, a wrong use, or something cannot be read, written or run. But for 0 the target stays as it was.
 """
 import errno
 import os
+import re
+import shlex
 import stat
-import struct
+import subprocess
 import sys
 import tempfile
 from collections import deque, namedtuple
+from itertools import chain as joined
 from reprlib import repr as shown
 
-# Records, little-endian (docs/TABLE.md). A chain record is its fixed part, its distances and its tasks.
-CHAIN_MARK, TASK_MARK, END_MARK = b"CH", b"TK", b"EN"
-Fixed = namedtuple("Fixed", "mark id kind overload deadline gap listed tasks")
-FIXED = struct.Struct("<2sHBBIIBB")
-DISTANCE = struct.Struct("<I")
-TASK = struct.Struct("<2sHI")  # mark, priority, cost
-END = struct.Struct("<2sH")  # mark, number of chains
-
 KINDS = ("synchronous", "asynchronous")
-U8, U16, U32 = 2**8 - 1, 2**16 - 1, 2**32 - 1
-LONGEST_TABLE, LONGEST_TEXT = 2**18, 2**20  # bytes of a file that is read; the text of such a table is shorter
+U16, U32 = 2**16 - 1, 2**32 - 1  # the widths of a row's numbers
+LONGEST_TEXT = 2**20  # bytes of a file that is read
 TOLD = 20  # mistakes of a text
+BUILT = os.path.join(os.path.dirname(os.path.dirname(os.path.realpath(__file__))), "target", "examples", "rows")
 
 
 class Mistake(Exception):
-    """What is wrong with a text, a line for each mistake, or with the bytes of a table."""
+    """What is wrong with a text, a line for each mistake."""
 
 
-# ---- Records ----
-
-def chain(id, kind, overload, deadline, gap, distances, tasks):
-    """A chain record; a task is its priority and its cost."""
-    fixed = FIXED.pack(CHAIN_MARK, id, kind, overload, deadline, gap, len(distances), len(tasks))
-    return fixed + b"".join(map(DISTANCE.pack, distances)) + b"".join(TASK.pack(TASK_MARK, *task) for task in tasks)
+class Refused(Exception):
+    """What the library refuses: its number, the row or the byte at fault, and why."""
 
 
-def end(count):
-    return END.pack(END_MARK, count)
+class Failed(Exception):
+    """Why the program rows gives nothing."""
 
 
-def stored(*chains):
-    """The table of these chain records."""
-    return b"".join(chains) + end(len(chains))
+# ---- The program rows ----
 
-
-def fixed_part(s, at):
-    return Fixed(*FIXED.unpack_from(s, at))
-
-
-def record_length(fixed):
-    """Bytes of a chain record, by its two counts."""
-    return FIXED.size + DISTANCE.size * fixed.listed + TASK.size * fixed.tasks
+def rows(verb, **given):
+    """What `rows read` or `rows write` makes of its standard input, given as bytes (input) or as an open file (stdin)."""
+    try:
+        words = shlex.split(os.environ.get("MISHTODRAN_ROWS", ""))
+    except ValueError as error:
+        raise Failed(f"MISHTODRAN_ROWS: {error}") from None
+    if not words and not os.path.exists(BUILT):
+        raise Failed(f"there is no program {BUILT}: ./mishtodran table builds it")
+    words = words or [BUILT]
+    try:
+        done = subprocess.run([*words, verb], stdout=subprocess.PIPE, stderr=subprocess.PIPE, check=False, **given)
+    except OSError as error:
+        raise Failed(f"{words[0]}: {error.strerror}; MISHTODRAN_ROWS names the command that runs the program rows") from None
+    said = done.stderr.decode("utf-8", "replace").rstrip("\n")
+    refused = re.fullmatch(r"refused (\d+) (?:in row|at byte) (\d+): (.+)", said)
+    if done.returncode == 1 and refused:
+        raise Refused(int(refused[1]), int(refused[2]), refused[3])
+    if done.returncode != 0 or not done.stdout:
+        raise Failed(f"{words[-1]} {verb} gives nothing, status {done.returncode}: {said}")
+    return done.stdout
 
 
 # ---- From text ----
 
-Written = namedtuple("Written", "line fields tasks")  # a chain of a text
+Written = namedtuple("Written", "line fields distances tasks")  # a chain of a text
 
 
 def take(words, what):
@@ -95,8 +100,8 @@ def number(words, what, greatest):
     return int(digits)
 
 
-def chain_fields(words):
-    """What stands on a chain's line after 'chain': id, kind, overload, deadline, gap and distances."""
+def read_chain(words, written):
+    """Adds what stands on a chain's line after 'chain': id, kind, overload, deadline and gap, and the distances."""
     ident = number(words, "the id", U16)
     kind = take(words, "the kind")
     if kind not in KINDS:
@@ -110,36 +115,36 @@ def chain_fields(words):
     keyword(words, "gap")
     gap = number(words, "the gap", U32)
     keyword(words, "list")
-    distances = [number(words, "the first distance", U32)]
+    written.fields.extend((ident, KINDS.index(kind), overload, deadline, gap))
+    written.distances.append(number(words, "the first distance", U32))
     while words:
-        distances.append(number(words, "a distance", U32))
-    if len(distances) > U8:
-        raise Mistake(f"{len(distances)} distances, and at most {U8} can be counted")
-    return ident, KINDS.index(kind), overload, deadline, gap, distances
+        written.distances.append(number(words, "a distance", U32))
 
 
 def read_line(line, words, chains):
     """Adds what stands on a line to the chains."""
     first = words.popleft()
     if first == "chain":
-        chains.append(Written(line, [], []))
-        chains[-1].fields.extend(chain_fields(words))
+        chains.append(Written(line, [], [], []))
+        read_chain(words, chains[-1])
     elif first == "task":
         if not chains:
             raise Mistake("a task before the first chain")
-        tasks = chains[-1].tasks
-        tasks.append((number(words, "the priority", U16), number(words, "the cost", U32)))
+        chains[-1].tasks.append((number(words, "the priority", U16), number(words, "the cost", U32)))
         if words:
             raise Mistake(f"{shown(words[0])} is a word too many")
-        if len(tasks) > U8:
-            raise Mistake(f"task {len(tasks)} of its chain, and at most {U8} can be counted")
     else:
         raise Mistake(f"{shown(first)} is neither 'chain' nor 'task'")
 
 
-def table_of(text):
-    """The stored table of a text, given as bytes."""
-    lines = text.decode("utf-8-sig", "replace").split("\n")
+def row_of(written):
+    """A chain as the program rows takes it."""
+    counts = len(written.distances), len(written.tasks)
+    return " ".join(map(str, joined(written.fields, counts, written.distances, *written.tasks))) + "\n"
+
+
+def chains_of(lines):
+    """The chains of a text's lines."""
     chains, mistakes = [], []
     for line, content in enumerate(lines, 1):
         words = deque(content.split("#")[0].split())
@@ -148,66 +153,40 @@ def table_of(text):
                 read_line(line, words, chains)
         except Mistake as mistake:
             mistakes.append(f"{line}: {mistake}")
-    if not mistakes:
-        mistakes = [f"{written.line}: the chain has no task" for written in chains if not written.tasks]
-        if not chains:
-            mistakes = [f"{len(lines)}: the text ends without a chain"]
     if mistakes:
         raise Mistake(*mistakes)
-    return stored(*(chain(*written.fields, written.tasks) for written in chains))
+    return chains
+
+
+def table_of(text):
+    """The stored table of a text, given as bytes. It is refused at a line, without any chain at the last one."""
+    lines = text.decode("utf-8-sig", "replace").split("\n")
+    chains = chains_of(lines)
+    try:
+        return rows("write", input="".join(map(row_of, chains)).encode("ascii"))
+    except Refused as refused:
+        refusal, row, why = refused.args
+        raise Refused(refusal, chains[row - 1].line if row else len(lines), why) from None
 
 
 # ---- To text ----
 
-def part(layout, s, at, what):
-    """The fields that stand at an offset."""
-    if len(s) < at + layout.size:
-        raise Mistake(f"offset {at}: {what} is cut off")
-    return layout.unpack_from(s, at)
+def chain_text(row):
+    """The lines of a chain, given as the program rows gives it."""
+    ident, kind, overload, deadline, gap, listed, tasks, *rest = map(int, row.split())
+    distances, rest = rest[:listed], rest[listed:]
+    words = ["chain", ident, KINDS[kind], *["overload"] * overload, "deadline", deadline, "gap", gap, "list", *distances]
+    return [words, *(["task", *rest[2 * turn:2 * turn + 2]] for turn in range(tasks))]
 
 
-def chain_text(s, at):
-    """The lines of the chain record at an offset."""
-    fixed = Fixed(*part(FIXED, s, at, "a chain record"))
-    name = f"chain {fixed.id}"
-    if fixed.kind > 1 or fixed.overload > 1:
-        raise Mistake(f"offset {at}: {name} has kind {fixed.kind} and overload {fixed.overload}: text has words for 0 and 1")
-    if fixed.listed == 0 or fixed.tasks == 0:
-        raise Mistake(f"offset {at}: {name} has {fixed.listed} distances and {fixed.tasks} tasks: text has one of each at least")
-    at += FIXED.size
-    words = [name, KINDS[fixed.kind], *["overload"] * fixed.overload, f"deadline {fixed.deadline} gap {fixed.gap} list"]
-    for _ in range(fixed.listed):
-        words += map(str, part(DISTANCE, s, at, f"the list of {name}"))
-        at += DISTANCE.size
-    lines = [" ".join(words)]
-    for turn in range(1, fixed.tasks + 1):
-        mark, priority, cost = part(TASK, s, at, f"task {turn} of {name}")
-        if mark != TASK_MARK:
-            raise Mistake(f"offset {at}: no task record, and task {turn} of {name} is due")
-        lines.append(f"task {priority} {cost}")
-        at += TASK.size
-    return lines
-
-
-def text_of(s):
-    """The text of a stored table."""
-    at, chains, lines = 0, 0, []
-    while s.startswith(CHAIN_MARK, at):
-        lines += chain_text(s, at)
-        at += record_length(fixed_part(s, at))
-        chains += 1
-    if at == len(s):
-        raise Mistake(f"offset {at}: the bytes end without an end record")
-    if not s.startswith(END_MARK, at):
-        raise Mistake(f"offset {at}: neither a chain record nor the end record")
-    _, count = part(END, s, at, "the end record")
-    if chains == 0:
-        raise Mistake(f"offset {at}: no chain record before the end record")
-    if count != chains:
-        raise Mistake(f"offset {at}: the end record says {count} chains, and there are {chains}")
-    if len(s) > at + END.size:
-        raise Mistake(f"offset {at + END.size}: {len(s) - at - END.size} bytes after the end record")
-    return "\n".join(lines) + "\n"
+def text_of(**table):
+    """The text of a stored table, given as bytes (input) or as an open file (stdin)."""
+    given = rows("read", **table)
+    try:
+        lines = [line for row in given.decode("ascii").splitlines() for line in chain_text(row)]
+    except (ValueError, IndexError):
+        raise Failed(f"the program rows gives no rows, but {shown(given)}") from None
+    return "".join(" ".join(map(str, words)) + "\n" for words in lines)
 
 
 # ---- Files ----
@@ -279,6 +258,9 @@ def say(line):
 
 def make(text, table):
     """Makes the table of a text, in files; the exit status."""
+    must_be_replaceable(table)
+    if os.path.exists(table) and os.path.samefile(text, table):
+        raise OSError(errno.EINVAL, "the text itself, which would be lost", table)
     try:
         made = table_of(read(text, LONGEST_TEXT))
     except Mistake as mistake:
@@ -287,19 +269,22 @@ def make(text, table):
         if len(mistake.args) > TOLD:
             say(f"{text}: {len(mistake.args) - TOLD} mistakes more")
         return 2
-    if os.path.exists(table) and os.path.samefile(text, table):
-        raise OSError(errno.EINVAL, "the text itself, which would be lost", table)
+    except Refused as refused:
+        refusal, line, why = refused.args
+        say(f"{text}:{line}: refused {refusal}: {why}")
+        return 1
     replace(table, made)
     return 0
 
 
-def show(table):
-    """Prints the text of a table in a file; the exit status."""
+def show(name, table):
+    """Prints the text of a table in an open file of this name; the exit status."""
     try:
-        text = text_of(read(table, LONGEST_TABLE))
-    except Mistake as mistake:
-        say(f"{table}: {mistake}")
-        return 2
+        text = text_of(stdin=table)
+    except Refused as refused:
+        refusal, at, why = refused.args
+        say(f"{name}: refused {refusal} at byte {at}: {why}")
+        return 1
     print_text(text)
     return 0
 
@@ -309,11 +294,18 @@ def main(words):
         if words in (["-h"], ["--help"]):
             print_text(__doc__)
             return 0
+        if words == ["--text"]:
+            if not sys.stdin:
+                raise OSError(errno.EBADF, "it is closed", "standard input")
+            return show("standard input", sys.stdin)
         if len(words) == 2 and words[0] == "--text" and not words[1].startswith("-"):
-            return show(words[1])
+            with open(words[1], "rb") as table:
+                return show(words[1], table)
         if len(words) == 2 and not any(word.startswith("-") for word in words):
             return make(*words)
-        say("table.py: usage: table.py TEXT TABLE, or table.py --text TABLE; a file's name that begins with - as ./-NAME")
+        say("table.py: usage: table.py TEXT TABLE, or table.py --text [TABLE]; a file's name that begins with - as ./-NAME")
+    except Failed as failed:
+        say(f"table.py: {failed}")
     except OSError as error:
         say(f"table.py: {error.filename}: {error.strerror}")
     return 2

@@ -151,6 +151,14 @@ c_run() {
     "${c_runner[@]}" "$@"
 }
 
+# quoted WORDS..: the words as one text, which a shell takes apart again.
+quoted() {
+    local word
+    for word in "$@"; do
+        printf "'%s' " "${word//\'/\'\\\'\'}"
+    done
+}
+
 # run_proved PROGRAM: runs one that rt has linked, with the toolchain's C library.
 run_proved() {
     local lib
@@ -195,20 +203,23 @@ note_made() {
         fail "$top/target cannot be written"
 }
 
-# c_program NAME WORDS..: builds target/compare/NAME of these words, unless it was made of just the same: words, files
-# among them, compiler, compare/ and include/. Sets c_program to it.
+# c_program NAME SOURCE WORDS..: builds target/FOLDER/NAME of these words, FOLDER being the source's, unless it was made of
+# just the same: words, files among them, compiler, the C files of FOLDER, and include/. Sets c_program to it.
 c_program() {
-    local program=$1 files=(compare include) from word
+    local program=$1 folder files from word
+    folder=${2%/*}
+    folder=${folder##*/}
+    files=("$top/$folder"/*.[ch] include)
     shift
     for word in "$@"; do
         [ ! -f "$word" ] || files+=("$word")
     done
     from=$(fingerprint "$("$c_compiler" --version) ${c_flags[*]} $*" "${files[@]}")
-    c_program=$top/target/compare/$program
+    c_program=$top/target/$folder/$program
     lock
     if ! is_made "$program" "$c_program" "$from"; then
         say "compiling $program"
-        { mkdir -p "$top/target/compare" && c_build "$c_program" "$@"; } || fail "$program was not built"
+        { mkdir -p "$top/target/$folder" && c_build "$c_program" "$@"; } || fail "$program was not built"
         note_made "$program" "$c_program" "$from"
     fi
     unlock

@@ -268,6 +268,35 @@ compiled_programs() {
     expect 0 "ran bench 1" "compare: compiling bench" "gcc *<-DWITH_GLPK>*" ./mishtodran bench
 }
 
+# The commands for text: they build the library and the program rows where something has changed, and give table.py its words
+# and the command that runs the program. Python's stand-in runs that, and ends with the status in $room/ends.
+texts() {
+    local built="gcc *rows.c> <-I> <$copy/target/mishtodran> <$copy/target/mishtodran/libmishtodran.a>" status
+    stand_in "$tools/python3" <<<'eval "$MISHTODRAN_ROWS for ${1##*/}" && shift && printf "<%s>" "$@" && exit "$(cat "$ROOM/ends")"'
+    echo 0 >"$room/ends"
+    rm -rf "$copy/target"
+    expect 0 $'ran rows for table.py\n<--text><examples/sample.table>' "*built the library in*mishtodran: compiling rows" \
+        "*rt staticlib editor"$'\n'"$built" ./mishtodran text examples/sample.table
+    expect 0 $'ran rows for table.py\n<--text>' "" "" ./mishtodran text
+    expect 0 $'ran rows for table.py\n<examples/sample.txt><new>' "" "" ./mishtodran table examples/sample.txt new
+    echo "# more" >>"$copy/examples/sample.txt"
+    expect 0 "*" "" "" ./mishtodran text
+    echo >>"$copy/examples/rows.c"
+    expect 0 "*" "mishtodran: compiling rows" "$built" ./mishtodran text
+    echo more >"$copy/crates/search/src/lib.rt"
+    expect 0 "*" "*built the library in*mishtodran: compiling rows" "*rt staticlib editor"$'\n'"$built" ./mishtodran table examples/sample.txt new
+    cp "$copy/examples/sample.txt" "$copy/-x"
+    cp "$copy/examples/sample.txt" "$copy/--text"
+    expect 0 $'ran rows for table.py\n<./-x><./--text>' "" "" ./mishtodran table -x --text
+    expect 0 $'ran rows for table.py\n<--text><./--text>' "" "" ./mishtodran text --text
+    for status in 1 2; do
+        echo "$status" >"$room/ends"
+        expect "$status" "*" "" "" ./mishtodran text
+        expect "$status" "*" "" "" ./mishtodran table examples/sample.txt new
+    done
+    echo 0 >"$room/ends"
+}
+
 # linked COMPILER: the words after `link:` are a command that works in a shell, blanks or not.
 linked() {
     local line
@@ -289,6 +318,7 @@ machine_x86_64() {
     rm -rf "$copy/target" "$tools/cc"
     expect 2 "" "mishtodran: $missing" "" ./mishtodran compare 5
     expect 2 "" "mishtodran: $missing" "" ./mishtodran bench
+    expect 2 "" "mishtodran: $missing" "" ./mishtodran text
     expect 2 "" "compare: $missing" "" compare/run.sh other.a compare 1 5
     expect 2 "" "run_c: $missing" "" tests/run_c.sh other.a
     expect 2 "" "sanitized: $missing" "" compare/sanitized.sh 1 1
@@ -305,8 +335,10 @@ machine_aarch64() {
     rm -rf "$copy/target"
     expect 0 "ran compare 1 5" "*" "*x86_64-linux-gnu-gcc *kit/on/aarch64/toolchain/bin/qemu-x86_64 compare" ./mishtodran compare 5
     expect 0 "a report" "*" "*kit/on/aarch64/toolchain/bin/qemu-x86_64 ld-linux-x86-64.so.2" ./mishtodran report
+    expect 0 "ran rows for table.py*" "*" "*x86_64-linux-gnu-gcc *kit/on/aarch64/toolchain/bin/qemu-x86_64 rows" ./mishtodran text
     rm -rf "$copy/target" "$kit/qemu-x86_64"
     expect 2 "" "mishtodran: $missing" "" ./mishtodran report
+    expect 2 "" "mishtodran: $missing" "" ./mishtodran text
     expect 2 "" "mishtodran: $missing" "" ./mishtodran compare 5
     expect 2 "" "compare: $missing" "" compare/run.sh other.a compare 1 5
     emulator "$tools/qemu-x86_64-static"
@@ -320,7 +352,7 @@ machine_aarch64() {
 # The gate's packages: named, installed before anything is proved, and what the package manager says where it fails.
 packages() {
     local missing="gcc-x86-64-linux-gnu git python3 shellcheck"
-    rm "$tools/x86_64-linux-gnu-gcc" "$tools/id"
+    rm "$tools/x86_64-linux-gnu-gcc" "$tools/id" "$tools/python3"
     stand_in "$tools/id" <<<'echo 1000'
     expect 2 "" "gate: these packages are missing, and only root can install them, with apt-get: $missing" "" .ci/run
     stand_in "$tools/id" <<<'echo 0'
@@ -353,7 +385,7 @@ glpk() {
 
 # The gate over checks that are stood in for: it locks while it proves, ends with a check's status, and its last line is rt's.
 gate() {
-    local checks=("$copy"/{tests/{wrong_uses,commands,table_commands,merge_command,run_c}.sh,compare/{sanitized,run,run_report}.sh})
+    local checks=("$copy"/{tests/{wrong_uses,commands,table_commands,merge_command,text_commands,run_c}.sh,compare/{sanitized,run,run_report}.sh})
     local samples=(crates/{sample,report,save_story,merge_story}/stdin crates/table_merge/data/ancestor.table) one
     for one in "${samples[@]}"; do
         mkdir -p "$copy/${one%/*}"
@@ -372,7 +404,7 @@ gate() {
         expect 2 "*" "*gate: *" "*" .ci/run
         stand_in "$one" <<<':'
     done
-    for one in try_table pack_all try_docs; do
+    for one in pack_all try_docs; do
         stand_in "$tools/python3" <<<"case \$1 in */$one.py) exit 1 ;; esac"
         expect 1 "*" "*gate: *" "*" .ci/run
     done
@@ -407,6 +439,7 @@ builds
 builds_that_go_wrong
 two_at_once
 compiled_programs
+texts
 machine_x86_64
 machine_aarch64
 packages

@@ -18,7 +18,7 @@ tables="$room/the tables"
 # table NAME SED [TEXT]: the sample's text, edited so, with more text after it, as a stored table.
 table() {
     { { sed "$2" "$top/examples/sample.txt" && echo "${3-}"; } >"$room/text" &&
-        python3 "$top/examples/table.py" "$room/text" "$1"; } || fail "the table $1 was not made"
+        "$top/mishtodran" table "$room/text" "$1"; } || fail "the table $1 was not made"
 }
 
 # chains FROM TO TASKS DISTANCES: the text of chains with these ids.

@@ -1,8 +1,8 @@
 """The merge of document 02, request 4, written from its words, over the reader of stored.py."""
 from collections import namedtuple
 
+from records import fixed_part, stored
 from stored import ACCEPTED, records, verdict
-from table import fixed_part, stored
 
 # A record of the result: its id, the copy that it is taken from (1 or 2), and its offset and length there.
 Taken = namedtuple("Taken", "id copy at length")

@@ -21,8 +21,8 @@ Run as a program it lists the pairs.
 from collections import namedtuple
 
 from merged import merge
+from records import DISTANCE, END, FIXED, TASK, chain, end, fixed_part, stored
 from stored import AT, COST_AT, COUNT_AT, LONGEST, NUMBERS, PRIORITY_AT, TIME, Verdict, save_verdict, verdict
-from table import DISTANCE, END, FIXED, TASK, chain, end, fixed_part, stored
 from written import row, write
 
 # What is told of the first and of the second, what both are about, the case in which both hold, and the one in which only

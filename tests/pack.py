@@ -20,8 +20,8 @@ import sys
 
 import orders
 from orders import backlog, edge, edge_of_second
+from records import chain, stored
 from stored import ACCEPTED, NUMBERS, TIME, TOP, Verdict, records, verdict
-from table import chain, stored, table_of
 
 CASES = TOP / "tests" / "cases"
 QUERY = {"tag", "table", "answer", "rc", "after"}
@@ -40,8 +40,8 @@ KEYS = {  # of the cases of each file, one set of these; tests/cases/README.md h
 }
 
 # The sample table of document 01, and the published case study.
-SAMPLE = table_of((TOP / "examples" / "sample.txt").read_bytes())
-STUDY = table_of((TOP / "examples" / "case_study.txt").read_bytes())
+SAMPLE = (TOP / "examples" / "sample.table").read_bytes()
+STUDY = (TOP / "examples" / "case_study.table").read_bytes()
 
 # 'At the edge': ten tasks of 1,000,000; and one tick more from a free interferer.
 LONG = chain(1, 0, 0, 10_000_000, 0, [10_000_000], [(5, 1_000_000)] * 10)

@@ -13,6 +13,9 @@ import pack_entries
 import pack_merge
 import pack_save
 from stored import TOP
+
+sys.path.insert(0, str(TOP / "examples"))
+
 from table import replace
 
 PACKED = {

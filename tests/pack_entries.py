@@ -24,8 +24,8 @@ import pack
 import pack_merge
 import pack_write
 from merged import conflicts, first_fault, merge, next_conflict
+from records import fixed_part
 from stored import NUMBERS, records
-from table import fixed_part
 from written import ROW, in_memory, rows_of, write
 
 JUNK, AS_BEFORE = 65535, 65534

@@ -23,7 +23,7 @@ import sys
 import orders
 import pack
 from merged import Merge, Taken, merge
-from table import chain, end, stored
+from records import chain, end, stored
 
 
 # ---- Cases of the file ----

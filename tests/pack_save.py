@@ -21,7 +21,7 @@ import struct
 
 import orders
 import pack
-from table import chain, stored
+from records import chain, stored
 
 
 def packed(buffer, used, old, new, number, length, after):

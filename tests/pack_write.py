@@ -21,9 +21,9 @@ import orders
 import pack
 from orders import GOOD_ROW, MUCH_ROOM, SIXTEEN_ROWS, WIDE_ROWS, row_with
 from stored import LONGEST, TIME
-from table import U32
 from written import Row, Written, in_memory, past_counts, write
 
+U32 = 2**32 - 1
 PADDING = b"\xc3\x00\xff\x69"
 # What stands in the places past the counts: a distance, a priority and a cost that break a rule, or are only there.
 JUNK = ((2**32 - 1, 0, 0), (0, 65535, 2**32 - 1), (1, 1, 1))

@@ -1,14 +1,11 @@
-"""Stored tables for the cases: a reader written from document 01 and document 02, request 1, on records as examples/table.py
-lays them out."""
-import sys
+"""Stored tables for the cases: a reader written from document 01 and document 02, request 1, on records as records.py lays
+them out."""
 from collections import namedtuple
 from pathlib import Path
 
+from records import CHAIN_MARK, DISTANCE, END, END_MARK, FIXED, TASK, TASK_MARK, Fixed, fixed_part, record_length
+
 TOP = Path(__file__).resolve().parent.parent
-sys.path.insert(0, str(TOP / "examples"))
-
-from table import CHAIN_MARK, DISTANCE, END, END_MARK, FIXED, TASK, TASK_MARK, Fixed, fixed_part, record_length
-
 MARK = len(CHAIN_MARK)
 TIME = 10_000_000
 LONGEST = 1284

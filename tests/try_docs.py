@@ -1,6 +1,6 @@
 #!/usr/bin/env python3
-"""Holds the docs, and the sentences of `./mishtodran check` and `merge`, against what they speak of: the header's refusals, fields,
-entries and version, the bytes of the sample, and the lines for a damaged table and a conflict.
+"""Holds the docs, and the sentences of `./mishtodran check` and `merge` and of examples/rows.c, against what they speak of: the
+header's refusals, fields, entries and version, the bytes of the sample, and the lines for a damaged table and a conflict.
 
 Usage: try_docs.py
 
@@ -9,8 +9,8 @@ Usage: try_docs.py
 import re
 import sys
 
+from records import end
 from stored import NUMBERS, TOP, records
-from table import end
 
 HEADER = (TOP / "include" / "mishtodran.h").read_text("utf8")
 CONSTANTS = {name: int(value) for name, value in re.findall(r"MISHTODRAN_(\w+)(?: =)? (\d+)", HEADER)}
@@ -93,6 +93,13 @@ def sentences():
     return lines + [f"{name} does not show the line '{line.strip()}'" for name, line in shown if line not in text_of(name)]
 
 
+def sentences_of_rows():
+    """Lines for the sentences of examples/rows.c that are not the header's for a table's numbers."""
+    said = re.findall(r'^ +\[MISHTODRAN_(\w+)\] = "(.*)",$', text_of("examples/rows.c"), re.M)
+    due = [(name, what) for name, number, what in REFUSALS if int(number) in NUMBERS]
+    return [f"rows.c has {said}, the header {due}"] if said != due else []
+
+
 def drawing():
     """Lines for the bytes that docs/TABLE.md draws otherwise than the sample has them."""
     sample = (TOP / "examples" / "sample.table").read_bytes()
@@ -111,7 +118,7 @@ def main(words):
     if words:
         print("try_docs.py: usage: try_docs.py", file=sys.stderr)
         return 2
-    wrong = refusals() + fields() + entries() + sentences() + drawing()
+    wrong = refusals() + fields() + entries() + sentences() + sentences_of_rows() + drawing()
     for line in wrong or ["as it should be"]:
         print(f"try_docs: {line}")
     return 1 if wrong else 0

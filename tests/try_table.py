@@ -1,29 +1,39 @@
 #!/usr/bin/env python3
-"""Tries examples/table.py: the example tables, text and back, and a table of wrong uses with what is said of each.
+"""Tries examples/table.py and the program rows (examples/rows.c) under it: the example tables, text and back, and wrong uses
+with what is said of each. The program is the one that table.py finds.
 
 Usage: try_table.py
 
-0 and a line if all is as it should be; 1 and a line for each thing that is not; 2 for a wrong use.
+0 and a line if all is as it should be; 1 and a line for each thing that is not; 2 for a wrong use, or without the program.
 """
 import io
 import os
 import random
 import resource
+import shlex
+import shutil
 import stat
 import subprocess
 import sys
 import tempfile
+from concurrent.futures import ThreadPoolExecutor
 from contextlib import redirect_stderr
 from pathlib import Path
 
 import pack
-from stored import ACCEPTED, TOP
-from table import FIXED, Mistake, chain, end, fixed_part, main as command, stored, table_of, text_of
+from records import chain, stored
+from stored import ACCEPTED, TOP, verdict
+from try_docs import REFUSALS
 
 EXAMPLES = TOP / "examples"
-PROGRAM = [sys.executable, str(EXAMPLES / "table.py")]
+sys.path.insert(0, str(EXAMPLES))
+
+from table import BUILT, KINDS, Failed, Refused, main as command, rows, table_of, text_of
+
+TABLE_PY = str(EXAMPLES / "table.py")
 SAMPLE = (EXAMPLES / "sample.table").read_bytes()
 GOOD = "chain 1 synchronous deadline 40 gap 100 list 100\ntask 5 10\n"
+SENTENCES = {int(number): what for _, number, what in REFUSALS}
 wrong = []
 
 
@@ -32,11 +42,17 @@ def due(holds, what):
         wrong.append(what)
 
 
-def run(*words, **settings):
+def run(*words, program=TABLE_PY, **settings):
     """Status, standard output and standard error of the command."""
     settings = {"stdin": subprocess.DEVNULL, "stdout": subprocess.PIPE, **settings}
-    done = subprocess.run([*PROGRAM, *words], stderr=subprocess.PIPE, timeout=60, **settings)
+    done = subprocess.run([sys.executable, program, *words], stderr=subprocess.PIPE, timeout=60, check=False, **settings)
     return done.returncode, done.stdout, done.stderr.decode()
+
+
+def at_once(function, values):
+    """What the function gives for each, several at a time: each starts the program."""
+    with ThreadPoolExecutor(os.cpu_count()) as pool:
+        return [*pool.map(function, values)]
 
 
 # ---- The example tables ----
@@ -48,50 +64,86 @@ def examples():
         due(Path("made").read_bytes() == kept, f"{name}.txt does not make {name}.table")
         status, text, said = run("--text", str(EXAMPLES / f"{name}.table"))
         due(status == 0 and said == "" and table_of(text) == kept, f"{name}.table: its text makes another table")
+        with open("made", "rb") as made:
+            due(run("--text", stdin=made) == (0, text, ""), f"{name}.table on standard input: another text")
 
 
 # ---- Text and back ----
 
-def generated(chance):
-    """A table whose fields are as wide as their bytes, a few of them at an edge."""
-    def field(greatest):
-        return chance.choice((0, 1, greatest, chance.randint(0, greatest), chance.randint(0, min(greatest, 1000))))
-
-    return stored(*(
-        chain(field(65535), chance.randint(0, 1), chance.randint(0, 1), field(2**32 - 1), field(2**32 - 1),
-              [field(2**32 - 1) for _ in range(chance.choice((1, 2, 3, 8, 9)))],
-              [(field(65535), field(2**32 - 1)) for _ in range(chance.choice((1, 2, 3, 16, 17)))])
-        for _ in range(chance.choice((1, 2, 16, 17)))))
-
-
-def there_and_back(s, what):
-    """Whether the table has a text; one that has makes the same bytes again."""
+def there_and_back(case):
+    """A table with its verdict: the text of an accepted one makes the same bytes again, of another one the verdict is told."""
+    s, told = case
     try:
-        text = text_of(s)
-    except Mistake:
-        return False
-    due(table_of(text.encode()) == s, f"{what}: its text makes another table: {s.hex()}")
-    return True
+        due(table_of(text_of(input=s).encode()) == s, f"its text makes another table: {s.hex()}")
+        due(told == ACCEPTED, f"a table has a text, and {told} was due: {s.hex()}")
+    except Refused as refused:
+        due(refused.args == (*told, SENTENCES[refused.args[0]]), f"{refused.args}, and {told} was due: {s.hex()}")
 
 
 def round_trips():
     """How many tables were tried."""
+    cases = [(s, told) for _, s, told in pack.tables()]
+    at_once(there_and_back, cases)
+    return len(cases)
+
+
+def generated(chance):
+    """Chains, a few of their fields at an edge of what is allowed."""
+    def field(most):
+        return chance.choice((0, most, most + 1, *[chance.randint(1, most)] * 20))
+
+    return [(chance.choice((turn, turn, turn, field(60_000))), chance.randint(0, 1), chance.randint(0, 1), field(10_000_000),
+             chance.choice((0, 10_000_000, field(10_000_000))),
+             sorted(field(10_000_000) for _ in range(chance.choice((1, 2, 3, 8, 8, 9))))[::chance.choice((1, 1, 1, -1))],
+             [(field(65_534), field(1_000_000)) for _ in range(chance.choice((1, 1, 2, 3, 16, 17)))])
+            for turn in range(1, chance.choice((2, 3, 4, 18)))]
+
+
+def text_with(chains):
+    """Their text, and the line of each."""
+    lines, at = [], []
+    for ident, kind, overload, deadline, gap, distances, tasks in chains:
+        lines.append(f"chain {ident} {KINDS[kind]}{' overload' * overload} deadline {deadline} gap {gap} list")
+        at.append(len(lines))
+        lines[-1] += "".join(f" {distance}" for distance in distances)
+        lines += (f"task {priority} {cost}" for priority, cost in tasks)
+    return "\n".join(lines), at
+
+
+def judged(chains):
+    """What the library makes of them: a table, or a number and the line of the chain at fault."""
+    text, lines = text_with(chains)
+    for turn, line in enumerate(lines, 1):
+        told = verdict(stored(*(chain(*one) for one in chains[:turn])))
+        if told != ACCEPTED:
+            return text, (told.number, line)
+    return text, stored(*(chain(*one) for one in chains))
+
+
+def from_text(case):
+    text, told = case
+    try:
+        found = table_of(text.encode())
+    except Refused as refused:
+        found = refused.args[:2]
+    due(found == told, f"{found}, and {told} was due: {text}")
+
+
+def made_up():
+    """How many texts were tried. Those of too many bytes are left out: the library does not judge the length of rows."""
     chance = random.Random(1)
-    cases = pack.tables()
-    must = [generated(chance) for _ in range(300)] + [s for _, s, told in cases if told == ACCEPTED]
-    may = [s for _, s, told in cases if told != ACCEPTED]
-    may += [SAMPLE[:at] + bytes([byte]) + SAMPLE[at + 1:] for at in range(len(SAMPLE)) for byte in (0, 1, 2, 67, 69, 84, 255)]
-    for s in must:
-        due(there_and_back(s, "a table"), f"a table has no text: {s.hex()}")
-    for s in may:
-        there_and_back(s, "a changed table")
-    return len(must) + len(may)
+    cases = [case for case in map(judged, (generated(chance) for _ in range(600))) if case[1][0] != 1]
+    at_once(from_text, cases)
+    numbers = {told[0] for _, told in cases if isinstance(told, tuple)}
+    due(numbers >= {4, 6, 7, 9, 10, 28, 29, 30, 31}, f"the texts that were made up have only the numbers {numbers}")
+    return len(cases)
 
 
 # ---- Texts ----
 
 FIELDS = "chain 1 synchronous deadline 40 gap 100 list 100"
 TASK = "\ntask 5 10\n"
+SIXTEEN = "".join(GOOD.replace("1", str(ident), 1) for ident in range(1, 17))
 
 # Text, and what it makes.
 TEXTS = [
@@ -99,18 +151,39 @@ TEXTS = [
     (GOOD.rstrip("\n"), stored(chain(1, 0, 0, 40, 100, [100], [(5, 10)]))),
     ("\ufeff\t" + GOOD.replace("\n", " # ü\r\n\r\n").replace(" 40 ", "\t0000000000000040 "),
      stored(chain(1, 0, 0, 40, 100, [100], [(5, 10)]))),
-    (f"chain 65535 asynchronous overload deadline {2**32 - 1} gap {2**32 - 1} list 0 {2**32 - 1}\ntask 65535 {2**32 - 1}",
-     stored(chain(65535, 1, 1, 2**32 - 1, 2**32 - 1, [0, 2**32 - 1], [(65535, 2**32 - 1)]))),
-    (FIELDS + " 7" * 254 + TASK * 255, stored(chain(1, 0, 0, 40, 100, [100] + [7] * 254, [(5, 10)] * 255))),
+    ("chain 65535 asynchronous overload deadline 10000000 gap 10000000 list 0 10000000\ntask 65535 1000000",
+     stored(chain(65535, 1, 1, 10_000_000, 10_000_000, [0, 10_000_000], [(65535, 1_000_000)]))),
+    (FIELDS + " 100" * 7 + TASK * 16, stored(chain(1, 0, 0, 40, 100, [100] * 8, [(5, 10)] * 16))),
+]
+
+# Text, the number that it is refused with, and the line.
+REFUSED = [
+    ("", 11, 1),
+    ("# chain\n\n", 11, 3),
+    (SIXTEEN + FIELDS.replace("1", "17", 1), 11, 33),
+    (SIXTEEN + FIELDS.replace("1", "17", 1) + "\n" + FIELDS, 11, 33),
+    (GOOD + FIELDS, 4, 3),
+    (GOOD.replace("1", "0", 1), 4, 1),
+    (GOOD.replace("40", "0"), 6, 1),
+    (GOOD.replace("40", str(2**32 - 1)), 6, 1),
+    (GOOD.replace("gap 100", f"gap {2**32 - 1}"), 7, 1),
+    (FIELDS + " 100" * 8 + TASK, 28, 1),
+    (FIELDS + " 100" * 256 + TASK, 28, 1),
+    (GOOD + "\n" + FIELDS.replace("1", "2", 1), 9, 4),
+    (FIELDS + TASK * 17, 9, 1),
+    (FIELDS + TASK * 257, 9, 1),
+    (FIELDS + " 99" + TASK, 29, 1),
+    (FIELDS + f" {2**32 - 1}" + TASK, 29, 1),
+    (GOOD.replace("list 100", "list 0"), 30, 1),
+    (GOOD.replace("gap 100", "gap 99"), 31, 1),
+    (GOOD + "task 0 10", 10, 1),
+    (GOOD + f"task 65535 {2**32 - 1}", 10, 1),
 ]
 
 # Text, and the mistakes that are told of it.
 MISTAKES = [
-    ("", ["1: the text ends without a chain"]),
-    ("# chain\n\n", ["3: the text ends without a chain"]),
     ("task 5 10\n" + GOOD, ["1: a task before the first chain"]),
     (GOOD + "tsak 5 10", ["3: 'tsak' is neither 'chain' nor 'task'"]),
-    (GOOD + FIELDS, ["3: the chain has no task"]),
     ("chain", ["1: the id is missing"]),
     ("chain one synchronous", ["1: the id is 'one', not a number"]),
     ("chain -1 synchronous", ["1: the id is '-1', not a number"]),
@@ -137,16 +210,25 @@ MISTAKES = [
     (FIELDS + " 4294967296", ["1: a distance is above 4294967295"]),
     (FIELDS + ", 200", ["1: the first distance is '100,', not a number"]),
     (FIELDS + " task 5 10", ["1: a distance is 'task', not a number"]),
-    (FIELDS + " 100" * 255 + TASK, ["1: 256 distances, and at most 255 can be counted"]),
     (GOOD + "task", ["3: the priority is missing"]),
     (GOOD + "task 5", ["3: the cost is missing"]),
     (GOOD + "task 5 10 15", ["3: '15' is a word too many"]),
     (GOOD + "task 65536 10", ["3: the priority is above 65535"]),
     (GOOD + "task 5 4294967296", ["3: the cost is above 4294967295"]),
-    (GOOD + "task 5 10\n" * 255, ["257: task 256 of its chain, and at most 255 can be counted"]),
     ("chain x\ntask 5 10\n\ntask y 10\n" + FIELDS, ["1: the id is 'x', not a number", "4: the priority is 'y', not a number"]),
     (GOOD + "task\n" * 22, [f"{line}: the priority is missing" for line in range(3, 23)] + [" 2 mistakes more"]),
 ]
+
+
+def not_made(text, status, *lines):
+    """The text makes no table: the command ends so, says these lines, and the target stays."""
+    Path("text").write_bytes(text.encode())
+    Path("table").write_bytes(SAMPLE)
+    with redirect_stderr(io.StringIO()) as said:
+        ended = command(["text", "table"])
+    due(ended == status, f"status {ended} for: {text[:200]}")
+    due(said.getvalue() == "".join(f"text:{line}\n" for line in lines), f"{text[:200]!r}: {said.getvalue()}")
+    due(Path("table").read_bytes() == SAMPLE, f"the target is lost for: {text[:200]}")
 
 
 def texts():
@@ -155,60 +237,108 @@ def texts():
         due(command(["text", "table"]) == 0 and Path("table").read_bytes() == made, f"another table of: {text[:200]}")
     Path("text").write_bytes(GOOD.encode() + b"# \xff\xfe\n")
     due(command(["text", "table"]) == 0 and Path("table").read_bytes() == TEXTS[0][1], "a comment that is not UTF-8")
+    for text, number, line in REFUSED:
+        not_made(text, 1, f"{line}: refused {number}: {SENTENCES[number]}")
     for text, mistakes in MISTAKES:
-        Path("text").write_bytes(text.encode())
-        Path("table").write_bytes(SAMPLE)
-        with redirect_stderr(io.StringIO()) as said:
-            status = command(["text", "table"])
-        due(status == 2, f"status {status} for: {text[:200]}")
-        due(said.getvalue() == "".join(f"text:{mistake}\n" for mistake in mistakes), f"{text[:200]!r}: {said.getvalue()}")
-        due(Path("table").read_bytes() == SAMPLE, f"the target is lost for: {text[:200]}")
+        not_made(text, 2, *mistakes)
 
 
-# ---- Tables that have no text ----
+def refused_tables():
+    """What is said of them, in a file and on standard input."""
+    for s in (b"", GOOD.encode(), SAMPLE[:100], SAMPLE + b"E", bytes(2**20)):
+        Path("table").write_bytes(s)
+        told = verdict(s)
+        what = f"refused {told.number} at byte {told.at}: {SENTENCES[told.number]}\n"
+        due(run("--text", "table") == (1, b"", f"table: {what}"), f"{s[:200].hex()}: {run('--text', 'table')}")
+        with open("table", "rb") as table:
+            said = run("--text", stdin=table)
+        due(said == (1, b"", f"standard input: {what}"), f"{s[:200].hex()} on standard input: {said}")
 
-def changed(**fields):
-    """The sample with another fixed part."""
-    return FIXED.pack(*fixed_part(SAMPLE, 0)._replace(**fields)) + SAMPLE[FIXED.size:]
+
+# ---- Rows ----
+
+ROW = "1 0 0 40 100 1 2 100 5 10 3 10"
+NUMBERS = ROW.split()
+NAMES = ("the id", "the kind", "the overload mark", "the deadline", "the gap", "the number of distances", "the number of tasks",
+         "a distance", "a priority", "a cost", "a priority", "a cost")
+WIDTHS = (16, 8, 8, 32, 32, 64, 64, 32, 16, 32, 16, 32)
 
 
-NO_TEXT = [
-    (b"", "offset 0: the bytes end without an end record"),
-    (b"XX", "offset 0: neither a chain record nor the end record"),
-    (b"C", "offset 0: neither a chain record nor the end record"),
-    (GOOD.encode(), "offset 0: neither a chain record nor the end record"),
-    (end(0), "offset 0: no chain record before the end record"),
-    (SAMPLE[:15], "offset 0: a chain record is cut off"),
-    (SAMPLE[:19], "offset 16: the list of chain 1 is cut off"),
-    (SAMPLE[:35], "offset 28: task 2 of chain 1 is cut off"),
-    (SAMPLE[:28] + b"XX" + SAMPLE[30:], "offset 28: no task record, and task 2 of chain 1 is due"),
-    (changed(tasks=3), "offset 36: no task record, and task 3 of chain 1 is due"),
-    (changed(tasks=1), "offset 28: neither a chain record nor the end record"),
-    (changed(listed=2), "offset 24: no task record, and task 1 of chain 1 is due"),
-    (changed(listed=0), "offset 0: chain 1 has 0 distances and 2 tasks: text has one of each at least"),
-    (changed(tasks=0), "offset 0: chain 1 has 1 distances and 0 tasks: text has one of each at least"),
-    (changed(kind=2), "offset 0: chain 1 has kind 2 and overload 0: text has words for 0 and 1"),
-    (changed(overload=255), "offset 0: chain 1 has kind 0 and overload 255: text has words for 0 and 1"),
-    (SAMPLE[:-4], "offset 136: the bytes end without an end record"),
-    (SAMPLE[:-1], "offset 136: the end record is cut off"),
-    (SAMPLE[:-4] + end(5), "offset 136: the end record says 5 chains, and there are 4"),
-    (SAMPLE + b"EN", "offset 140: 2 bytes after the end record"),
+def with_number(turn, word):
+    return " ".join([*NUMBERS[:turn], word, *NUMBERS[turn + 1:]])
+
+
+# Lines, and the number and the row that they are refused with.
+REFUSED_ROWS = [
+    ("", 11, 0),
+    (with_number(0, "0"), 4, 1),
+    (with_number(1, "2"), 5, 1),
+    (with_number(2, "255"), 5, 1),
+    (with_number(3, str(2**32 - 1)), 6, 1),
+    (with_number(4, str(2**32 - 1)), 7, 1),
+    ("1 0 0 40 100 0 1 5 10", 28, 1),
+    ("1 0 0 40 100 9 1" + " 100" * 9 + " 5 10", 28, 1),
+    ("1 0 0 40 100 1 0 100", 9, 1),
+    ("1 0 0 40 100 1 300 100" + " 5 10" * 300, 9, 1),
+    (with_number(7, "101"), 31, 1),
+    (with_number(11, str(2**32 - 1)), 10, 1),
+    (f"{ROW}\n{with_number(0, '2')}\n{ROW}\n{with_number(0, '0')}", 4, 3),
+    ("".join(f"{with_number(0, str(turn))}\n" for turn in range(1, 41)), 11, 17),
+]
+
+# Lines that are no rows, and what is said.
+NO_ROWS = [
+    ("\n", "row 1: the id is missing"),
+    (f"{ROW}\n\n", "row 2: the id is missing"),
+    (f"{ROW}\r\n", "row 1: a cost is not a number"),
+    (f"{ROW} 7", "row 1: there are more numbers than its counts say"),
+    (f"{ROW}\n{ROW}\0\n", "row 2: a cost is not a number"),
+    (f"{ROW}\n" * 40 + "x", "row 41: the id is not a number"),
+    *((" ".join(NUMBERS[:turn]), f"row 1: {name} is missing") for turn, name in enumerate(NAMES) if turn > 0),
+    *((with_number(turn, word), f"row 1: {name} is not a number") for turn, name in enumerate(NAMES)
+      for word in ("x", "-1", "+1", "1x", "1,", "0x1", "1.0", "\u0663")),
+    *((with_number(turn, str(number)), f"row 1: {name} is too large") for turn, name in enumerate(NAMES)
+      for number in (2**WIDTHS[turn], 2**64 + 1, 10**30)),
 ]
 
 
-def no_text():
-    for s, what in NO_TEXT:
-        Path("table").write_bytes(s)
-        with redirect_stderr(io.StringIO()) as said:
-            status = command(["--text", "table"])
-        due((status, said.getvalue()) == (2, f"table: {what}\n"), f"{s.hex()}: status {status}, {said.getvalue()}")
+def asked(verb, given):
+    """Status and standard output of the program, and what is said of it."""
+    try:
+        return 0, rows(verb, input=given), ""
+    except Refused as refused:
+        return 1, b"", refused.args
+    except Failed as failed:
+        return 2, b"", str(failed)
+
+
+def as_rows(lines):
+    """The table that the lines make, or what is said of them."""
+    return asked("write", lines.encode())
+
+
+def program():
+    """The program by itself."""
+    status, lines, _ = asked("read", SAMPLE)
+    due(status == 0 and lines.decode().splitlines()[0] == ROW and lines.count(b"\n") == 4, f"the sample's rows: {lines}")
+    for given in (lines, lines[:-1], b" " + lines.replace(b" ", b"\t 0").replace(b"\n", b" \t\n")):
+        due(asked("write", given) == (0, SAMPLE, ""), f"rows of the sample: {asked('write', given)}")
+    found = at_once(as_rows, [lines for lines, *_ in REFUSED_ROWS + NO_ROWS])
+    for (lines, number, row), said in zip(REFUSED_ROWS, found):
+        due(said == (1, b"", (number, row, SENTENCES[number])), f"{lines[:200]!r}: {said}")
+    for (lines, what), (status, out, said) in zip(NO_ROWS, found[len(REFUSED_ROWS):]):
+        due((status, out) == (2, b"") and said.endswith(f" write gives nothing, status 2: rows: {what}"),
+            f"{lines[:200]!r}: {status}, {said}")
+    for verb in ("", "raed", "--help"):
+        said = asked(verb, b"")
+        due(said[2].endswith(" gives nothing, status 2: rows: usage: rows write, or rows read"), f"rows {verb}: {said}")
 
 
 # ---- Wrong uses of the command ----
 
-USAGE = "usage: table.py TEXT TABLE, or table.py --text TABLE; a file's name that begins with - as ./-NAME"
+USAGE = "usage: table.py TEXT TABLE, or table.py --text [TABLE]; a file's name that begins with - as ./-NAME"
 USES = [
-    ([], USAGE), (["text"], USAGE), (["text", "table", "more"], USAGE), (["--text"], USAGE), (["--text", "table", "more"], USAGE),
+    ([], USAGE), (["text"], USAGE), (["text", "table", "more"], USAGE), (["--text", "table", "more"], USAGE),
     (["--txt", "table"], USAGE), (["text", "-"], USAGE), (["-", "table"], USAGE), (["--text", "-"], USAGE),
     (["text", "--text"], USAGE),
     (["none", "table"], "none: No such file or directory"),
@@ -223,7 +353,6 @@ USES = [
     (["text", "link"], "link: the text itself, which would be lost"),
     (["--text", "none"], "none: No such file or directory"),
     (["--text", "folder"], "folder: Is a directory"),
-    (["--text", "long"], "long: longer than 262144 bytes"),
 ]
 
 
@@ -249,6 +378,45 @@ def wrong_uses():
         due(status == 0 and b"Usage: table.py TEXT TABLE" in text and said == "", f"{words}: no help")
 
 
+# What MISHTODRAN_ROWS may name, and what is said of it.
+NAMED = "MISHTODRAN_ROWS names the command that runs the program rows"
+PROGRAMS = [
+    ("'{here}/none'", "{here}/none: No such file or directory; " + NAMED),
+    ("'{here}/table'", "{here}/table: Permission denied; " + NAMED),
+    ("'{here}", "MISHTODRAN_ROWS: No closing quotation"),
+    ("true", "true {verb} gives nothing, status 0: "),
+    ("sh -c 'echo no >&2; exit 1'", "echo no >&2; exit 1 {verb} gives nothing, status 1: no"),
+    ("sh -c 'kill -9 $$'", "kill -9 $$ {verb} gives nothing, status -9: "),
+]
+
+
+def programs():
+    """Other programs in the place of rows, none at all, and the real one with words before it."""
+    before = there()
+    for named, what in PROGRAMS:
+        settings = {"env": {**os.environ, "MISHTODRAN_ROWS": named.format(here=os.getcwd())}}
+        for verb, words in (("write", ["text", "table"]), ("read", ["--text", "table"])):
+            said = run(*words, **settings)
+            due(said == (2, b"", f"table.py: {what.format(here=os.getcwd(), verb=verb)}\n"), f"{named} {verb}: {said}")
+    said = run("--text", "table", env={**os.environ, "MISHTODRAN_ROWS": "echo 1 2"})
+    due(said == (2, b"", "table.py: the program rows gives no rows, but b'1 2 read\\n'\n"), f"numbers that are no rows: {said}")
+    due(there() == before, "something was written by another program than rows")
+    real = os.environ.get("MISHTODRAN_ROWS") or shlex.quote(BUILT)
+    said = run("--text", "table", env={**os.environ, "MISHTODRAN_ROWS": f"env 'NAME=a value' {real}"})
+    due(said == run("--text", "table") and said[0] == 0, f"the program with words before it: {said}")
+
+
+def without_program():
+    """A copy that stands elsewhere has no program, unless it is named."""
+    os.makedirs("copy/examples")
+    shutil.copy(TABLE_PY, "copy/examples")
+    plain = {name: value for name, value in os.environ.items() if name != "MISHTODRAN_ROWS"}
+    for words in (["text", "table"], ["--text", "table"]):
+        said = run(*words, program="copy/examples/table.py", env=plain)
+        what = f"there is no program {os.getcwd()}/copy/target/examples/rows: ./mishtodran table builds it"
+        due(said == (2, b"", f"table.py: {what}\n"), f"without the program: {said}")
+
+
 def failing_output():
     """Where writing fails the target is as it was, and nothing is left beside it."""
     before = there()
@@ -260,6 +428,16 @@ def failing_output():
     said = run("--text", "table", preexec_fn=lambda: os.close(1))
     due(said == (2, b"", "table.py: standard output: Bad file descriptor\n"), f"standard output that is closed: {said}")
     due(there() == before, "a failed run has written something")
+
+
+def failing_input():
+    """Standard input that is closed, and one that can only be written to: what the program says of it is passed on."""
+    said = run("--text", preexec_fn=lambda: os.close(0))
+    due(said == (2, b"", "table.py: standard input: it is closed\n"), f"standard input that is closed: {said}")
+    with open("pipe", "r+b", 0), open("pipe", "wb", 0) as no_input:
+        status, out, said = run("--text", stdin=no_input)
+    what = " read gives nothing, status 2: rows: standard input: Bad file descriptor\n"
+    due((status, out) == (2, b"") and said.endswith(what), f"standard input that cannot be read: {status}, {said}")
 
 
 def write_protected():
@@ -302,27 +480,32 @@ def permission_bits():
     due(os.path.islink("to_kept"), "a symbolic link was replaced")
 
 
+def try_all():
+    """The line to be printed where all is as it should be."""
+    examples()
+    tables = round_trips() + made_up()
+    for part in (texts, refused_tables, program, wrong_uses, programs, without_program, failing_output, failing_input,
+                 write_protected, renamed, permission_bits):
+        part()
+    mistakes = len(MISTAKES) + len(REFUSED) + len(REFUSED_ROWS) + len(NO_ROWS) + len(USES) + 2 * len(PROGRAMS)
+    return f"{tables} tables to text and back, {mistakes} mistakes: as it should be"
+
+
 def main(words):
     if words:
         print("try_table.py: usage: try_table.py", file=sys.stderr)
         return 2
+    try:
+        rows("read", input=SAMPLE)
+    except (Failed, Refused) as error:
+        print(f"try_table.py: the sample is not read: {error}", file=sys.stderr)
+        return 2
     with tempfile.TemporaryDirectory() as folder:
         os.chdir(folder)
-        examples()
-        tables = round_trips()
-        texts()
-        no_text()
-        wrong_uses()
-        failing_output()
-        write_protected()
-        renamed()
-        permission_bits()
+        done = try_all()
         os.chdir("/")
-    for what in wrong:
+    for what in wrong or [done]:
         print(f"try_table: {what}")
-    if not wrong:
-        mistakes = len(MISTAKES) + len(NO_TEXT) + len(USES)
-        print(f"try_table: {tables} tables to text and back, {mistakes} mistakes: as it should be")
     return 1 if wrong else 0
 
 

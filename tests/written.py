@@ -2,12 +2,13 @@
 import struct
 from collections import namedtuple
 
+from records import CHAIN_MARK, DISTANCE, FIXED, TASK, TASK_MARK, end, fixed_part
 from stored import ACCEPTED, records, verdict_of_records
-from table import CHAIN_MARK, DISTANCE, FIXED, TASK, TASK_MARK, U8, end, fixed_part
 
 # A chain, decoded. Of the 8 distances `listed` count, of the 16 priorities and costs `tasks`; both are 64 bits wide.
 Row = namedtuple("Row", "id kind overload deadline gap listed tasks list priority cost")
 PLACES, TASK_PLACES = 8, 16
+MOST_BYTE = 255  # as which a count above it stands
 # As mishtodran.h lays it out, with four bytes of padding after the gap.
 ROW = struct.Struct(f"<HBBII4sQQ{PLACES}I{TASK_PLACES}H{TASK_PLACES}I")
 GAP_FIELDS = Row._fields.index("gap") + 1
@@ -23,7 +24,7 @@ def filled(values, places, rest=0):
 
 
 def row(id, kind, overload, deadline, gap, distances, tasks):
-    """The row of a chain as table.chain takes it, 0 in the places past its counts."""
+    """The row of a chain as records.chain takes it, 0 in the places past its counts."""
     priorities, costs = zip(*tasks)
     return Row(id, kind, overload, deadline, gap, len(distances), len(tasks), filled(distances, PLACES),
                filled(priorities, TASK_PLACES), filled(costs, TASK_PLACES))
@@ -63,7 +64,7 @@ def rows_of(table):
 def record_of(one):
     """The bytes of a row. A count that no byte holds is outside its range, and so is the greatest byte, at which the reader ends
     before it looks at any place."""
-    fixed = FIXED.pack(CHAIN_MARK, *one[:GAP_FIELDS], min(one.listed, U8), min(one.tasks, U8))
+    fixed = FIXED.pack(CHAIN_MARK, *one[:GAP_FIELDS], min(one.listed, MOST_BYTE), min(one.tasks, MOST_BYTE))
     tasks = zip(one.priority[:one.tasks], one.cost[:one.tasks])
     return (fixed + b"".join(map(DISTANCE.pack, one.list[:one.listed]))
             + b"".join(TASK.pack(TASK_MARK, *task) for task in tasks))

@@ -31,7 +31,7 @@ wrong 2 "mishtodran: there is no command ''; ./mishtodran help lists them" ./mis
 wrong 2 "mishtodran: there is no command '-x'; ./mishtodran help lists them" ./mishtodran -x
 wrong 2 "mishtodran: usage: ./mishtodran help" ./mishtodran help report
 wrong 2 "mishtodran: usage: ./mishtodran help" ./mishtodran --help report
-for command in report check; do
+for command in report check text; do
     wrong 2 "mishtodran: usage: ./mishtodran $command [FILE]" ./mishtodran "$command" examples/sample.table examples/sample.table
     wrong 2 "mishtodran: there is no file none" ./mishtodran "$command" none
     wrong 2 "mishtodran: there is no file " ./mishtodran "$command" ""
@@ -67,6 +67,30 @@ done
 for file in unwritten shut/new; do
     wrong 2 "mishtodran: $file cannot be written" "${user[@]}" ./mishtodran merge t t t "$file"
 done
+
+# A text into a table, and a table to text. Python is not among the stand-ins.
+usage="mishtodran: usage: ./mishtodran table TEXT TABLE"
+wrong 2 "$usage" ./mishtodran table
+wrong 2 "$usage" ./mishtodran table t
+wrong 2 "$usage" ./mishtodran table t new new
+for file in none loop ""; do
+    wrong 2 "mishtodran: there is no file $file" ./mishtodran table "$file" new
+done
+wrong 2 "mishtodran: examples is a folder" ./mishtodran table examples new
+wrong 2 "mishtodran: unread cannot be read" "${user[@]}" ./mishtodran table unread new
+wrong 2 "mishtodran: unread cannot be read" "${user[@]}" ./mishtodran text unread
+wrong 2 "mishtodran: examples is a folder" ./mishtodran table t examples
+for file in /dev/null new/; do
+    wrong 2 "mishtodran: $file is not a file that can be replaced" ./mishtodran table t "$file"
+done
+for file in none/new loop ""; do
+    wrong 2 "mishtodran: $file cannot be written" ./mishtodran table t "$file"
+done
+for file in unwritten shut/new; do
+    wrong 2 "mishtodran: $file cannot be written" "${user[@]}" ./mishtodran table t "$file"
+done
+wrong 2 "mishtodran: there is no python3 here: install Debian's package python3" ./mishtodran table t new
+wrong 2 "mishtodran: there is no python3 here: install Debian's package python3" ./mishtodran text t
 wrong 2 "mishtodran: usage: ./mishtodran lib" ./mishtodran lib target
 wrong 2 "mishtodran: usage: ./mishtodran test" ./mishtodran test all
 wrong 2 "mishtodran: usage: ./mishtodran compare N [SEED]" ./mishtodran compare
@@ -115,6 +139,7 @@ wrong 2 "run_c: there is no library none.a" tests/run_c.sh none.a
 wrong 2 "run_c: there is no mishtodran.h in examples" tests/run_c.sh lib.a examples
 wrong 2 "table_commands: usage: tests/table_commands.sh" tests/table_commands.sh all
 wrong 2 "merge_command: usage: tests/merge_command.sh" tests/merge_command.sh all
+wrong 2 "text_commands: usage: tests/text_commands.sh" tests/text_commands.sh all
 wrong 2 "gate: usage: .ci/run" .ci/run all
 
 # The C programs by themselves, built for this machine.
