@@ -34,7 +34,7 @@ unfolding flatten
 flatten-append [] b = refl
 flatten-append (r ∷ a) b = rw (flatten-append a b, append-assoc)
 
-all-take : {A : Type 0} (P : A → Type 0) (i : ℕ) (l : List A) → All P l → All P (take i l)
+pub all-take : {A : Type 0} (P : A → Type 0) (i : ℕ) (l : List A) → All P l → All P (take i l)
 all-take P zero l h = tt
 all-take P (suc i) [] h = tt
 all-take P (suc i) (a ∷ l) h = (h .0, all-take P i l (h .1))

@@ -9,3 +9,4 @@ pub mod Judging
 pub mod Answering
 pub mod Fillings
 pub mod Loops
+pub mod Promises

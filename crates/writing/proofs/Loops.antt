@@ -64,7 +64,7 @@ fits-end ys k g h a =
 
 -- what was judged is short
 pub judged-short : (ys : List Row) (j : Judged) → JudgedRows ys j → j .bytes ≤ 4096
-judged-short ys j h = omega (arith, h .small .bytes, h .small .count)
+judged-short ys j h = omega (arith, h .small .bytes, h .small .count, h .small .tasks)
 
 -- no more rows are put than there are
 pub rows-there : (ys : List Row) (j : Judged) (room : ℕ) → JudgedRows ys j → rowsPut j room ≤ length ys

@@ -99,13 +99,13 @@ judgedAll j (r ∷ rs) = judgedAll (judgedWith j r) rs
 pub record Small (j : Judged) : Type 0 where
   pub count : j .count ≤ maxChains
   pub tasks : j .tasks ≤ maxAllTasks
-  pub bytes : j .bytes ≤ 176 * j .count
+  pub bytes : j .bytes ≤ 48 * j .count + 8 * j .tasks
 
 -- there is room for one row more
 pub record CountedRoom (j : Judged) (r : Row) : Type 0 where
   pub count : j .count < maxChains
   pub tasks : j .tasks ≤ maxAllTasks
-  pub bytes : j .bytes ≤ 176 * j .count
+  pub bytes : j .bytes ≤ 4096
   pub of-listed : r .listed ≤ maxDistances
   pub of-tasks : r .tasks ≤ maxTasks
 
