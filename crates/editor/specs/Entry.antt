@@ -1,6 +1,6 @@
 -- The entries of the C editor (01, 'The C editor and the report'): what each returns, and what it leaves in the buffers it is lent.
--- 01 has the first four, 02 the check (request 1), the merge and its conflicts (request 4); the report as an entry, and the version, are
--- ours.
+-- 01 has the first four, 02 the check (request 1), the merge and its conflicts (request 4), a table read into rows and written from rows
+-- (request 2); the report as an entry, and the version, are ours.
 use Prim.Native.Nat.{ℕ, zero, suc, _*_, _-_}
 use mathlib.Core.Path.{_≡_}
 use mathlib.Core.List.{List, [], _∷_, _++_, map}
@@ -11,6 +11,7 @@ use lib.IntN.{ℤ, pos, negsuc}
 use Rattle.search.specs.Choice.{_when_else_}
 use Rattle.table.specs.Bytes.{bytesOf}
 use Rattle.table.specs.Read.{readTable, numberOf, faultPlace}
+use Rattle.table.specs.declared.Row.{Row}
 use Rattle.table.specs.declared.Verdict.{Verdict}
 use Rattle.segments.specs.Query as segment
 use Rattle.windows.specs.Latency as latency
@@ -19,6 +20,8 @@ use Rattle.misses.specs.Misses as misses
 use Rattle.saving.specs.Save as save
 use Rattle.merging.specs.Versions.{Versions}
 use Rattle.merging.specs.Merge as merge
+use Rattle.writing.specs.Fill as fill
+use Rattle.writing.specs.Write as write
 use Rattle.report_text.specs.Report.{reportOf}
 
 -- a signed number in two's complement
@@ -84,6 +87,16 @@ pub record MergeEntry (v : Versions) (buffer answer bufferAfter answerAfter : Li
 -- conflict: the smallest id greater than `above` that is in conflict, 0 if there is none
 pub record ConflictEntry (v : Versions) (above : ℕ) (before after : List ℕ) (r : ℕ) : Type 0 where
   pub answers : Answered 1 (merge.foundNumber (merge.foundOf v above)) (merge.foundValues (merge.foundOf v above)) before after r
+
+-- read: how many chains there are, and the rows as reading leaves them; 27 leaves those too
+pub record ReadEntry (table : List ℕ) (rows : List Row) (answer : List ℕ) (rowsAfter : List Row) (answerAfter : List ℕ) (r : ℕ) : Type 0 where
+  pub answers : Answered 1 (fill.numberOf (fill.filledOf (length rows) table)) (fill.valuesOf (fill.filledOf (length rows) table)) answer answerAfter r
+  pub leaves : rowsAfter ≡ (rows when ltb (length answer) 4 else fill.rowsAfter (fill.filledOf (length rows) table) table rows)
+
+-- write: the used length, and the buffer as the write leaves it; 27 leaves that too
+pub record WriteEntry (rows : List Row) (buffer answer bufferAfter answerAfter : List ℕ) (r : ℕ) : Type 0 where
+  pub answers : Answered 1 (write.numberOf (write.writtenOf (length buffer) rows)) (write.valuesOf (write.writtenOf (length buffer) rows)) answer answerAfter r
+  pub leaves : bufferAfter ≡ (buffer when ltb (length answer) 4 else write.bufferAfter (write.writtenOf (length buffer) rows) rows buffer)
 
 -- report: 24 where its text is longer than the text buffer, else the text's length, and the text; a refused table has its text
 abbrev pub tooLong : List ℕ → List ℕ → Bool

@@ -1,17 +1,22 @@
-// The C editor's entries (document 01, 'The C editor and the report'; document 02, requests 1 and 4): numbers and byte slices only. Each but the version
-// returns 0 or the refusal's number; refused, every byte lent stays.
+// The C editor's entries (document 01, 'The C editor and the report'; document 02, requests 1, 2 and 4): numbers, bytes and rows only. Each but the
+// version returns 0 or the refusal's number; refused, every byte lent stays.
 use merging::Found;
 use merging::Merged;
 use report_text::LONGEST;
 use report_text::magnitude;
 use saving::Saved;
+use table::Row;
 use table::Verdict;
 use table::put_u32;
+use writing::Filled;
+use writing::Written;
 ghost use mathlib.Core.Path.{_≡_};
 ghost use Prim.Native.Nat.{_*_, _≤_};
 ghost use lib.ListN.{length};
 ghost use Rattle.merging.specs.Merge.{versions};
-ghost use Rattle.editor.specs.Entry.{unsigned as unsignedOf, figureBytes, startingWith, LatencyEntry, MissesEntry, SegmentEntry, SaveEntry, CheckEntry, MergeEntry, ConflictEntry, ReportEntry, version};
+ghost use Rattle.writing.specs.Fill.{numberOf as filledNumber, valuesOf as filledValues};
+ghost use Rattle.writing.specs.Write.{numberOf as writtenNumber, valuesOf as writtenValues};
+ghost use Rattle.editor.specs.Entry.{unsigned as unsignedOf, figureBytes, startingWith, Answered, LatencyEntry, MissesEntry, SegmentEntry, SaveEntry, CheckEntry, MergeEntry, ConflictEntry, ReadEntry, WriteEntry, ReportEntry, version};
 ghost use Rattle.editor.specs.code.Single.{singleOf};
 
 // What an entry returns where it has answered.
@@ -223,6 +228,58 @@ pub extern "C" fn mishtodran_conflict(
         }
         Found::Refused(n) => n,
     }
+}
+
+// What reading into rows answers, put into an answer buffer.
+fn put_filled(filled: Filled, answer: &mut [u8]) -> u32
+    requires { ⌜ 4 ≤ length (now answer) ⌝ }
+    ensures { λ r. ⌜ Answered 1 (filledNumber filled) (filledValues filled) (now (answer .entry)) (now (answer .exit)) r ⌝ }
+{
+    match filled {
+        Filled::Chains(n) => {
+            let figures = [n];
+            put_figures(answer, &figures);
+            ANSWERED
+        }
+        Filled::Refused(n) => n,
+    }
+}
+
+// Reads a table into rows: how many chains there are.
+#[no_mangle]
+pub extern "C" fn mishtodran_read(table: &[u8], rows: &mut [Row], answer: &mut [u8]) -> u32
+    ensures { λ r. ⌜ ReadEntry (now (table .entry)) (now (rows .entry)) (now (answer .entry)) (now (rows .exit)) (now (answer .exit)) r ⌝ }
+{
+    if answer.len() < 4 {
+        return 27;
+    }
+    put_filled(writing::read(table, rows), answer)
+}
+
+// What writing from rows answers, put into an answer buffer.
+fn put_written(written: Written, answer: &mut [u8]) -> u32
+    requires { ⌜ 4 ≤ length (now answer) ⌝ }
+    ensures { λ r. ⌜ Answered 1 (writtenNumber written) (writtenValues written) (now (answer .entry)) (now (answer .exit)) r ⌝ }
+{
+    match written {
+        Written::Used(n) => {
+            let figures = [n];
+            put_figures(answer, &figures);
+            ANSWERED
+        }
+        Written::Refused(n) => n,
+    }
+}
+
+// Writes the table of the rows into a buffer: its length.
+#[no_mangle]
+pub extern "C" fn mishtodran_write(rows: &[Row], buffer: &mut [u8], answer: &mut [u8]) -> u32
+    ensures { λ r. ⌜ WriteEntry (now (rows .entry)) (now (buffer .entry)) (now (answer .entry)) (now (buffer .exit)) (now (answer .exit)) r ⌝ }
+{
+    if answer.len() < 4 {
+        return 27;
+    }
+    put_written(writing::write(rows, buffer), answer)
 }
 
 // The report's text at the start of a text buffer, and its length. It is made in a place of its own first, so that a text that does

@@ -8,7 +8,7 @@ use native.Mathlib.Decide.{decLt}
 use mathlib.Core.Bool.{Bool}
 use mathlib.Core.List.{List, [], _∷_}
 use mathlib.Core.WellFounded.{WellFounded, InvImage·wf}
-use lib.ListN.{length, getD, set, length-set}
+use lib.ListN.{length, set, length-set}
 use lib.WfN.{Nat·lt-wfRel}
 use lib.Dec.{lit<}
 use borrow.Author.Tests.{lt-ltb, le-ltb}
@@ -194,19 +194,12 @@ module _ {M : Type 1} (𝓤 : URA M) (H : Heap 𝓤) (A : Atoms 𝓤) (W : Given
   goes-count : (r : Filled) (w : Val) → Is S.the-row r (w ∷ []) → ent 𝓤 (emp 𝓤) (Count 𝓤 H A mem run .pre (to-count r w))
   goes-count r w is = qed W [] ∵ nothing ! $ owned ! S.the-row (Is S.the-row) (EL.makes S.the-type S′.the-plain 𝓤 H A) r _ is $ fjoin ! $ nothing ! $ join ! $ frame ! $ done !
 
+  -- `row_at` and `after` are passed the same
   abbrev to-row : ℕ → RowAt 𝓤 H A mem run .Ghost
   to-row n = (((κ, tt), (q, tt), tt, (src, (n, tt)), (v₁ ∷ [], (vint w64 n ∷ [], tt))), tt)
 
   goes-row : (n : ℕ) → n < 2 ^ 64 → Stands (src .now) n → ent 𝓤 (sep 𝓤 (A .lft κ q) (sem 𝓤 H A Own)) (RowAt 𝓤 H A mem run .pre (to-row n))
   goes-row n g st =
-      qed W (‵ (flft κ q) ∷ ‵ Own ∷ []) ∵ says ! st $ nothing ! $ move ! (1 ∷ 0 ∷ []) $ join ! $ frame ! $
-      nothing ! $ owned ! usize (Is usize) (uint-makes 𝓤 H A W w64) n _ (refl, g) $ fjoin ! $ move ! (1 ∷ 0 ∷ []) $ fjoin ! $ done !
-
-  abbrev to-after : ℕ → After 𝓤 H A mem run .Ghost
-  to-after n = (((κ, tt), (q, tt), tt, (src, (n, tt)), (v₁ ∷ [], (vint w64 n ∷ [], tt))), tt)
-
-  goes-after : (n : ℕ) → n < 2 ^ 64 → Stands (src .now) n → ent 𝓤 (sep 𝓤 (A .lft κ q) (sem 𝓤 H A Own)) (After 𝓤 H A mem run .pre (to-after n))
-  goes-after n g st =
       qed W (‵ (flft κ q) ∷ ‵ Own ∷ []) ∵ says ! st $ nothing ! $ move ! (1 ∷ 0 ∷ []) $ join ! $ frame ! $
       nothing ! $ owned ! usize (Is usize) (uint-makes 𝓤 H A W w64) n _ (refl, g) $ fjoin ! $ move ! (1 ∷ 0 ∷ []) $ fjoin ! $ done !
 
@@ -241,39 +234,49 @@ module _ {M : Type 1} (𝓤 : URA M) (H : Heap 𝓤) (A : Atoms 𝓤) (W : Given
       abbrev Turned : Stand → Out → SProp 𝓤
       Turned s = afterTurn 𝓤 H (Below 𝓤 H A Less At s) (afterBlock 𝓤 H (afterSeq 𝓤 H (Wp 𝓤 H C Λ En mir.t-7 (atReturn 𝓤 H En Post)) (atReturn 𝓤 H En Post)))
 
+      -- what a turn needs of its row: it is there, the numbers made of k fit, and a record stands for it
+      inside : (s : Stand) → s .k < n → s .k < length (s .zs)
+      inside s l = omega (arith, l, filled-there (src .now) ys answer a, s .same)
+
+      far : (s : Stand) → s .k < n → s .k * 160 < 2 ^ 64
+      far s l = omega (arith, gn .1, l, filled-there (src .now) ys answer a)
+
+      next : (s : Stand) → s .k < n → s .k + 1 < 2 ^ 64
+      next s l = omega (arith, gn .0, l, filled-there (src .now) ys answer a)
+
+      stands : (s : Stand) → s .k < n → Stands (src .now) (s .at)
+      stands s l = fill-stands (src .now) ys answer a (s .k) (s .at) l (s .place)
+
       -- a turn that fills a row
       more : (s : Stand) → s .k < n → Sq W (At s) (runs C Λ En mir.turn-1 (anyQ (Turned s)))
       unfolding afterTurn
       more s l =
-          let there : n ≤ length ys = filled-there (src .now) ys answer a in
-          let l′ : s .k < length (s .zs) = omega (arith, l, there, s .same) in let far : s .k * 160 < 2 ^ 64 = omega (arith, gn .1, l, there) in let next : s .k + 1 < 2 ^ 64 = omega (arith, gn .0, l, there) in
-          let st : Stands (src .now) (s .at) = fill-stands (src .now) ys answer a (s .k) (s .at) l (s .place) in
           assigns ! (bin ! (load ! (from ! (stop !)) (look ! 15 refl)) (load ! (from ! (stop !)) (look ! 19 refl)) tt) (from ! (stop !)) (init ! 11 refl (tt, tt)) $
           rewrite ! 11 (λ (y : Bool). ‵ (fat fullShare tyBool l₈ 0 (vbool y))) (lt-ltb (s .k) n l) refl $ stays ! (load ! (from ! (stop !)) (look ! 11 refl)) $
           -- [the rows; their borrow; their token; the bytes' token; the bytes; _11; …; … ; _0; …]
-          move ! (4 ∷ []) $ use1 W (‵ Own ⊛ ‵ Own) (shr-slice-copy 𝓤 H A W (named 0) κ u8 .twice src (v₁ ∷ [])) $ split ! $ move ! (5 ∷ 0 ∷ []) $ use2 W (raw (RowAt 𝓤 H A mem run .pre (to-row (s .at)))) (goes-row (s .at) (s .fits) st) $
+          move ! (4 ∷ []) $ use1 W (‵ Own ⊛ ‵ Own) (shr-slice-copy 𝓤 H A W (named 0) κ u8 .twice src (v₁ ∷ [])) $ split ! $ move ! (5 ∷ 0 ∷ []) $ use2 W (raw (RowAt 𝓤 H A mem run .pre (to-row (s .at)))) (goes-row (s .at) (s .fits) (stands s l)) $
           calls-at ! (fmOf 𝓤 H (W .laws) 𝓣) (RowAt 𝓤 H A mem run) known-row (to-row (s .at)) (and-then ! (load ! (from ! (stop !)) (look ! 25 refl)) (and-then ! (load ! (from ! (stop !)) (look ! 17 refl)) (no-more !))) (λ v.
           use1 W (later (some (λ (r : Row). ((‵ (flft κ q) ⊛ ‵ ftrue) ⊛ ‵ (T.the-row .own r (v ∷ []))) ⊛ raw (ensured 𝓤 H A row-at.ended (row-at.clauses 𝓤 H A mem run) (κ, tt) (src, (s .at, tt)) tt r)))) (id⊢ 𝓤 _) $ await ! tt $ pick ! (λ r.
           split ! $ move ! (1 ∷ []) $ use1 W (raw (fact 𝓤 (r ≡ rowAt (src .now) (s .at)))) (row-of 𝓤 H A mem run κ src (s .at) r) $ heard ! (r ≡ rowAt (src .now) (s .at)) (λ e₁. split ! $ move ! (1 ∷ []) $
           peeks ! T.the-row (Is T.the-row) (shows 𝓤 H A T.the-row) r (v ∷ []) (λ is₁.
           land ! (from ! (stop !)) (init ! 10 refl (LL.lawful T.the-type T′.the-laws 𝓤 H A W .typed r _ is₁ .0)) $ move ! (1 ∷ []) $ split ! $ move ! (1 ∷ []) $ drop ! $ move ! (3 ∷ 4 ∷ 5 ∷ []) $
           -- [the rows; their borrow; their token; the bytes' token; what the new row owns; the bytes; _11; …]: the place of `rows[k]`, and the store
-          assigns ! (bin ! (load ! (from ! (stop !)) (look ! 16 refl)) (lit ! tt) (record { fits = far })) (from ! (stop !)) (init ! 8 refl (tt, record { fits = far })) $
+          assigns ! (bin ! (load ! (from ! (stop !)) (look ! 16 refl)) (lit ! tt) (record { fits = far s l })) (from ! (stop !)) (init ! 8 refl (tt, record { fits = far s l })) $
           assigns ! (bin ! (load ! (from ! (fld ! refl (stop !))) (look-in ! 24 (sub ! 0 refl (whole !)))) (load ! (from ! (stop !)) (look ! 8 refl)) tt) (from ! (stop !)) (init ! 6 refl (tt, tt)) $
           rewrite ! 6 (λ (p : ℕ). ‵ (fat fullShare tyPtr l₁₁ 0 (vptr b p))) (sym (place-is 160 o (s .k))) refl $
-          opens-slice ! tt T.the-row (s .zs) b o $ elem-out ! T.the-row (Is T.the-row) (shows 𝓤 H A T.the-row) (LL.vals T.the-type T′.the-laws) (LL.tells T.the-type T′.the-laws) fullShare (s .zs) (s .k) blank b o l′ (λ _. move ! (1 ∷ []) $ drop ! $
+          opens-slice ! tt T.the-row (s .zs) b o $ elem-out ! T.the-row (Is T.the-row) (shows 𝓤 H A T.the-row) (LL.vals T.the-type T′.the-laws) (LL.tells T.the-type T′.the-laws) fullShare (s .zs) (s .k) blank b o (inside s l) (λ _. move ! (1 ∷ []) $ drop ! $
           -- [rows[k]; the others; the open borrow; obs; auth; the bytes' token; what the new row owns; the bytes; _11; …]
           assigns ! (of-opd ! (load ! (from ! (stop !)) (look ! 12 refl))) (from ! (hop ! (look ! 8 refl) (stop !))) (store-raw ! 0 refl (LL.lawful T.the-type T′.the-laws 𝓤 H A W .typed r _ is₁ .0)) $
-          move ! (0 ∷ 6 ∷ []) $ elem-put ! T.the-row fullShare (s .zs) (s .k) r (v ∷ []) b o l′ $ closes-slice ! tt T.the-row (s .zs) (set (s .zs) (s .k) r) (length-set (s .zs) (s .k) r) b o $
+          move ! (0 ∷ 6 ∷ []) $ elem-put ! T.the-row fullShare (s .zs) (s .k) r (v ∷ []) b o (inside s l) $ closes-slice ! tt T.the-row (s .zs) (set (s .zs) (s .k) r) (length-set (s .zs) (s .k) r) b o $
           -- the rows are closed at the list with the new row in its place
-          move ! (4 ∷ []) $ use1 W (‵ Own ⊛ ‵ Own) (shr-slice-copy 𝓤 H A W (named 0) κ u8 .twice src (v₁ ∷ [])) $ split ! $ move ! (5 ∷ 0 ∷ []) $ use2 W (raw (After 𝓤 H A mem run .pre (to-after (s .at)))) (goes-after (s .at) (s .fits) st) $
-          calls-at ! (fmOf 𝓤 H (W .laws) 𝓣) (After 𝓤 H A mem run) known-after (to-after (s .at)) (and-then ! (load ! (from ! (stop !)) (look ! 25 refl)) (and-then ! (load ! (from ! (stop !)) (look ! 17 refl)) (no-more !))) (λ u.
+          move ! (4 ∷ []) $ use1 W (‵ Own ⊛ ‵ Own) (shr-slice-copy 𝓤 H A W (named 0) κ u8 .twice src (v₁ ∷ [])) $ split ! $ move ! (5 ∷ 0 ∷ []) $ use2 W (raw (After 𝓤 H A mem run .pre (to-row (s .at)))) (goes-row (s .at) (s .fits) (stands s l)) $
+          calls-at ! (fmOf 𝓤 H (W .laws) 𝓣) (After 𝓤 H A mem run) known-after (to-row (s .at)) (and-then ! (load ! (from ! (stop !)) (look ! 25 refl)) (and-then ! (load ! (from ! (stop !)) (look ! 17 refl)) (no-more !))) (λ u.
           use1 W (later (some (λ (m : ℕ). ((‵ (flft κ q) ⊛ ‵ ftrue) ⊛ ‵ (usize .own m (u ∷ []))) ⊛ raw (ensured 𝓤 H A after.ended (after.clauses 𝓤 H A mem run) (κ, tt) (src, (s .at, tt)) tt m)))) (id⊢ 𝓤 _) $ await ! tt $ pick ! (λ m.
           split ! $ move ! (1 ∷ []) $ use1 W (raw (fact 𝓤 (m ≡ s .at + lengthAt (src .now) (s .at)))) (after-of 𝓤 H A mem run κ src (s .at) m) $ heard ! (m ≡ s .at + lengthAt (src .now) (s .at)) (λ e₂. split ! $ move ! (1 ∷ []) $
           peeks ! usize (Is usize) (shows 𝓤 H A usize) m (u ∷ []) (λ is₂.
           land ! (from ! (stop !)) (store ! 18 refl (uint-lawful 𝓤 H A W w64 .typed m _ is₂ .0)) $ rewrite ! 18 (λ (y : Val). ‵ (fat fullShare word l₅ 0 y)) (ap only (is₂ .0)) refl $ drop ! $
           split ! $ move ! (1 ∷ []) $ drop ! $ move ! (2 ∷ 3 ∷ 4 ∷ []) $
-          assigns-last ! (bin ! (load ! (from ! (stop !)) (look ! 15 refl)) (lit ! tt) (record { fits = next })) (from ! (stop !)) (store ! 15 refl (tt, record { fits = next })) $
+          assigns-last ! (bin ! (load ! (from ! (stop !)) (look ! 15 refl)) (lit ! tt) (record { fits = next s l })) (from ! (stop !)) (store ! 15 refl (tt, record { fits = next s l })) $
           forget ! 5 refl $ forget ! 7 refl $ forget ! 9 refl $ forget ! 11 refl $
           again ! Less At s (record {
             k = s .k + 1;
