@@ -1,6 +1,6 @@
 -- The entries of the C editor (01, 'The C editor and the report'): what each returns, and what it leaves in the buffers it is lent.
--- 01 has the first four, 02 the check (request 1), the merge and its conflicts (request 4), a table read into rows and written from rows
--- (request 2); the report as an entry, and the version, are ours.
+-- 01 has the first four, 02 the check (request 1), the merge and its conflicts (request 4), a table read into rows and written from rows,
+-- and where a record stands (request 2); the report as an entry, and the version, are ours.
 use Prim.Native.Nat.{ℕ, zero, suc, _*_, _-_}
 use mathlib.Core.Path.{_≡_}
 use mathlib.Core.List.{List, [], _∷_, _++_, map}
@@ -17,6 +17,7 @@ use Rattle.segments.specs.Query as segment
 use Rattle.windows.specs.Latency as latency
 use Rattle.windows.specs.declared.Answer.{Answer as Latency}
 use Rattle.misses.specs.Misses as misses
+use Rattle.slices.specs.Locate as locate
 use Rattle.saving.specs.Save as save
 use Rattle.merging.specs.Versions.{Versions}
 use Rattle.merging.specs.Merge as merge
@@ -98,6 +99,10 @@ pub record WriteEntry (rows : List Row) (buffer answer bufferAfter answerAfter :
   pub answers : Answered 1 (write.numberOf (write.writtenOf (length buffer) rows)) (write.valuesOf (write.writtenOf (length buffer) rows)) answer answerAfter r
   pub leaves : bufferAfter ≡ (buffer when ltb (length answer) 4 else write.bufferAfter (write.writtenOf (length buffer) rows) rows buffer)
 
+-- record: offset and length
+pub record RecordEntry (table : List ℕ) (id : ℕ) (before after : List ℕ) (r : ℕ) : Type 0 where
+  pub answers : Answered 2 (locate.numberOf (locate.locatedOf table id)) (locate.valuesOf (locate.locatedOf table id)) before after r
+
 -- report: 24 where its text is longer than the text buffer, else the text's length, and the text; a refused table has its text
 abbrev pub tooLong : List ℕ → List ℕ → Bool
 tooLong table text = ltb (length text) (length (reportOf table))
@@ -108,4 +113,4 @@ pub record ReportEntry (table text answer textAfter answerAfter : List ℕ) (r :
 
 -- the version of the entries, which a caller holds against its header's; a change of an answer, a refusal or an entry raises it
 abbrev pub version : ℕ
-version = 3
+version = 4

@@ -16,14 +16,14 @@ ghost use lib.ListN.{length};
 ghost use Rattle.merging.specs.Merge.{versions};
 ghost use Rattle.writing.specs.Fill.{numberOf as filledNumber, valuesOf as filledValues};
 ghost use Rattle.writing.specs.Write.{numberOf as writtenNumber, valuesOf as writtenValues};
-ghost use Rattle.editor.specs.Entry.{unsigned as unsignedOf, figureBytes, startingWith, Answered, LatencyEntry, MissesEntry, SegmentEntry, SaveEntry, CheckEntry, MergeEntry, ConflictEntry, ReadEntry, WriteEntry, ReportEntry, version};
+ghost use Rattle.editor.specs.Entry.{unsigned as unsignedOf, figureBytes, startingWith, Answered, LatencyEntry, MissesEntry, SegmentEntry, SaveEntry, CheckEntry, MergeEntry, ConflictEntry, ReadEntry, WriteEntry, RecordEntry, ReportEntry, version};
 ghost use Rattle.editor.specs.code.Single.{singleOf};
 
 // What an entry returns where it has answered.
 const ANSWERED: u32 = 0;
 
 // Raised by each change that a caller can see, in the header and in specs/ too.
-const VERSION: u32 = 3;
+const VERSION: u32 = 4;
 
 // A signed number in two's complement.
 fn unsigned(x: i32) -> u32
@@ -280,6 +280,24 @@ pub extern "C" fn mishtodran_write(rows: &[Row], buffer: &mut [u8], answer: &mut
         return 27;
     }
     put_written(writing::write(rows, buffer), answer)
+}
+
+// Where the record of a chain stands: offset and length.
+#[no_mangle]
+pub extern "C" fn mishtodran_record(table: &[u8], id: u32, answer: &mut [u8]) -> u32
+    ensures { λ r. ⌜ RecordEntry (now (table .entry)) id (now (answer .entry)) (now (answer .exit)) r ⌝ }
+{
+    if answer.len() < 8 {
+        return 27;
+    }
+    match slices::record(table, id) {
+        slices::Located::Record { offset, length } => {
+            let figures = [offset, length];
+            put_figures(answer, &figures);
+            ANSWERED
+        }
+        slices::Located::Refused(n) => n,
+    }
 }
 
 // The report's text at the start of a text buffer, and its length. It is made in a place of its own first, so that a text that does
