@@ -13,7 +13,7 @@ use Rattle.writing.specs.Rows.{countByte, headBytes, distanceBytes, task
 use Rattle.writing.proofs.Pieces.{pieces-split, head-length, list-length, tasks-length, row-length}
 
 -- a number of one byte
-one-byte : (s : List ℕ) (at : ℕ) → word 1 s at ≡ getD s at 0
+pub one-byte : (s : List ℕ) (at : ℕ) → word 1 s at ≡ getD s at 0
 unfolding word
 one-byte s at = omega arith
 

@@ -9,4 +9,6 @@ pub mod Judging
 pub mod Answering
 pub mod Fillings
 pub mod Loops
+pub mod Refusals
 pub mod Promises
+pub mod Again

@@ -1,7 +1,8 @@
 -- Writing a table from rows (02, request 2): what the call answers, and what it leaves in the buffer.
-use Prim.Native.Nat.{ℕ}
+use Prim.Native.Nat.{ℕ, _≤_}
 use mathlib.Core.Path.{_≡_}
 use mathlib.Core.List.{List, [], _∷_, _++_}
+use mathlib.Core.Logic.{_⊎_}
 use lib.ListN.{length, drop}
 use lib.Dec.{eqb, ltb}
 use Rattle.search.specs.Choice.{_when_else_}
@@ -25,6 +26,10 @@ valuesOf (Refused n) = []
 -- what the reader says of the bytes that the rows have, its length check left out
 unfoldable pub verdictOn : List Row → Verdict
 verdictOn rs = records maxChains (tableBytes rs) 0 empty .verdict
+
+-- the numbers that rows are refused with: a table's, but for 1, 2 and 3, which only bytes can have
+abbrev pub RowsRefusal : ℕ → Type 0
+RowsRefusal n = ((4 ≤ n) × (n ≤ 7)) ⊎ ((9 ≤ n) × (n ≤ 11)) ⊎ ((28 ≤ n) × (n ≤ 31))
 
 -- the rows' number, and then 24 where the table is longer than the buffer
 unfoldable pub writtenOf : ℕ → List Row → Written
