@@ -4,9 +4,10 @@ use mathlib.Core.Path.{_≡_, refl}
 use mathlib.Core.List.{List, []}
 use mathlib.Core.Logic.{inl, inr, ⊎-elim}
 use native.Mathlib.Omega.{arith}
-use lib.Dec.{lit≤}
+use lib.Dec.{lit≤, ltb}
 use lib.ListN.{length, take}
-use Rattle.search.specs.Choice.{byNumber}
+use Rattle.search.specs.Choice.{_when_else_, byNumber}
+use Rattle.search.specs.Lists.{All}
 use Rattle.search.proofs.Choice.{when-cases}
 use Rattle.table.specs.Read.{byVerdict, readTable}
 use Rattle.table.specs.Field.{TableRefusal}
@@ -40,8 +41,20 @@ use Rattle.merging.specs.Merge as merge
 use Rattle.merging.specs.declared.Merged.{Merged}
 use Rattle.merging.specs.declared.Merged.the-variants.{Used as Length, Ancestor, First, Second, Conflict, Result}
 use Rattle.merging.specs.declared.Found.the-variants.{Id, Refused as NotFound}
+use Rattle.slices.specs.Locate as locate
+use Rattle.slices.specs.declared.Located.{Located}
+use Rattle.slices.specs.declared.Located.the-variants.{Refused as NoRecord}
+use Rattle.writing.specs.Rows.{tableBytes, Fits}
+use Rattle.writing.specs.Write as write
+use Rattle.writing.specs.Fill as fill
+use Rattle.writing.specs.declared.Written.{Written}
+use Rattle.writing.specs.declared.Written.the-variants.{Used as Table, Refused as NoWrite}
+use Rattle.writing.specs.declared.Filled.{Filled}
+use Rattle.writing.specs.declared.Filled.the-variants.{Chains, Refused as NoFill}
+use Rattle.writing.proofs.Promises.{judged}
+use Rattle.writing.proofs.Refusals.{rows-refusal}
 use Rattle.editor.specs.Entry.{latencyFigures, verdictFigures}
-use Rattle.demands.specs.Entries.{CheckRefusal, LatencyRefusal, MissesRefusal, SegmentRefusal, SaveRefusal, MergeRefusal, OneAnswer}
+use Rattle.demands.specs.Entries.{CheckRefusal, LatencyRefusal, MissesRefusal, SegmentRefusal, SaveRefusal, MergeRefusal, WriteRefusal, ReadRefusal, RecordRefusal, OneAnswer}
 use Rattle.demands.proofs.Numbers.{table-number, save-number}
 
 module _ (Refusal : ℕ → Type 0) (n : ℕ) where
@@ -189,3 +202,43 @@ conflict-one v above = by (readTable (v .ancestor) .verdict) refl (readTable (v 
     by Accepted e (Faulty f place) g c h = faulty TableRefusal 1 (λ n h. h) (v .first) f place g
     by Accepted e Accepted g (Faulty f place) h = faulty TableRefusal 1 (λ n h. h) (v .second) f place h
     by Accepted e Accepted g Accepted h = answers TableRefusal 1 _ refl
+
+-- rows written
+pub write-one : (rs : List Row) → All Fits rs → (room : ℕ)
+    → OneAnswer WriteRefusal 1 (write.numberOf (write.writtenOf room rs)) (write.valuesOf (write.writtenOf room rs))
+unfolding write.writtenOf
+write-one rs f room = by (write.verdictOn rs) refl
+  where
+    One : Written → Type 0
+    One a = OneAnswer WriteRefusal 1 (write.numberOf a) (write.valuesOf a)
+
+    by : (v : Verdict) → write.verdictOn rs ≡ v → One (byVerdict NoWrite v (NoWrite 24 when ltb room (length (tableBytes rs)) else Table (length (tableBytes rs))))
+    by Accepted e = when-cases One _ (λ g. refuses WriteRefusal 1 24 (lit≤ tt) (inr refl)) (λ g. answers WriteRefusal 1 _ refl)
+    by (Faulty n place) e = let r = rows-refusal rs _ (judged rs f) e in refuses WriteRefusal 1 n (some r) (inl r)
+      where
+        some : {n : ℕ} → write.RowsRefusal n → 1 ≤ n
+        some r = ⊎-elim (λ h. omega (arith, h .0)) (λ g. ⊎-elim (λ h. omega (arith, h .0)) (λ h. omega (arith, h .0)) g) r
+
+-- a table read into rows
+pub fill-one : (room : ℕ) (s : List ℕ) → OneAnswer ReadRefusal 1 (fill.numberOf (fill.filledOf room s)) (fill.valuesOf (fill.filledOf room s))
+unfolding fill.filledOf
+fill-one room s = by (readTable s .verdict) refl
+  where
+    One : Filled → Type 0
+    One a = OneAnswer ReadRefusal 1 (fill.numberOf a) (fill.valuesOf a)
+
+    by : (v : Verdict) → readTable s .verdict ≡ v → One (byVerdict NoFill v (NoFill 24 when ltb room (readTable s .table .count) else Chains (readTable s .table .count)))
+    by Accepted e = when-cases One _ (λ f. refuses ReadRefusal 1 24 (lit≤ tt) (inr refl)) (λ f. answers ReadRefusal 1 _ refl)
+    by (Faulty f place) e = faulty ReadRefusal 1 (λ f h. inl h) s f place e
+
+-- where a record stands
+pub record-one : (s : List ℕ) (id : ℕ) → OneAnswer RecordRefusal 2 (locate.numberOf (locate.locatedOf s id)) (locate.valuesOf (locate.locatedOf s id))
+unfolding locate.locatedOf locate.recordIn
+record-one s id = by (readTable s .verdict) refl
+  where
+    One : Located → Type 0
+    One a = OneAnswer RecordRefusal 2 (locate.numberOf a) (locate.valuesOf a)
+
+    by : (v : Verdict) → readTable s .verdict ≡ v → One (byVerdict NoRecord v (locate.recordIn (readTable s .table) id))
+    by Accepted e = when-cases One _ (λ f. answers RecordRefusal 2 _ refl) (λ f. refuses RecordRefusal 2 12 (lit≤ tt) (inr refl))
+    by (Faulty f place) e = faulty RecordRefusal 2 (λ f h. inl h) s f place e

@@ -10,18 +10,25 @@ use lib.ListN.{length}
 use borrow.Author.Tests.{lt-ltb, le-ltb, ne-eqb}
 use denote.Ref.{RefT, ptr, now}
 use Rattle.search.specs.Choice.{_when_else_}
+use Rattle.search.specs.Lists.{All}
 use Rattle.search.proofs.Choice.{when-yes, when-no, when-cases, lt-or-le}
 use Rattle.table.specs.Field.{TableRefusal}
+use Rattle.table.specs.declared.Row.{Row}
 use Rattle.segments.specs.Query.{segmentOf, partOf, offsetOf}
 use Rattle.saving.specs.Save as save
 use Rattle.saving.proofs.After.{saved-number}
 use Rattle.merging.specs.Versions.{Versions}
 use Rattle.merging.specs.Merge as merge
 use Rattle.merging.specs.declared.Merged.{Merged}
+use Rattle.writing.specs.Rows.{Fits}
+use Rattle.writing.specs.Write as write
+use Rattle.writing.specs.Fill as fill
+use Rattle.writing.specs.declared.Written.{Written}
+use Rattle.writing.specs.declared.Filled.{Filled}
 use Rattle.report_text.specs.Report.{reportOf}
-use Rattle.editor.specs.Entry.{figureBytes, returned, leftBy, tooLong, Answered, SaveEntry, MergeEntry, ReportEntry}
-use Rattle.demands.specs.Entries.{SaveRefusal, MergeRefusal, ReportRefusal, CheckRefusal, AtEntry, OneAnswer, Query, Call, OnePart, OneChosen, LatencyRefusal, MissesRefusal, SegmentRefusal, EveryEntry}
-use Rattle.demands.proofs.Answers.{verdict-one, check-one, latency-one, misses-one, segment-one, save-one, merge-one, conflict-one}
+use Rattle.editor.specs.Entry.{figureBytes, returned, leftBy, tooLong, Answered, SaveEntry, MergeEntry, ReadEntry, WriteEntry, ReportEntry}
+use Rattle.demands.specs.Entries.{SaveRefusal, MergeRefusal, WriteRefusal, ReadRefusal, RecordRefusal, ReportRefusal, CheckRefusal, AtEntry, OneAnswer, Query, Call, OnePart, OneChosen, LatencyRefusal, MissesRefusal, SegmentRefusal, EveryEntry}
+use Rattle.demands.proofs.Answers.{verdict-one, check-one, latency-one, misses-one, segment-one, save-one, merge-one, conflict-one, write-one, fill-one, record-one}
 
 -- a statement that names the answer
 query : {A : Type 0} (right : A) (Refusal : ℕ → Type 0) (n : ℕ) (number : A → ℕ) (figures : A → List ℕ) → OneAnswer Refusal n (number right) (figures right) → Query (λ a. a ≡ right) Refusal n number figures
@@ -70,6 +77,25 @@ module _ (v : Versions) (buffer : List ℕ) where
         (subst MergeRefusal (sym n) (merge-one (length buffer) v .refused (λ e. h (n ∙ e)) .0), a .leaves ∙ when-no _ _ (ne-eqb (merge.numberOf r) 0 h));
   }
 
+-- rows written, and a table read into rows: the answer, and all that is lent
+write-call : (rs : List Row) → All Fits rs → (buffer : List ℕ) → Call (λ after a. write.Writes rs buffer a after) WriteRefusal write.numberOf buffer
+write-call rs f buffer = record {
+  taken = (write.bufferAfter (write.writtenOf (length buffer) rs) rs buffer, write.writtenOf (length buffer) rs, record { answers = refl; leaves = refl });
+  one = λ {x} {y} {r} {q} a b. let e = a .answers ∙ sym (b .answers) in (a .leaves ∙ ap (λ (w : Written). write.bufferAfter w rs buffer) e ∙ sym (b .leaves), e);
+  refused = λ {x} {r} a h.
+      let n = ap write.numberOf (a .answers) in
+      (subst WriteRefusal (sym n) (write-one rs f (length buffer) .refused (λ e. h (n ∙ e)) .0), a .leaves ∙ when-no _ _ (ne-eqb (write.numberOf r) 0 h));
+}
+
+fill-call : (s : List ℕ) (before : List Row) → Call (λ after a. fill.Fills s before a after) ReadRefusal fill.numberOf before
+fill-call s before = record {
+  taken = (fill.rowsAfter (fill.filledOf (length before) s) s before, fill.filledOf (length before) s, record { answers = refl; leaves = refl });
+  one = λ {x} {y} {r} {q} a b. let e = a .answers ∙ sym (b .answers) in (a .leaves ∙ ap (λ (w : Filled). fill.rowsAfter w s before) e ∙ sym (b .leaves), e);
+  refused = λ {x} {r} a h.
+      let n = ap fill.numberOf (a .answers) in
+      (subst ReadRefusal (sym n) (fill-one (length before) s .refused (λ e. h (n ∙ e)) .0), a .leaves ∙ when-no _ _ (ne-eqb (fill.numberOf r) 0 h));
+}
+
 -- the record taken for an id
 one-chosen : (ancestor first second : RefT (List ℕ)) (id : ℕ) → OneChosen ancestor first second id
 one-chosen ancestor first second id =
@@ -104,45 +130,54 @@ entry to from c = record {
   refused = λ x h. c .refused (from _ _ x) h;
 }
 
--- the save entry lends two: the table's buffer and the answer's
-module _ (buffer : List ℕ) (used : ℕ) (old new answer : List ℕ) where
-  abbrev later : List ℕ
-  later = buffer when ltb (length answer) 4 else save.bufferAfter buffer used old new
+-- an entry that is lent something to be written beside its answer buffer: it stays where 27 is given, and where the call is refused
+module _ {X : Type 0} (Refusal : ℕ → Type 0) (number : ℕ) (figures : List ℕ) (one : OneAnswer Refusal 1 number figures) (before result : X)
+    (stays : (number ≡ 0 → ⊥) → result ≡ before) (answer : List ℕ) where
+  abbrev later : X
+  later = before when ltb (length answer) 4 else result
 
-  pub save-entry : Call {A = List ℕ × List ℕ} (λ after r. SaveEntry buffer used old new answer (after .0) (after .1) r) (AtEntry SaveRefusal) (λ r. r) (buffer, answer)
-  save-entry =
-      let c = answered SaveRefusal 1 _ _ (save-one buffer used old new) answer in
+  pub record Beside (after : X × List ℕ) (r : ℕ) : Type 0 where
+    pub answers : Answered 1 number figures answer (after .1) r
+    pub leaves : after .0 ≡ later
+
+  beside : Call Beside (AtEntry Refusal) (λ r. r) (before, answer)
+  beside =
+      let c = answered Refusal 1 number figures one answer in
       record {
         taken = ((later, c .taken .0), c .taken .1, record { answers = c .taken .2; leaves = refl });
         one = λ x y. let e = c .one (x .answers) (y .answers) in (ap₂ (λ a b. (a, b)) (x .leaves ∙ sym (y .leaves)) (e .0), e .1);
-        refused = λ x h. let f = c .refused (x .answers) h in (f .0, ap₂ (λ a b. (a, b)) (x .leaves ∙ table (λ e. h (x .answers .returns ∙ e))) (f .1));
+        refused = λ x h. let f = c .refused (x .answers) h in (f .0, ap₂ (λ a b. (a, b)) (x .leaves ∙ kept (λ e. h (x .answers .returns ∙ e))) (f .1));
       }
     where
-      table : (returned 1 (save.numberOf (save.savedOf buffer used old new)) answer ≡ 0 → ⊥) → later ≡ buffer
-      table h = ⊎-elim
+      kept : (returned 1 number answer ≡ 0 → ⊥) → later ≡ before
+      kept h = ⊎-elim
           (λ l. when-yes _ _ (lt-ltb (length answer) 4 l))
-          (λ l. when-no _ _ (le-ltb (length answer) 4 l) ∙ save-leaves buffer used old new (λ e. h (when-no _ _ (le-ltb (length answer) 4 l) ∙ e)))
+          (λ l. when-no _ _ (le-ltb (length answer) 4 l) ∙ stays (λ e. h (when-no _ _ (le-ltb (length answer) 4 l) ∙ e)))
           (lt-or-le (length answer) 4)
 
--- and so does the merge entry
-module _ (v : Versions) (buffer answer : List ℕ) where
-  abbrev merged : List ℕ
-  merged = buffer when ltb (length answer) 4 else mergeAfter v buffer
+pub save-entry : (buffer : List ℕ) (used : ℕ) (old new answer : List ℕ)
+    → Call {A = List ℕ × List ℕ} (λ after r. SaveEntry buffer used old new answer (after .0) (after .1) r) (AtEntry SaveRefusal) (λ r. r) (buffer, answer)
+save-entry buffer used old new answer =
+    entry (λ x r a. record { answers = a .answers; leaves = a .leaves }) (λ x r e. record { answers = e .answers; leaves = e .leaves })
+    (beside SaveRefusal _ _ (save-one buffer used old new) buffer (save.bufferAfter buffer used old new) (save-leaves buffer used old new) answer)
 
-  pub merge-entry : Call {A = List ℕ × List ℕ} (λ after r. MergeEntry v buffer answer (after .0) (after .1) r) (AtEntry MergeRefusal) (λ r. r) (buffer, answer)
-  merge-entry =
-      let c = answered MergeRefusal 1 _ _ (merge-one (length buffer) v) answer in
-      record {
-        taken = ((merged, c .taken .0), c .taken .1, record { answers = c .taken .2; leaves = refl });
-        one = λ x y. let e = c .one (x .answers) (y .answers) in (ap₂ (λ a b. (a, b)) (x .leaves ∙ sym (y .leaves)) (e .0), e .1);
-        refused = λ x h. let f = c .refused (x .answers) h in (f .0, ap₂ (λ a b. (a, b)) (x .leaves ∙ table (λ e. h (x .answers .returns ∙ e))) (f .1));
-      }
-    where
-      table : (returned 1 (merge.numberOf (merge.mergedOf (length buffer) v)) answer ≡ 0 → ⊥) → merged ≡ buffer
-      table h = ⊎-elim
-          (λ l. when-yes _ _ (lt-ltb (length answer) 4 l))
-          (λ l. when-no _ _ (le-ltb (length answer) 4 l) ∙ merge-leaves v buffer (λ e. h (when-no _ _ (le-ltb (length answer) 4 l) ∙ e)))
-          (lt-or-le (length answer) 4)
+pub merge-entry : (v : Versions) (buffer answer : List ℕ)
+    → Call {A = List ℕ × List ℕ} (λ after r. MergeEntry v buffer answer (after .0) (after .1) r) (AtEntry MergeRefusal) (λ r. r) (buffer, answer)
+merge-entry v buffer answer =
+    entry (λ x r a. record { answers = a .answers; leaves = a .leaves }) (λ x r e. record { answers = e .answers; leaves = e .leaves })
+    (beside MergeRefusal _ _ (merge-one (length buffer) v) buffer (mergeAfter v buffer) (merge-leaves v buffer) answer)
+
+pub write-entry : (rs : List Row) → All Fits rs → (buffer answer : List ℕ)
+    → Call {A = List ℕ × List ℕ} (λ after r. WriteEntry rs buffer answer (after .0) (after .1) r) (AtEntry WriteRefusal) (λ r. r) (buffer, answer)
+write-entry rs f buffer answer =
+    entry (λ x r a. record { answers = a .answers; leaves = a .leaves }) (λ x r e. record { answers = e .answers; leaves = e .leaves })
+    (beside WriteRefusal _ _ (write-one rs f (length buffer)) buffer (write.bufferAfter (write.writtenOf (length buffer) rs) rs buffer) (λ h. when-no _ _ (ne-eqb _ 0 h)) answer)
+
+pub read-entry : (s : List ℕ) (rs : List Row) (answer : List ℕ)
+    → Call {A = List Row × List ℕ} (λ after r. ReadEntry s rs answer (after .0) (after .1) r) (AtEntry ReadRefusal) (λ r. r) (rs, answer)
+read-entry s rs answer =
+    entry (λ x r a. record { answers = a .answers; leaves = a .leaves }) (λ x r e. record { answers = e .answers; leaves = e .leaves })
+    (beside ReadRefusal _ _ (fill-one (length rs) s) rs (fill.rowsAfter (fill.filledOf (length rs) s) s rs) (λ h. when-no _ _ (ne-eqb _ 0 h)) answer)
 
 -- and so does the report entry: the text's buffer and the answer's
 module _ (s text answer : List ℕ) where
@@ -181,14 +216,20 @@ every-entry = record {
   merge = merge-call;
   conflict = λ v above. query _ TableRefusal 1 _ _ (conflict-one v above);
   chosen = one-chosen;
+  write = write-call;
+  fill = fill-call;
+  record-place = λ s id. query _ RecordRefusal 2 _ _ (record-one s id);
   report = λ s before. record { one = λ a b. (a .leaves ∙ sym (b .leaves), a .answers ∙ sym (b .answers)) };
   latency-entry = λ s id before. entry (λ x r a. record { answers = a }) (λ x r e. e .answers) (answered LatencyRefusal 4 _ _ (latency-one s id) before);
   misses-entry = λ s id k before. entry (λ x r a. record { answers = a }) (λ x r e. e .answers) (answered MissesRefusal 1 _ _ (misses-one s id k) before);
+  record-entry = λ s id before. entry (λ x r a. record { answers = a }) (λ x r e. e .answers) (answered RecordRefusal 2 _ _ (record-one s id) before);
   segment-entry = λ s chain against number before.
       entry (λ x r a. record { answers = a }) (λ x r e. e .answers) (answered SegmentRefusal 2 _ _ (segment-one s chain against number) before);
   conflict-entry = λ v above before. entry (λ x r a. record { answers = a }) (λ x r e. e .answers) (answered TableRefusal 1 _ _ (conflict-one v above) before);
   save-entry = save-entry;
   merge-entry = merge-entry;
+  write-entry = write-entry;
+  read-entry = read-entry;
   report-entry = report-entry;
   check-entry = λ s before. entry (λ x r a. record { answers = a }) (λ x r e. e .answers) (answered CheckRefusal 2 _ _ (check-one s) before);
   version-entry = λ e f. e ∙ sym f;

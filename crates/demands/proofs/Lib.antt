@@ -14,6 +14,7 @@ pub mod Others
 pub mod Saves
 pub mod Calls
 pub mod Merges
+pub mod Rows
 pub mod Tables
 pub mod StarredWindows
 pub mod StarredMisses

@@ -22,6 +22,7 @@ use Rattle.demands.specs.Chains.{Has, chainOf, othersOf}
 use Rattle.demands.specs.Entries.{EveryEntry}
 use Rattle.demands.specs.Saves.{AcceptedEdit, SeenRecords}
 use Rattle.demands.specs.Merges.{MergeOfCopies}
+use Rattle.demands.specs.Rows.{RowsAndTables}
 use Rattle.demands.specs.Arrivals.{ArrivalRules}
 use Rattle.demands.specs.Figures.{Exactly}
 use Rattle.demands.specs.Misses.{MeansOf, Says, Right}
@@ -40,6 +41,9 @@ pub record Demand1 : Type 0 where
   pub saves : SeenRecords
   -- a merge of two edited copies loses no edit of either, or is refused; the copies can be swapped (02, request 4)
   pub merges : MergeOfCopies
+  -- a table is written from rows, and read into rows: what is written reads back, and writing what was read gives the same bytes (02,
+  -- request 2)
+  pub writes : RowsAndTables
 
 -- every figure equals the published chain analysis as document 01 fixes it
 pub record Demand2 : Type 0 where

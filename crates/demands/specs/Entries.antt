@@ -6,9 +6,12 @@ use mathlib.Core.List.{List, []}
 use mathlib.Core.Logic.{_⊎_}
 use lib.ListN.{length}
 use denote.Ref.{RefT, ptr, now}
+use Rattle.search.specs.Lists.{All}
 use Rattle.table.specs.Read.{readTable, numberOf as verdictNumber}
 use Rattle.table.specs.Field.{TableRefusal}
 use Rattle.table.specs.declared.Reading.{Reading}
+use Rattle.table.specs.declared.Row.{Row}
+use Rattle.slices.specs.Locate.{locatedOf, numberOf as locatedNumber, valuesOf as locatedFigures}
 use Rattle.segments.specs.Query.{segmentOf, HandedBack, numberOf as segmentNumber, valuesOf as segmentFigures}
 use Rattle.segments.specs.declared.Answer.{Answer as Segment}
 use Rattle.windows.specs.Latency.{latencyOf, numberOf as latencyNumber}
@@ -16,15 +19,18 @@ use Rattle.misses.specs.Misses.{missesOf, numberOf as missesNumber, valuesOf as
 use Rattle.saving.specs.Save.{Saves, numberOf as saveNumber}
 use Rattle.merging.specs.Versions.{Versions}
 use Rattle.merging.specs.Merge.{Merges, foundOf, foundNumber, foundValues, Chosen, numberOf as mergeNumber}
+use Rattle.writing.specs.Rows.{Fits}
+use Rattle.writing.specs.Write.{RowsRefusal, Writes, numberOf as writeNumber}
+use Rattle.writing.specs.Fill.{Fills, numberOf as fillNumber}
 use Rattle.report_text.specs.Report.{Reported}
-use Rattle.editor.specs.Entry.{latencyFigures, LatencyEntry, MissesEntry, SegmentEntry, SaveEntry, CheckEntry, MergeEntry, ConflictEntry, ReportEntry, version}
+use Rattle.editor.specs.Entry.{latencyFigures, LatencyEntry, MissesEntry, SegmentEntry, SaveEntry, CheckEntry, MergeEntry, ConflictEntry, ReadEntry, WriteEntry, RecordEntry, ReportEntry, version}
 
 -- n lies between low and high, both included
 abbrev pub Between : ℕ → ℕ → ℕ → Type 0
 Between low high n = (low ≤ n) × (n ≤ high)
 
--- the numbers that each query, a save and a merge can be refused with, a table's own among them, then those of a report and of the check,
--- which has none; what asks for conflicts is refused with a table's own only; a C entry can also be refused with 27
+-- the numbers that each query, a save and a merge can be refused with, a table's own among them, then those of rows written and read, of
+-- the record's place, of a report and of the check, which has none; what asks for conflicts is refused with a table's own only; a C entry can also be refused with 27
 abbrev pub LatencyRefusal : ℕ → Type 0
 LatencyRefusal n = TableRefusal n ⊎ (n ≡ 12) ⊎ Between 16 17 n
 
@@ -39,6 +45,15 @@ SaveRefusal n = TableRefusal n ⊎ Between 22 24 n
 
 abbrev pub MergeRefusal : ℕ → Type 0
 MergeRefusal n = TableRefusal n ⊎ (n ≡ 24) ⊎ (n ≡ 32)
+
+abbrev pub WriteRefusal : ℕ → Type 0
+WriteRefusal n = RowsRefusal n ⊎ (n ≡ 24)
+
+abbrev pub ReadRefusal : ℕ → Type 0
+ReadRefusal n = TableRefusal n ⊎ (n ≡ 24)
+
+abbrev pub RecordRefusal : ℕ → Type 0
+RecordRefusal n = TableRefusal n ⊎ (n ≡ 12)
 
 abbrev pub ReportRefusal : ℕ → Type 0
 ReportRefusal n = n ≡ 24
@@ -98,19 +113,29 @@ pub record EveryEntry : Type 0 where
   pub merge : (v : Versions) (buffer : List ℕ) → Call (λ after a. Merges v buffer a after) MergeRefusal mergeNumber buffer
   pub conflict : (v : Versions) (above : ℕ) → Query (λ a. a ≡ foundOf v above) TableRefusal 1 foundNumber foundValues
   pub chosen : (ancestor first second : RefT (List ℕ)) (id : ℕ) → OneChosen ancestor first second id
+  -- `writing::write`, `writing::read`: rows are of their fields' widths, as every row of a program is
+  pub write : (rs : List Row) → All Fits rs → (buffer : List ℕ) → Call (λ after a. Writes rs buffer a after) WriteRefusal writeNumber buffer
+  pub fill : (s : List ℕ) (before : List Row) → Call (λ after a. Fills s before a after) ReadRefusal fillNumber before
+  -- `slices::record`
+  pub record-place : (s : List ℕ) (id : ℕ) → Query (λ a. a ≡ locatedOf s id) RecordRefusal 2 locatedNumber locatedFigures
   -- `report_text::report`
   pub report : (s before : List ℕ) → OneResult (Reported s before)
-  -- `mishtodran_latency`, `mishtodran_misses`, `mishtodran_segment`
+  -- `mishtodran_latency`, `mishtodran_misses`, `mishtodran_record`, `mishtodran_segment`
   pub latency-entry : (s : List ℕ) (id : ℕ) (before : List ℕ) → Call (LatencyEntry s id before) (AtEntry LatencyRefusal) (λ r. r) before
   pub misses-entry : (s : List ℕ) (id k : ℕ) (before : List ℕ) → Call (MissesEntry s id k before) (AtEntry MissesRefusal) (λ r. r) before
+  pub record-entry : (s : List ℕ) (id : ℕ) (before : List ℕ) → Call (RecordEntry s id before) (AtEntry RecordRefusal) (λ r. r) before
   pub segment-entry : (s : List ℕ) (id against number : ℕ) (before : List ℕ) → Call (SegmentEntry s id against number before) (AtEntry SegmentRefusal) (λ r. r) before
   -- `mishtodran_conflict`
   pub conflict-entry : (v : Versions) (above : ℕ) (before : List ℕ) → Call (ConflictEntry v above before) (AtEntry TableRefusal) (λ r. r) before
-  -- `mishtodran_save`, `mishtodran_merge` and `mishtodran_report`, which are lent two buffers to be written
+  -- `mishtodran_save`, `mishtodran_merge`, `mishtodran_write`, `mishtodran_read` and `mishtodran_report`, which are lent two to be written
   pub save-entry : (buffer : List ℕ) (used : ℕ) (old new answer : List ℕ)
       → Call {A = List ℕ × List ℕ} (λ after r. SaveEntry buffer used old new answer (after .0) (after .1) r) (AtEntry SaveRefusal) (λ r. r) (buffer, answer)
   pub merge-entry : (v : Versions) (buffer answer : List ℕ)
       → Call {A = List ℕ × List ℕ} (λ after r. MergeEntry v buffer answer (after .0) (after .1) r) (AtEntry MergeRefusal) (λ r. r) (buffer, answer)
+  pub write-entry : (rs : List Row) → All Fits rs → (buffer answer : List ℕ)
+      → Call {A = List ℕ × List ℕ} (λ after r. WriteEntry rs buffer answer (after .0) (after .1) r) (AtEntry WriteRefusal) (λ r. r) (buffer, answer)
+  pub read-entry : (s : List ℕ) (rs : List Row) (answer : List ℕ)
+      → Call {A = List Row × List ℕ} (λ after r. ReadEntry s rs answer (after .0) (after .1) r) (AtEntry ReadRefusal) (λ r. r) (rs, answer)
   pub report-entry : (s text answer : List ℕ)
       → Call {A = List ℕ × List ℕ} (λ after r. ReportEntry s text answer (after .0) (after .1) r) (AtEntry ReportRefusal) (λ r. r) (text, answer)
   -- `mishtodran_check`, which no table refuses

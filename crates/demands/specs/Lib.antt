@@ -8,5 +8,6 @@ pub mod Figures
 pub mod Misses
 pub mod Others
 pub mod Merges
+pub mod Rows
 pub mod Starred
 pub mod Witness

@@ -33,7 +33,7 @@ use Rattle.table.proofs.Firsts.{or-right, not-accepted}
 use Rattle.table.proofs.Steps.{read-long}
 use Rattle.table.proofs.Accepted.{taken}
 use Rattle.slices.specs.Stored.{recordOf}
-use Rattle.slices.proofs.Bytes.{bytes-append, bytes-take, bytes-drop}
+use Rattle.slices.proofs.Bytes.{bytes-append, bytes-take, bytes-drop, bytes-flatten}
 use Rattle.slices.proofs.Parts.{Parts, rowIn, map-at}
 use Rattle.slices.proofs.Parsed.{parts-rows}
 use Rattle.slices.proofs.Records.{recordsFrom, length-records, records-at, parts-count, parts-record}
@@ -76,12 +76,6 @@ unfolding recordsFrom
 records-of P s most h zero chain l = tt
 records-of P s most h (suc n) chain l = (h chain (omega arith), records-of P s most h n (chain + 1) (omega arith))
 
--- bytes
-bytes-flatten : (rs : List (List ℕ)) → All Bytes rs → Bytes (flatten rs)
-unfolding flatten
-bytes-flatten [] h i = omega arith
-bytes-flatten (r ∷ rs) h i = bytes-append r (flatten rs) (h .0) (bytes-flatten rs (h .1)) i
-
 -- sums over records
 pub flatten-length : (rs : List (List ℕ)) → length (flatten rs) ≡ sumOf length rs
 unfolding flatten sumOf
@@ -97,7 +91,7 @@ unfolding markOf _when_else_
 end-mark n = ap markOf (end-mark-word n)
 
 -- an accepted table is within the limit
-accepted-short : (s : List ℕ) → readTable s .verdict ≡ Accepted → length s ≤ maxBytes
+pub accepted-short : (s : List ℕ) → readTable s .verdict ≡ Accepted → length s ≤ maxBytes
 accepted-short s e =
     ⊎-elim (λ h. absurd (not-accepted (sym (ap (λ (r : Reading). r .verdict) (read-long s (or-right (eqb (length s) 0) _ (lt-ltb _ _ h)))) ∙ e))) (λ h. h) (lt-or-le maxBytes (length s))
 
