@@ -2,7 +2,7 @@
 use Prim.Native.Nat.{ℕ, zero, suc, min, _+_, _*_, _<_, _≤_}
 use native.Mathlib.Omega.{arith}
 use native.Mathlib.Numerals.{add-one}
-use mathlib.Core.Path.{_≡_, refl, ap, subst}
+use mathlib.Core.Path.{_≡_, refl, ap, subst, _∙_}
 use mathlib.Core.List.{List, [], _++_, append-assoc}
 use mathlib.Core.Bool.{Bool, true, false}
 use lib.ListN.{length, take, drop}
@@ -61,11 +61,25 @@ pieces-on f i {before} {mid} {after} {at} {here} {next} w v =
 
 -- The answer
 
--- a fault is the answer
-pub fault-answers : (k m : ℕ) (answer : Written) → (k ≡ 0 → ⊥) → byNumber Refused (firstNumber k m) answer ≡ Refused k
-unfolding byNumber
-fault-answers zero m answer h = absurd (h refl)
-fault-answers (suc k) m answer h = refl
+-- the first number is the answer; where there is none, the length
+module _ (k l : ℕ) (t : Bool) where
+  pub first-answers : (n : ℕ) → n ≡ firstNumber k (24 when t else 0) → (n ≡ 0 → ⊥) → Refused n ≡ byNumber Refused k (Refused 24 when t else Used l)
+  unfolding byNumber _when_else_
+  first-answers n e h = ap Refused e ∙ by k t (λ z. h (e ∙ z))
+    where
+      by : (k : ℕ) (t : Bool) → (firstNumber k (24 when t else 0) ≡ 0 → ⊥) → Refused (firstNumber k (24 when t else 0)) ≡ byNumber Refused k (Refused 24 when t else Used l)
+      by zero true h = refl
+      by zero false h = absurd (h refl)
+      by (suc k) t h = refl
+
+  pub none-answers : firstNumber k (24 when t else 0) ≡ 0 → Used l ≡ byNumber Refused k (Refused 24 when t else Used l)
+  unfolding byNumber _when_else_
+  none-answers = by k t
+    where
+      by : (k : ℕ) (t : Bool) → firstNumber k (24 when t else 0) ≡ 0 → Used l ≡ byNumber Refused k (Refused 24 when t else Used l)
+      by zero true e = absurd (omega (arith, e))
+      by zero false e = refl
+      by (suc k) t e = absurd (omega (arith, e))
 
 -- a refusal has a number
 some-number : (k l n : ℕ) (t : Bool) → byNumber Refused k (Refused 24 when t else Used l) ≡ Refused n → n ≡ 0 → ⊥

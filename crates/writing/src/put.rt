@@ -13,7 +13,8 @@ ghost use lib.ListN.{length};
 ghost use Rattle.table.specs.Limits.{maxDistances, maxTasks};
 ghost use Rattle.slices.specs.code.Wrote.{Wrote};
 ghost use Rattle.writing.specs.Rows.{headBytes, listBytes, taskRecord, tasksBytes, rowBytes};
-ghost use Rattle.writing.specs.code.Judged.{Small};
+ghost use Rattle.writing.specs.code.Judged.{firstNumber};
+ghost use Rattle.search.specs.Choice.{_when_else_};
 ghost use Rattle.writing.specs.code.Put.{answerOf, rowsPut, RowRoom, EndRoom, Ends};
 
 // The fixed part of a row's record: two numbers at a time.
@@ -89,20 +90,31 @@ pub fn put_row(out: &mut [u8], at: usize, row: Row) -> usize
     put_tasks(out, after_list, &priority, &cost, row.tasks)
 }
 
-// What a write into so much room answers, by what was judged: the rows' number, 11 where there is none, then 24.
+// The number, or 0 where it is not called for.
+fn number_if(called: bool, n: u32) -> u32
+    ensures { λ r. ⌜ r ≡ (n when called else 0) ⌝ }
+{
+    if called { n } else { 0 }
+}
+
+// The first of two numbers that is not 0.
+fn first_number(n: u32, m: u32) -> u32
+    ensures { λ r. ⌜ r ≡ firstNumber n m ⌝ }
+{
+    if n != 0 { n } else { m }
+}
+
+// What a write into so much room answers, by what was judged: the rows' number, 11 where there is no row, then 24.
 fn answer_of(judged: Judged, room: usize) -> Written
     requires { ⌜ judged .bytes ≤ 4096 ⌝ }
     ensures { λ r. ⌜ r ≡ answerOf judged room ⌝ }
 {
-    if judged.number != 0 {
-        return Written::Refused(judged.number);
-    }
-    if judged.count == 0 {
-        return Written::Refused(11);
-    }
     let n = judged.bytes + 4;
-    if room < n {
-        return Written::Refused(24);
+    let rules = first_number(judged.number, number_if(judged.count == 0, 11));
+    let short = number_if(room < n, 24);
+    let number = first_number(rules, short);
+    if number != 0 {
+        return Written::Refused(number);
     }
     Written::Used(n as u32)
 }

@@ -1,34 +1,58 @@
--- At each return the tests so far, in order.
-use mathlib.Core.Path.{sym}
-use borrow.Author.Tests.{eq-eqb, ne-eqb, lt-ltb, le-ltb}
-use Rattle.search.specs.Choice.{_when_else_, byNumber}
-use Rattle.writing.specs.code.Put.{answerOf}
-use Rattle.writing.proofs.Puts.{fault-answers}
+-- The rules' number, then 24, is the first number; without one the length is answered.
+use Prim.Native.Nat.{ℕ}
+use mathlib.Core.Path.{_≡_, ap, ap₂, sym, _∙_}
+use lib.Dec.{ltb}
+use Rattle.search.specs.Choice.{_when_else_}
+use Rattle.writing.specs.code.Judged.{firstNumber}
+use Rattle.writing.specs.code.Put.{judgedNumber, tableLength, answerOf}
+use Rattle.writing.proofs.Puts.{first-answers, none-answers}
 use borrow.Author.Needs.{needs}
 use Rattle.writing.proofs.put.answer_of.Statement.{statement}
 use Rattle.writing.proofs.put.answer_of.Tie as tie
 
-returns : tie.Need-returns
-unfolding answerOf
-returns c = sym (fault-answers _ _ _ (c .if1 .taken))
-
-returns-2 : tie.Need-returns-2
-unfolding answerOf byNumber _when_else_
-returns-2 c = rw (c .before .before .if1 .left, eq-eqb _ _ (c .if2 .taken))
-
 add-n : tie.Need-add-n
 add-n c = search needs
 
-returns-3 : tie.Need-returns-3
-unfolding answerOf byNumber _when_else_
-returns-3 c = rw (c .before .before .before .before .if1 .left, ne-eqb _ _ (c .before .before .if2 .left), lt-ltb _ _ (c .if3 .taken))
+number-if-requires : tie.Need-number-if-requires
+number-if-requires c κs = search needs
 
-cast-t5 : tie.Need-cast-t5
-cast-t5 c = search needs
+first-number-requires : tie.Need-first-number-requires
+first-number-requires c κs = search needs
 
-returns-4 : tie.Need-returns-4
-unfolding answerOf byNumber _when_else_
-returns-4 c = rw (c .before .before .before .before .if1 .left, ne-eqb _ _ (c .before .before .if2 .left), le-ltb _ _ (c .if3 .left))
+number-if-requires-2 : tie.Need-number-if-requires-2
+number-if-requires-2 c κs = search needs
+
+first-number-requires-2 : tie.Need-first-number-requires-2
+first-number-requires-2 c κs = search needs
+
+-- what the calls gave
+module _ (c : tie.After-first-number2) where
+  abbrev asked : tie.Start
+  asked = c .before .before .before .before .before .before
+
+  number-is : c .first-number2 .result ≡ firstNumber (judgedNumber (asked .args .judged)) (24 when ltb (asked .args .room) (tableLength (asked .args .judged)) else 0)
+  number-is = c .first-number2 .ensures ∙ ap₂ firstNumber (c .before .before .first-number .ensures ∙ ap (firstNumber (asked .args .judged .number)) (c .before .before .before .number-if .ensures)) (c .before .number-if2 .ensures)
+
+returns : tie.Need-returns
+unfolding answerOf
+returns c = first-answers _ _ _ _ (number-is (c .before)) (c .if1 .taken)
+
+cast-t7 : tie.Need-cast-t7
+cast-t7 c = search needs
+
+returns-2 : tie.Need-returns-2
+unfolding answerOf
+returns-2 c = none-answers _ _ _ (sym (number-is (c .before)) ∙ c .if1 .left)
 
 pub answer-of-spec : {M : Type 1} → statement M
-answer-of-spec = tie.close (tie.spec returns returns-2 add-n returns-3 cast-t5 returns-4)
+answer-of-spec =
+    tie.close
+    (tie.spec
+    add-n
+    number-if-requires
+    first-number-requires
+    number-if-requires-2
+    first-number-requires-2
+    returns
+    cast-t7
+    returns-2)
