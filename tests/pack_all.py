@@ -1,7 +1,7 @@
 #!/usr/bin/env python3
 """Makes the packed cases of the gate anew, from tests/cases and the cases that stand in the pack modules.
 
-Usage: pack_all.py            writes the four files
+Usage: pack_all.py            writes the five files
        pack_all.py --check    writes nothing and compares: 0 if all are the same, else 1 and the name of each that differs
 
 Status 2: a wrong use, or something cannot be read or written.
@@ -12,6 +12,7 @@ import pack
 import pack_entries
 import pack_merge
 import pack_save
+import pack_write
 from stored import TOP
 
 sys.path.insert(0, str(TOP / "examples"))
@@ -22,6 +23,7 @@ PACKED = {
     "crates/vectors/stdin": pack.everything,
     "crates/save_vectors/stdin": pack_save.everything,
     "crates/merge_vectors/stdin": pack_merge.everything,
+    "crates/write_vectors/stdin": pack_write.everything,
     "tests/entries.bin": pack_entries.everything,
 }
 

@@ -1,4 +1,4 @@
-"""Cases of a write with known answers, for the C entry (pack_entries.py), and packed for a program over rows.
+"""Cases of a write with known answers, for the C entry (pack_entries.py), and packed for the program write_vectors.
 
 After those of tests/cases/write.jsonl, each held against the write from the words (written.py), as they stand and with junk in
 the places past their counts, come those made here: each field at its limits and past them, in a row alone and in one between two

@@ -1,7 +1,9 @@
 // Packed cases with known answers, as a program reads them from standard input, and what it says of them.
 use libc::STDIN_FILENO;
 use libc::STDOUT_FILENO;
+ghost use mathlib.Core.Path.{_≡_};
 ghost use Prim.Native.Nat.{_≤_};
+ghost use lib.ListN.{length};
 ghost use Rattle.io.specs.Counts.{Counts};
 
 // More cases than a program is ever given: with a bound, its loop is known to end.
@@ -30,6 +32,19 @@ pub fn filled(buffer: &mut [u8], n: usize) -> usize
         return 0;
     }
     io::read_full(STDIN_FILENO, &mut buffer[..n])
+}
+
+// Bytes that are not 0 and differ from those near them, so that each that is written or moved is seen.
+pub fn scribbled() -> [u8; 65536]
+    ensures { λ r. ⌜ 65536 ≡ length r ⌝ }
+{
+    let mut bytes = [0u8; 65536];
+    let mut i: usize = 0;
+    while i < 65536 {
+        bytes[i] = (i % 251 + 1) as u8;
+        i += 1;
+    }
+    bytes
 }
 
 fn say_wrong(case: u64) {

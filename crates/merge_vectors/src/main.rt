@@ -5,13 +5,12 @@ use cases::MOST;
 use cases::Outcome;
 use cases::filled;
 use cases::say_counts;
+use cases::scribbled;
 use cases::told;
 use cases::went;
 use libc::STDIN_FILENO;
 use merging::Found;
 use merging::Merged;
-ghost use mathlib.Core.Path.{_≡_};
-ghost use lib.ListN.{length};
 ghost use Rattle.io.specs.Counts.{Counts};
 
 // What a case expects: the refusal number, 0 for none, and its detail.
@@ -30,19 +29,6 @@ fn next_bytes(buffer: &mut [u8]) -> usize
 }
 
 // ---- The merge ----
-
-// Bytes that are not 0 and differ from those near them, so that each that is written or moved is seen.
-fn scribbled() -> [u8; 65536]
-    ensures { λ r. ⌜ 65536 ≡ length r ⌝ }
-{
-    let mut bytes = [0u8; 65536];
-    let mut i: usize = 0;
-    while i < 65536 {
-        bytes[i] = (i % 251 + 1) as u8;
-        i += 1;
-    }
-    bytes
-}
 
 // Whether a table, or the result, is to be refused so.
 fn refuses(number: u32, at: usize, expected: Expected) -> bool {

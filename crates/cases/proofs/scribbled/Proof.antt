@@ -3,8 +3,8 @@ use Prim.Native.Nat.{_≤_, _-_}
 use mathlib.Core.Path.{_≡_}
 use lib.ListN.{length}
 use borrow.Author.Needs.{needs}
-use Rattle.merge_vectors.proofs.scribbled.Statement.{statement}
-use Rattle.merge_vectors.proofs.scribbled.Tie as tie
+use Rattle.cases.proofs.scribbled.Statement.{statement}
+use Rattle.cases.proofs.scribbled.Tie as tie
 
 abbrev Inv-loop : tie.InvT-loop
 Inv-loop bytes₀ i₀ bytes i = (i ≤ 65536) × (65536 ≡ length bytes)
