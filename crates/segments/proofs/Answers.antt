@@ -1,16 +1,16 @@
 -- What the segment query hands back: the task records of that active segment, where they stand. Assumes nothing.
-use Prim.Native.Nat.{ℕ, zero, suc, _+_, _*_, _-_, _/_, _%_, _<_, _≤_}
+use Prim.Native.Nat.{ℕ, zero, suc, _+_, _*_, _-_, _<_, _≤_}
 use native.Mathlib.Omega.{arith}
 use mathlib.Core.Path.{_≡_, refl, ap, ap₂, sym, subst, _∙_}
 use mathlib.Core.List.{List, [], _∷_, _++_, map, flatten}
 use mathlib.Core.Bool.{not, _||_}
-use borrow.Author.Tests.{ltb-true, eqb-true, not-false}
+use borrow.Author.Tests.{ltb-true, not-false}
 use lib.Dec.{eqb}
 use lib.ListN.{length, getD, take, drop}
-use lib.Seq.{drop-cons, drop-drop, take-add}
+use lib.Seq.{drop-drop, take-add}
 use Rattle.search.proofs.Choice.{when-cases}
-use Rattle.table.specs.Bytes.{word, bytesOf, Bytes}
-use Rattle.table.specs.Record.{priorityAt, costAt, afterList, rowAt}
+use Rattle.table.specs.Bytes.{word, Bytes}
+use Rattle.table.specs.Record.{priorityAt, costAt, afterList, taskRecord, rowAt}
 use Rattle.table.specs.Fault.{markOf}
 use Rattle.table.specs.Find.{rowOf, findOf, used}
 use Rattle.table.specs.Place.{placeOf}
@@ -21,13 +21,14 @@ use Rattle.table.specs.declared.Table.{Table}
 use Rattle.table.specs.declared.Mark.the-variants as mark
 use Rattle.table.specs.declared.Verdict.{Verdict}
 use Rattle.table.specs.declared.Verdict.the-variants as verdict
+use Rattle.table.proofs.Marks.{task-there}
 use Rattle.table.proofs.Stands.{priority-at, cost-at}
 use Rattle.table.proofs.Firsts.{none-or}
 use Rattle.table.proofs.Faultless.{inside}
 use Rattle.table.proofs.Accepted.{taken}
 use Rattle.segments.specs.Tasks.{Task, tasksFrom}
 use Rattle.segments.specs.Actives.{Active, startOf, nothing}
-use Rattle.segments.specs.Query.{activesIn, nthOf, answerOf, segmentOf, partOf, taskRecord, tasksIn, TaskRecords}
+use Rattle.segments.specs.Query.{activesIn, nthOf, answerOf, segmentOf, partOf, bytesOfTask, tasksIn, TaskRecords}
 use Rattle.segments.specs.declared.Answer.the-variants.{Records, Refused}
 use Rattle.segments.proofs.Steps.{task}
 use Rattle.segments.proofs.Standing.{active-contiguous, actives-length, active-start, active-length}
@@ -66,41 +67,14 @@ answered t id against number offset len =
       length-is = cc;
     })))
 
--- the bytes of a number that is read are those that it makes
-bytes-word : (n : ℕ) (s : List ℕ) (at : ℕ) → Bytes s → at + n ≤ length s → bytesOf n (word n s at) ≡ take n (drop at s)
-unfolding word bytesOf
-bytes-word zero s at bytes h = refl
-bytes-word (suc n) s at bytes h =
-    let rest = word n s (at + 1) in
-    let low : (getD s at 0 + 256 * rest) % 256 ≡ getD s at 0 = omega (arith, bytes at) in
-    let high : (getD s at 0 + 256 * rest) / 256 ≡ rest = omega (arith, bytes at) in
-    let next : suc at ≡ at + 1 = omega arith in
-    rw (low, high, drop-cons s at 0 (omega arith), next) (ap (λ l. getD s at 0 ∷ l) (bytes-word n s (at + 1) bytes (omega arith)))
-
-mark-is : (m : ℕ) → markOf m ≡ mark.Task → m ≡ 19284
-unfolding markOf
-mark-is m = when-cases (λ x. x ≡ mark.Task → m ≡ 19284) (eqb m 18499)
-    (λ e f. absurd (let z : _≡_ {A = ℕ} 0 1 = cc in omega arith))
-    (λ e. when-cases (λ x. x ≡ mark.Task → m ≡ 19284) (eqb m 19284) (λ g f. eqb-true m 19284 g)
-    (λ g. when-cases (λ x. x ≡ mark.Task → m ≡ 19284) (eqb m 20037)
-    (λ d f. absurd (let z : _≡_ {A = ℕ} 0 1 = cc in omega arith)) (λ d f. absurd (let z : _≡_ {A = ℕ} 0 1 = cc in omega arith))))
-
 -- 8 bytes are a task's record
 task-bytes : (s : List ℕ) (at : ℕ) (t : Task) → Bytes s → at + 8 ≤ length s → markOf (word 2 s at) ≡ mark.Task → priorityAt s at ≡ t .priority → costAt s at ≡ t .cost
-    → take 8 (drop at s) ≡ taskRecord t
-task-bytes s at t bytes h m p c =
-    take-add 2 6 (drop at s)
-    ∙ ap₂ _++_ (sym (bytes-word 2 s at bytes (omega arith)) ∙ ap (bytesOf 2) (mark-is (word 2 s at) m))
-    (ap (take 6) (drop-drop 2 at s) ∙ take-add 2 4 (drop (at + 2) s)
-    ∙ ap₂ _++_ (sym (bytes-word 2 s (at + 2) bytes (omega arith)) ∙ ap (bytesOf 2) p)
-    (ap (take 4) (drop-drop 2 (at + 2) s ∙ ap (λ n. drop n s) four) ∙ sym (bytes-word 4 s (at + 4) bytes (omega arith)) ∙ ap (bytesOf 4) c))
-  where
-    four : at + 2 + 2 ≡ at + 4
-    four = omega arith
+    → take 8 (drop at s) ≡ bytesOfTask t
+task-bytes s at t bytes h m p c = task-there s at bytes h m ∙ ap₂ taskRecord p c
 
 -- so are those of n tasks, from the one with i before it on, where the first task's record starts at `first`
-tasks-bytes : (s ps cs : List ℕ) (first most : ℕ) → ((i : ℕ) → i < most → take 8 (drop (first + 8 * i) s) ≡ taskRecord (task ps cs i))
-    → (n i : ℕ) → i + n ≤ most → take (8 * n) (drop (first + 8 * i) s) ≡ flatten (map taskRecord (tasksFrom ps cs n i))
+tasks-bytes : (s ps cs : List ℕ) (first most : ℕ) → ((i : ℕ) → i < most → take 8 (drop (first + 8 * i) s) ≡ bytesOfTask (task ps cs i))
+    → (n i : ℕ) → i + n ≤ most → take (8 * n) (drop (first + 8 * i) s) ≡ flatten (map bytesOfTask (tasksFrom ps cs n i))
 unfolding flatten tasksFrom
 tasks-bytes s ps cs first most each zero i h = refl
 tasks-bytes s ps cs first most each (suc n) i h =
@@ -157,7 +131,7 @@ module _ (s : List ℕ) (bytes : Bytes s) (id against number offset len : ℕ) (
   answer-inside = omega (arith, offset-there, length-there, follow-there, holds .inside chain (answer-of .there))
 
   -- each task of the chain stands where its record does
-  each-task : (i : ℕ) → i < row .tasks → take 8 (drop (first + 8 * i) s) ≡ taskRecord (task (row .priority) (row .cost) i)
+  each-task : (i : ℕ) → i < row .tasks → take 8 (drop (first + 8 * i) s) ≡ bytesOfTask (task (row .priority) (row .cost) i)
   unfolding rowAt
   each-task i h =
       let at = placeOf (tableOf s) chain in
@@ -174,5 +148,5 @@ module _ (s : List ℕ) (bytes : Bytes s) (id against number offset len : ℕ) (
     bytes =
         ap₂ (λ m n. take m (drop n s)) length-there offset-there
         ∙ tasks-bytes s (row .priority) (row .cost) first (row .tasks) each-task (length tasks) (startOf tasks) follow-there
-        ∙ ap (λ l. flatten (map taskRecord l)) (sym (active-contiguous row other (number - 1) .are));
+        ∙ ap (λ l. flatten (map bytesOfTask l)) (sym (active-contiguous row other (number - 1) .are));
   }

@@ -7,9 +7,8 @@ use lib.ListN.{length, getD, take, drop}
 use lib.Dec.{eqb}
 use denote.Ref.{RefT, ptr, now}
 use Rattle.search.specs.Choice.{_when_else_}
-use Rattle.table.specs.Bytes.{bytesOf}
 use Rattle.table.specs.Find.{rowOf, findOf, used}
-use Rattle.table.specs.Record.{afterList}
+use Rattle.table.specs.Record.{afterList, taskRecord}
 use Rattle.table.specs.Fault.{outside}
 use Rattle.table.specs.Place.{placeOf}
 use Rattle.table.specs.Read.{byVerdict, readTable, tableOf}
@@ -70,9 +69,9 @@ pub record HandedBack (table r : RefT (List ℕ)) (answer : Answer) : Type 0 whe
 
 -- what that part is: the records of the active segment's tasks, one after the other
 
--- a task's record in bytes: its mark `TK`, its priority and its cost
-abbrev pub taskRecord : Task → List ℕ
-taskRecord t = bytesOf 2 19284 ++ (bytesOf 2 (t .priority) ++ bytesOf 4 (t .cost))
+-- a task's record
+abbrev pub bytesOfTask : Task → List ℕ
+bytesOfTask t = taskRecord (t .priority) (t .cost)
 
 -- the active segments of the chain with one id against the chain with the other, in task order, each as its tasks
 abbrev pub tasksIn : Table → ℕ → ℕ → List (List Task)
@@ -82,4 +81,4 @@ tasksIn t id against = activeTasks (rowOf t (findOf t id)) (rowOf t (findOf t ag
 pub record TaskRecords (s : List ℕ) (id against number : ℕ) (part : List ℕ) : Type 0 where
   pub low : 1 ≤ number
   pub high : number ≤ length (tasksIn (tableOf s) id against)
-  pub bytes : part ≡ flatten (map taskRecord (getD (tasksIn (tableOf s) id against) (number - 1) []))
+  pub bytes : part ≡ flatten (map bytesOfTask (getD (tasksIn (tableOf s) id against) (number - 1) []))

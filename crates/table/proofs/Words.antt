@@ -5,7 +5,7 @@ use mathlib.Core.List.{List, [], _∷_, _++_, append-assoc, append-nil}
 use native.Mathlib.Omega.{arith}
 use native.Mathlib.Nat.{pow-suc}
 use lib.ListN.{length, getD, take, drop, length-append}
-use lib.Seq.{getD-append-seam, drop-cons}
+use lib.Seq.{getD-append-seam, drop-cons, take-add, drop-drop}
 use Rattle.table.specs.Bytes.{word, bytesOf, Bytes}
 use Rattle.table.specs.Record.{endRecord}
 
@@ -71,6 +71,10 @@ word-back (suc n) s at b h =
     let e : at + 1 ≡ suc at = omega arith in
     let after : bytesOf n rest ≡ take n (drop (suc at) s) = word-back n s (at + 1) b (omega arith) ∙ ap (λ (k : ℕ). take n (drop k s)) e in
     rw (first, next, after, drop-cons s at 0 (omega arith))
+
+-- bytes, and those after them
+pub take-next : (s : List ℕ) (at n m : ℕ) → take (n + m) (drop at s) ≡ take n (drop at s) ++ take m (drop (at + n) s)
+take-next s at n m = take-add n m (drop at s) ∙ ap (λ (l : List ℕ). take n (drop at s) ++ take m l) (drop-drop n at s)
 
 -- the bytes of a number are bytes
 pub bytes-of : (n x : ℕ) → Bytes (bytesOf n x)

@@ -8,7 +8,7 @@ use lib.Dec.{ltb, eqb}
 use Rattle.search.specs.Choice.{_when_else_}
 use Rattle.table.specs.Limits.{maxDeadline, maxGap, maxDistances, maxDistance, maxTasks, maxAllTasks, maxCost}
 use Rattle.table.specs.Bytes.{word}
-use Rattle.table.specs.Record.{idPlace, idAt, kindPlace, kindAt, overloadPlace, overloadAt, deadlinePlace, deadlineAt, gapPlace, gapAt, listedPlace, listedAt, tasksPlace, tasksAt, listPlace, distancesAt, firstTask, priorityPlace, priorityAt, costPlace, costAt, countPlace, countAt, afterEnd}
+use Rattle.table.specs.Record.{chainMark, taskMark, endMark, idPlace, idAt, kindPlace, kindAt, overloadPlace, overloadAt, deadlinePlace, deadlineAt, gapPlace, gapAt, listedPlace, listedAt, tasksPlace, tasksAt, listPlace, distancesAt, firstTask, priorityPlace, priorityAt, costPlace, costAt, countPlace, countAt, afterEnd}
 use Rattle.table.specs.Find.{used}
 use Rattle.table.specs.declared.Mark.{Mark}
 use Rattle.table.specs.declared.Mark.the-variants.{Chain, Task, End, Unknown}
@@ -26,9 +26,9 @@ _then_ (Refused n place) v = Refused n place
 abbrev pub outside : ℕ → ℕ → ℕ → Bool
 outside low high x = ltb x low || ltb high x
 
--- the two bytes of a mark as a number, the first the smaller: `CH`, `TK`, `EN`, or none of them
+-- what a mark, as a number, stands for: a chain, a task, the end, or none of them
 unfoldable pub markOf : ℕ → Mark
-markOf m = Chain when eqb m 18499 else Task when eqb m 19284 else End when eqb m 20037 else Unknown
+markOf m = Chain when eqb m chainMark else Task when eqb m taskMark else End when eqb m endMark else Unknown
 
 -- a mark at `at`, where a task's must stand
 abbrev pub noTask : Mark → ℕ → Verdict

@@ -6,6 +6,17 @@ use Rattle.table.specs.Limits.{maxDistances, maxTasks}
 use Rattle.table.specs.Bytes.{word, bytesOf}
 use Rattle.table.specs.declared.Row.{Row}
 
+-- The marks, the two bytes as a number, the first the smaller: `CH`, `TK`, `EN`
+
+abbrev pub chainMark : ℕ
+chainMark = 18499
+
+abbrev pub taskMark : ℕ
+taskMark = 19284
+
+abbrev pub endMark : ℕ
+endMark = 20037
+
 -- The fixed part of the chain record at `at`, 16 bytes, the mark first: where each field stands, and what it holds
 
 abbrev pub idPlace : ℕ → ℕ
@@ -83,6 +94,10 @@ costPlace at = at + 4
 abbrev pub costAt : List ℕ → ℕ → ℕ
 costAt s at = word 4 s (costPlace at)
 
+-- its bytes: mark, priority, cost
+abbrev pub taskRecord : ℕ → ℕ → List ℕ
+taskRecord priority cost = bytesOf 2 taskMark ++ bytesOf 2 priority ++ bytesOf 4 cost
+
 -- The end record at `at`, the mark first: how many chains there are
 
 abbrev pub countPlace : ℕ → ℕ
@@ -95,9 +110,9 @@ countAt s at = word 2 s (countPlace at)
 abbrev pub afterEnd : ℕ → ℕ
 afterEnd at = at + 4
 
--- its bytes: its mark `EN`, and the number of chains
+-- its bytes: mark, number of chains
 abbrev pub endRecord : ℕ → List ℕ
-endRecord n = bytesOf 2 20037 ++ bytesOf 2 n
+endRecord n = bytesOf 2 endMark ++ bytesOf 2 n
 
 -- n numbers from `at` on, one every `step` bytes
 unfoldable pub spaced : (ℕ → ℕ) → ℕ → ℕ → ℕ → List ℕ

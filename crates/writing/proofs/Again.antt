@@ -5,7 +5,7 @@ use native.Mathlib.Nat.{mul-suc}
 use mathlib.Core.Path.{_≡_, refl, ap, sym, subst, _∙_}
 use mathlib.Core.List.{List, [], _++_, map, flatten}
 use lib.ListN.{length, getD, take, drop, length-map, length-take}
-use lib.Seq.{take-add, drop-drop, ext-getD, getD-take}
+use lib.Seq.{ext-getD, getD-take}
 use Rattle.table.specs.Bytes.{word, bytesOf, Bytes}
 use Rattle.table.specs.Record.{endRecord, idAt, kindAt, overloadAt, deadlineAt, gapAt, listedAt, tasksAt, listPlace, afterList, firstTask, lengthAt, priorityAt, costAt, rowAt, blank}
 use Rattle.table.specs.Find.{rowOf, rows}
@@ -18,8 +18,8 @@ use Rattle.table.specs.declared.Table.{Table}
 use Rattle.table.specs.declared.Mark.the-variants.{Chain, Task}
 use Rattle.table.specs.declared.Verdict.{Verdict}
 use Rattle.table.specs.declared.Verdict.the-variants.{Accepted}
-use Rattle.table.proofs.Marks.{mark-number}
-use Rattle.table.proofs.Words.{word-back}
+use Rattle.table.proofs.Marks.{mark-number, task-there}
+use Rattle.table.proofs.Words.{word-back, take-next}
 use Rattle.table.proofs.Accepted.{taken}
 use Rattle.table.proofs.Stands.{list-at, priority-at, cost-at}
 use Rattle.slices.specs.Stored.{recordOf}
@@ -27,13 +27,9 @@ use Rattle.slices.proofs.Parts.{map-at}
 use Rattle.slices.proofs.Stored.{record-is}
 use Rattle.slices.proofs.Records.{recordsFrom, length-records, records-at, parts-of}
 use Rattle.slices.proofs.Ends.{end-stored}
-use Rattle.writing.specs.Rows.{countByte, headBytes, distanceBytes, taskRecord, taskBytes, pieces, listBytes, tasksBytes, rowBytes, tableBytes}
+use Rattle.writing.specs.Rows.{countByte, headBytes, distanceBytes, taskBytes, pieces, listBytes, tasksBytes, rowBytes, tableBytes}
 use Rattle.writing.proofs.Pieces.{more-pieces}
 use Rattle.writing.proofs.Fields.{one-byte}
-
--- bytes, and those after them
-take-next : (s : List ℕ) (at n m : ℕ) → take (n + m) (drop at s) ≡ take n (drop at s) ++ take m (drop (at + n) s)
-take-next s at n m = take-add n m (drop at s) ∙ ap (λ (l : List ℕ). take n (drop at s) ++ take m l) (drop-drop n at s)
 
 -- pieces that are the bytes from a place on
 pieces-again : (s : List ℕ) (f : ℕ → List ℕ) (w p n : ℕ) → ((j : ℕ) → j < n → f j ≡ take w (drop (p + w * j) s)) → pieces f n 0 ≡ take (w * n) (drop p s)
@@ -56,7 +52,7 @@ module _ (s : List ℕ) (bytes : Bytes s) where
   count p h = let e : min (getD s p 0) 255 ≡ getD s p 0 = omega (arith, bytes p) in ap (bytesOf 1) e ∙ byte p h
 
   -- a whole chain record, its marks right
-  module _ (at : ℕ) (there : at + lengthAt s at ≤ length s) (mark : word 2 s at ≡ 18499) (marks : (i : ℕ) → i < tasksAt s at → word 2 s (firstTask s at + 8 * i) ≡ 19284) where
+  module _ (at : ℕ) (there : at + lengthAt s at ≤ length s) (mark : word 2 s at ≡ 18499) (marks : (i : ℕ) → i < tasksAt s at → markOf (word 2 s (firstTask s at + 8 * i)) ≡ Task) where
     abbrev r : Row
     r = rowAt s at
 
@@ -83,9 +79,7 @@ module _ (s : List ℕ) (bytes : Bytes s) where
     task-again : (i : ℕ) → i < tasksAt s at → taskBytes (r .priority) (r .cost) i ≡ take 8 (drop (firstTask s at + 8 * i) s)
     task-again i h =
         let q = firstTask s at + 8 * i in
-        let first : bytesOf 2 19284 ≡ take 2 (drop q s) = ap (bytesOf 2) (sym (marks i h)) ∙ number 2 q (omega (arith, there, h)) in
-        rw (priority-at s at i h, cost-at s at i h, first, number 2 (q + 2) (omega (arith, there, h)), number 4 (q + 4) (omega (arith, there, h)))
-        (sym (take-next s q 4 4 ∙ rw (take-next s q 2 2)))
+        rw (priority-at s at i h, cost-at s at i h) (sym (task-there s q bytes (omega (arith, there, h)) (marks i h)))
 
     tasks-again : tasksBytes (r .priority) (r .cost) (tasksAt s at) ≡ take (8 * tasksAt s at) (drop (firstTask s at) s)
     tasks-again = pieces-again s (taskBytes (r .priority) (r .cost)) 8 (firstTask s at) (tasksAt s at) task-again
@@ -116,9 +110,7 @@ module _ (s : List ℕ) (bytes : Bytes s) (verdict : readTable s .verdict ≡ Ac
       let at = placeOf t chain in
       let makes = whole .holds .makes chain h in
       let size : lengthAt s at ≡ lengthOf (rowOf t chain) = ap lengthOf makes in
-      let marks : (i : ℕ) → i < tasksAt s at → word 2 s (firstTask s at + 8 * i) ≡ 19284 =
-      λ i l. mark-number (word 2 s (firstTask s at + 8 * i))
-      (subst (λ (r : Row). (k : ℕ) → k < r .tasks → markOf (word 2 s (afterList at (r .listed) + 8 * k)) ≡ Task) (sym makes) (whole .holds .task-marks chain h) i l) (omega arith) in
+      let marks = subst (λ (r : Row). (i : ℕ) → i < r .tasks → markOf (word 2 s (afterList at (r .listed) + 8 * i)) ≡ Task) (sym makes) (whole .holds .task-marks chain h) in
       ap rowBytes (sym makes)
       ∙ row-again s bytes at (omega (arith, whole .holds .inside chain h, size)) (mark-number (word 2 s at) (whole .holds .marks chain h) (omega arith)) marks
       ∙ ap (λ (n : ℕ). take n (drop at s)) size ∙ sym (record-is s t read chain)

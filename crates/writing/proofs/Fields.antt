@@ -9,7 +9,7 @@ use Rattle.table.specs.Bytes.{word, bytesOf}
 use Rattle.table.specs.Record.{idAt, kindAt, overloadAt, deadlineAt, gapAt, listedAt, tasksAt, listPlace, afterList, priorityAt, costAt}
 use Rattle.table.specs.declared.Row.{Row}
 use Rattle.table.proofs.Words.{word-bytes}
-use Rattle.writing.specs.Rows.{countByte, headBytes, distanceBytes, taskRecord, taskBytes, pieces, listBytes, tasksBytes, rowBytes, Fits}
+use Rattle.writing.specs.Rows.{countByte, headBytes, distanceBytes, taskBytes, pieces, listBytes, tasksBytes, rowBytes, Fits}
 use Rattle.writing.proofs.Pieces.{pieces-split, head-length, list-length, tasks-length, row-length}
 
 -- a number of one byte

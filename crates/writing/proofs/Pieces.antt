@@ -9,7 +9,8 @@ use Rattle.table.specs.Bytes.{bytesOf}
 use Rattle.table.specs.Place.{lengthOf}
 use Rattle.table.specs.declared.Row.{Row}
 use Rattle.table.proofs.Words.{length-bytes}
-use Rattle.writing.specs.Rows.{headBytes, distanceBytes, taskRecord, taskBytes, pieces, listBytes, tasksBytes, rowBytes}
+use Rattle.table.specs.Record.{taskRecord}
+use Rattle.writing.specs.Rows.{headBytes, distanceBytes, taskBytes, pieces, listBytes, tasksBytes, rowBytes}
 
 module _ (f : ℕ → List ℕ) where
   -- piece j, with those before it and those after it

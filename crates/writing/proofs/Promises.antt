@@ -31,7 +31,8 @@ use Rattle.table.proofs.Steps.{read-on}
 use Rattle.slices.proofs.Bytes.{bytes-append, bytes-flatten}
 use Rattle.slices.proofs.Parts.{Whole, Parts, rowIn, all-take}
 use Rattle.slices.proofs.Parsed.{parts-rows}
-use Rattle.writing.specs.Rows.{countByte, headBytes, distanceBytes, taskRecord, taskBytes, pieces, listBytes, tasksBytes, rowBytes, tableBytes, cleared, Fits}
+use Rattle.table.specs.Record.{taskRecord}
+use Rattle.writing.specs.Rows.{countByte, headBytes, distanceBytes, taskBytes, pieces, listBytes, tasksBytes, rowBytes, tableBytes, cleared, Fits}
 use Rattle.writing.specs.Write as write
 use Rattle.writing.specs.code.Judged.{rowNumber, unjudged, judgedWith, judgedAll, Small, JudgedWith, mostJudged, JudgedRows}
 use Rattle.writing.specs.code.Put.{judgedNumber}

@@ -14,7 +14,8 @@ use Rattle.table.specs.Limits.{maxDistances, maxTasks}
 use Rattle.table.specs.Bytes.{bytesOf}
 use Rattle.table.specs.declared.Row.{Row}
 use Rattle.table.proofs.Words.{length-bytes, bytes-join}
-use Rattle.writing.specs.Rows.{headBytes, taskRecord, pieces}
+use Rattle.table.specs.Record.{taskRecord}
+use Rattle.writing.specs.Rows.{headBytes, pieces}
 use Rattle.writing.specs.code.Judged.{firstNumber}
 use Rattle.writing.specs.code.Put.{judgedNumber, tableLength, answerOf}
 use Rattle.writing.specs.declared.judged.Judged.{Judged}

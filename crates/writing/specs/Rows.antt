@@ -5,25 +5,22 @@ use mathlib.Core.List.{List, [], _++_, map, flatten}
 use lib.ListN.{length, getD, take}
 use Rattle.table.specs.Limits.{maxDistances, maxTasks}
 use Rattle.table.specs.Bytes.{bytesOf}
-use Rattle.table.specs.Record.{endRecord, pad, distances}
+use Rattle.table.specs.Record.{chainMark, taskRecord, endRecord, pad, distances}
 use Rattle.table.specs.declared.Row.{Row}
 
 -- a count stands in one byte, one above 255 as 255
 abbrev pub countByte : ℕ → List ℕ
 countByte n = bytesOf 1 (min n 255)
 
--- the fixed part of a chain record: its mark `CH`, id, kind, overload, deadline, gap, list length, task count
+-- the fixed part of a chain record: mark, id, kind, overload, deadline, gap, list length, task count
 unfoldable pub headBytes : Row → List ℕ
 headBytes r =
-    bytesOf 2 18499 ++ bytesOf 2 (r .id) ++ bytesOf 1 (r .kind) ++ bytesOf 1 (r .overload) ++ bytesOf 4 (r .deadline) ++ bytesOf 4 (r .gap)
+    bytesOf 2 chainMark ++ bytesOf 2 (r .id) ++ bytesOf 1 (r .kind) ++ bytesOf 1 (r .overload) ++ bytesOf 4 (r .deadline) ++ bytesOf 4 (r .gap)
     ++ countByte (r .listed) ++ countByte (r .tasks)
 
--- a distance; a task record: its mark `TK`, priority, cost
+-- a distance, and a task record
 abbrev pub distanceBytes : List ℕ → ℕ → List ℕ
 distanceBytes list j = bytesOf 4 (getD list j 0)
-
-abbrev pub taskRecord : ℕ → ℕ → List ℕ
-taskRecord priority cost = bytesOf 2 19284 ++ bytesOf 2 priority ++ bytesOf 4 cost
 
 abbrev pub taskBytes : List ℕ → List ℕ → ℕ → List ℕ
 taskBytes priority cost i = taskRecord (getD priority i 0) (getD cost i 0)

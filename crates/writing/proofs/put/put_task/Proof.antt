@@ -6,7 +6,7 @@ use mathlib.Core.List.{_++_}
 use denote.Ref.{now}
 use Rattle.slices.specs.code.Wrote.{Wrote}
 use Rattle.table.specs.Bytes.{bytesOf}
-use Rattle.writing.specs.Rows.{taskRecord}
+use Rattle.table.specs.Record.{taskRecord}
 use Rattle.writing.proofs.Puts.{wrote-number, number-on, task-bytes}
 use borrow.Author.Needs.{needs}
 use Rattle.writing.proofs.put.put_task.Statement.{statement}
