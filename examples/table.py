@@ -75,7 +75,7 @@ def rows(verb, **given):
 
 # ---- From text ----
 
-Written = namedtuple("Written", "line fields distances tasks")  # a chain of a text
+Chain = namedtuple("Chain", "line fields distances tasks")  # a chain of a text
 
 
 def take(words, what):
@@ -125,7 +125,7 @@ def read_line(line, words, chains):
     """Adds what stands on a line to the chains."""
     first = words.popleft()
     if first == "chain":
-        chains.append(Written(line, [], [], []))
+        chains.append(Chain(line, [], [], []))
         read_chain(words, chains[-1])
     elif first == "task":
         if not chains:

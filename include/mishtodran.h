@@ -113,7 +113,7 @@ struct mishtodran_row {
     uint32_t cost[MISHTODRAN_MOST_TASKS];     /* of each task */
 };
 
-/* The library was compiled for this layout. Older C and C++ have no way to ask for it. */
+/* The library was compiled for this layout. Before C11 and C++11 this is not checked. */
 #if defined __cplusplus && __cplusplus >= 201103L
 #define MISHTODRAN_LAYOUT(what) static_assert(what, "mishtodran_row is laid out differently")
 #elif defined __STDC_VERSION__ && __STDC_VERSION__ >= 201112L

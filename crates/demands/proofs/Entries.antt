@@ -217,7 +217,7 @@ every-entry = record {
   conflict = λ v above. query _ TableRefusal 1 _ _ (conflict-one v above);
   chosen = one-chosen;
   write = write-call;
-  fill = fill-call;
+  read-rows = fill-call;
   record-place = λ s id. query _ RecordRefusal 2 _ _ (record-one s id);
   report = λ s before. record { one = λ a b. (a .leaves ∙ sym (b .leaves), a .answers ∙ sym (b .answers)) };
   latency-entry = λ s id before. entry (λ x r a. record { answers = a }) (λ x r e. e .answers) (answered LatencyRefusal 4 _ _ (latency-one s id) before);
@@ -229,7 +229,7 @@ every-entry = record {
   save-entry = save-entry;
   merge-entry = merge-entry;
   write-entry = write-entry;
-  read-entry = read-entry;
+  read-rows-entry = read-entry;
   report-entry = report-entry;
   check-entry = λ s before. entry (λ x r a. record { answers = a }) (λ x r e. e .answers) (answered CheckRefusal 2 _ _ (check-one s) before);
   version-entry = λ e f. e ∙ sym f;

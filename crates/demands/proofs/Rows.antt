@@ -2,7 +2,7 @@
 use Prim.Native.Nat.{ℕ, _<_, _≤_}
 use native.Mathlib.Omega.{arith}
 use mathlib.Core.Path.{_≡_, refl, ap, sym, subst, _∙_}
-use mathlib.Core.List.{List, map}
+use mathlib.Core.List.{List, [], map, flatten}
 use mathlib.Core.Bool.{Bool, true, false}
 use lib.ListN.{length, take, drop}
 use lib.Dec.{ltb}
@@ -12,9 +12,11 @@ use Rattle.search.specs.Choice.{_when_else_}
 use Rattle.search.specs.Lists.{All}
 use Rattle.search.proofs.Choice.{when-yes, when-no, when-cases}
 use Rattle.table.specs.Limits.{maxChains, maxBytes}
+use Rattle.table.specs.Bytes.{word, bytesOf}
+use Rattle.table.specs.Fault.{markOf, endFault}
 use Rattle.table.specs.Find.{rowOf, findOf, rows, used}
 use Rattle.table.specs.Place.{lengthOf, placeOf}
-use Rattle.table.specs.Read.{empty, byVerdict, records, readTable, tableOf}
+use Rattle.table.specs.Read.{empty, unless, start, byVerdict, records, readTable, tableOf}
 use Rattle.table.specs.declared.Reading.{Reading}
 use Rattle.table.specs.declared.Row.{Row}
 use Rattle.table.specs.declared.Verdict.{Verdict}
@@ -123,7 +125,13 @@ module _ {s : List ℕ} (h : IsTable s) where
           (record { table = h; there = ltb-true _ _ u }, rw (ap first f, ap second f))
       by false u q = absurd (omega (arith, ap kind (sym q ∙ when-no _ (Unlocated 12) u)))
 
+-- the bytes of no row are an end record that counts none
+no-row : verdictOn [] ≡ Faulty 11 2
+unfolding verdictOn tableBytes bytesOf records start endFault markOf _when_else_ unless flatten word
+no-row = refl
+
 pub rows-and-tables : RowsAndTables
+unfolding locatedOf recordIn
 rows-and-tables = record {
   table = λ {rs} {room} {n} w. let u = used-says room rs n (w .answered) in
       (record { bytes = laws.table-bytes rs; accepted = laws.read rs (w .fit) (u .0) }, u .2, omega (arith, u .1, u .2));
@@ -138,5 +146,7 @@ rows-and-tables = record {
   reader = reads;
   short = laws.short;
   numbers = λ rs f e. rows-refusal rs _ (laws.judged rs f) e;
+  none = λ room. refused-given room [] 11 (RefusedFor.rule no-row);
+  record-found = λ {s} {id} h. (_, _, ap (λ (v : Verdict). byVerdict Unlocated v (recordIn (tableOf s) id)) (h .table .accepted) ∙ when-yes _ (Unlocated 12) (lt-ltb _ _ (h .there)));
   record-there = λ {s} {id} {offset} {len} h e. located h id offset len e;
 }

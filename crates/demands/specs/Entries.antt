@@ -75,7 +75,7 @@ pub record Query {A : Type 0} (Allows : A → Type 0) (Refusal : ℕ → Type 0)
   pub one : {a b : A} → Allows a → Allows b → a ≡ b
   pub answer : {a : A} → Allows a → OneAnswer Refusal n (number a) (figures a)
 
--- a call that writes into lent bytes, by what its statement allows of these bytes afterwards and of its result, whose number is 0 or a
+-- a call that writes into lent bytes or rows, by what its statement allows of these afterwards and of its result, whose number is 0 or a
 -- refusal: some result, two that it allows are equal, lent bytes included, and a refused call leaves every lent byte
 pub record Call {A R : Type 0} (Allows : A → R → Type 0) (Refusal : ℕ → Type 0) (number : R → ℕ) (before : A) : Type 0 where
   pub taken : (after : A) × (r : R) × Allows after r
@@ -113,9 +113,9 @@ pub record EveryEntry : Type 0 where
   pub merge : (v : Versions) (buffer : List ℕ) → Call (λ after a. Merges v buffer a after) MergeRefusal mergeNumber buffer
   pub conflict : (v : Versions) (above : ℕ) → Query (λ a. a ≡ foundOf v above) TableRefusal 1 foundNumber foundValues
   pub chosen : (ancestor first second : RefT (List ℕ)) (id : ℕ) → OneChosen ancestor first second id
-  -- `writing::write`, `writing::read`: rows are of their fields' widths, as every row of a program is
+  -- `writing::write`, of rows as a program has them, and `writing::read`
   pub write : (rs : List Row) → All Fits rs → (buffer : List ℕ) → Call (λ after a. Writes rs buffer a after) WriteRefusal writeNumber buffer
-  pub fill : (s : List ℕ) (before : List Row) → Call (λ after a. Fills s before a after) ReadRefusal fillNumber before
+  pub read-rows : (s : List ℕ) (before : List Row) → Call (λ after a. Fills s before a after) ReadRefusal fillNumber before
   -- `slices::record`
   pub record-place : (s : List ℕ) (id : ℕ) → Query (λ a. a ≡ locatedOf s id) RecordRefusal 2 locatedNumber locatedFigures
   -- `report_text::report`
@@ -127,14 +127,15 @@ pub record EveryEntry : Type 0 where
   pub segment-entry : (s : List ℕ) (id against number : ℕ) (before : List ℕ) → Call (SegmentEntry s id against number before) (AtEntry SegmentRefusal) (λ r. r) before
   -- `mishtodran_conflict`
   pub conflict-entry : (v : Versions) (above : ℕ) (before : List ℕ) → Call (ConflictEntry v above before) (AtEntry TableRefusal) (λ r. r) before
-  -- `mishtodran_save`, `mishtodran_merge`, `mishtodran_write`, `mishtodran_read` and `mishtodran_report`, which are lent two to be written
+  -- `mishtodran_save`, `mishtodran_merge`, `mishtodran_write`, `mishtodran_read` and `mishtodran_report`, which are lent two slices to
+  -- be written
   pub save-entry : (buffer : List ℕ) (used : ℕ) (old new answer : List ℕ)
       → Call {A = List ℕ × List ℕ} (λ after r. SaveEntry buffer used old new answer (after .0) (after .1) r) (AtEntry SaveRefusal) (λ r. r) (buffer, answer)
   pub merge-entry : (v : Versions) (buffer answer : List ℕ)
       → Call {A = List ℕ × List ℕ} (λ after r. MergeEntry v buffer answer (after .0) (after .1) r) (AtEntry MergeRefusal) (λ r. r) (buffer, answer)
   pub write-entry : (rs : List Row) → All Fits rs → (buffer answer : List ℕ)
       → Call {A = List ℕ × List ℕ} (λ after r. WriteEntry rs buffer answer (after .0) (after .1) r) (AtEntry WriteRefusal) (λ r. r) (buffer, answer)
-  pub read-entry : (s : List ℕ) (rs : List Row) (answer : List ℕ)
+  pub read-rows-entry : (s : List ℕ) (rs : List Row) (answer : List ℕ)
       → Call {A = List Row × List ℕ} (λ after r. ReadEntry s rs answer (after .0) (after .1) r) (AtEntry ReadRefusal) (λ r. r) (rs, answer)
   pub report-entry : (s text answer : List ℕ)
       → Call {A = List ℕ × List ℕ} (λ after r. ReportEntry s text answer (after .0) (after .1) r) (AtEntry ReportRefusal) (λ r. r) (text, answer)

@@ -1,7 +1,7 @@
--- A table written from rows, and a table's rows (02, request 2): each is the other's, and a refusal is the reader's.
+-- Rows and tables (02, request 2): what is written reads back, what was read is written as the same bytes, and a refusal is the reader's.
 use Prim.Native.Nat.{ℕ, _<_, _≤_}
 use mathlib.Core.Path.{_≡_}
-use mathlib.Core.List.{List, map}
+use mathlib.Core.List.{List, [], map}
 use mathlib.Core.Logic.{_⊎_}
 use lib.ListN.{length, take, drop}
 use Rattle.search.specs.Lists.{All}
@@ -18,12 +18,12 @@ use Rattle.writing.specs.declared.Written.the-variants.{Used, Refused}
 use Rattle.demands.specs.Chains.{IsTable, Has, recordBytes}
 use Rattle.demands.specs.Figures.{Exactly}
 
--- rows, each number of its field's width, as every row of a program is, that are written into a buffer with so much room: n bytes
+-- rows as a program has them, written into a buffer with so much room: n bytes
 pub record WrittenInto (room : ℕ) (rs : List Row) (n : ℕ) : Type 0 where
   pub fit : All Fits rs
   pub answered : writtenOf room rs ≡ Used n
 
--- why rows are refused with n: the reader refuses their bytes, its length check left out, or it does not, and these are too long for the room
+-- why rows are refused with n: the reader refuses their bytes, its length check left out; or it does not, and the room is too short
 pub data RefusedFor (room : ℕ) (rs : List Row) (n : ℕ) : Type 0 where
   rule : {place : ℕ} → verdictOn rs ≡ Faulty n place → RefusedFor room rs n
   noRoom : verdictOn rs ≡ Accepted → room < length (tableBytes rs) → n ≡ 24 → RefusedFor room rs n
@@ -47,5 +47,8 @@ pub record RowsAndTables : Type 0 where
   pub short : (rs : List Row) → All Fits rs → verdictOn rs ≡ Accepted → length (tableBytes rs) ≤ maxBytes
   -- 1, 2 and 3 are never given
   pub numbers : (rs : List Row) → All Fits rs → {n place : ℕ} → verdictOn rs ≡ Faulty n place → RowsRefusal n
-  -- the record of a chain stands where is answered
+  -- no row at all is 11
+  pub none : (room : ℕ) → writtenOf room [] ≡ Refused 11
+  -- the record of a chain stands where is answered, and is found wherever a chain has the id
   pub record-there : {s : List ℕ} {id offset len : ℕ} → IsTable s → locatedOf s id ≡ Record offset len → Has s id × (take len (drop offset s) ≡ recordBytes s id)
+  pub record-found : {s : List ℕ} {id : ℕ} → Has s id → (offset : ℕ) × (len : ℕ) × (locatedOf s id ≡ Record offset len)

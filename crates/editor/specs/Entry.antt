@@ -1,6 +1,6 @@
 -- The entries of the C editor (01, 'The C editor and the report'): what each returns, and what it leaves in the buffers it is lent.
--- 01 has the first four, 02 the check (request 1), the merge and its conflicts (request 4), a table read into rows and written from rows,
--- and where a record stands (request 2); the report as an entry, and the version, are ours.
+-- 01 has the first four, 02 the check (request 1), the write (request 2), the merge and its conflicts (request 4); reading into rows, where
+-- a record stands, the report as an entry, and the version, are ours.
 use Prim.Native.Nat.{ℕ, zero, suc, _*_, _-_}
 use mathlib.Core.Path.{_≡_}
 use mathlib.Core.List.{List, [], _∷_, _++_, map}

@@ -1,5 +1,5 @@
-// The C editor's entries (document 01, 'The C editor and the report'; document 02, requests 1, 2 and 4): numbers, bytes and rows only. Each but the
-// version returns 0 or the refusal's number; refused, every byte lent stays.
+// The C editor's entries (document 01, 'The C editor and the report'; document 02, requests 1, 2 and 4): numbers, bytes and rows only.
+// Each but the version returns 0 or the refusal's number; refused, every byte lent stays.
 use merging::Found;
 use merging::Merged;
 use report_text::LONGEST;

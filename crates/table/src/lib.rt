@@ -47,7 +47,8 @@ pub use wide::u32_from_u16;
 pub use wide::u64_from_u8;
 pub use wide::u64_from_u32;
 
-// A chain as it is stored: `listed` distances and `tasks` tasks; places past a count are 0. A list of rows is lent by C callers too.
+// A chain as it is stored: `listed` distances and `tasks` tasks. Places past a count are 0 in a row that was read; in one that a caller
+// lends anything may stand there. C callers lend rows too, so the layout is C's.
 #[repr(C)]
 pub struct Row {
     pub id: u16,
