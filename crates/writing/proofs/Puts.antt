@@ -2,21 +2,24 @@
 use Prim.Native.Nat.{ℕ, zero, suc, min, _+_, _*_, _<_, _≤_}
 use native.Mathlib.Omega.{arith}
 use native.Mathlib.Numerals.{add-one}
-use mathlib.Core.Path.{_≡_, refl, ap, subst}
-use mathlib.Core.List.{List, [], _++_, append-assoc}
+use mathlib.Core.Path.{_≡_, refl, ap, sym, subst, _∙_}
+use mathlib.Core.List.{List, [], _++_, append-assoc, append-nil}
 use mathlib.Core.Bool.{Bool, true, false}
 use lib.ListN.{length, take, drop}
+use mathlib.Core.Logic.{⊎-elim}
+use borrow.Author.Tests.{lt-ltb, le-ltb}
 use lib.Dec.{ltb}
 use Rattle.search.specs.Choice.{_when_else_, byNumber}
+use Rattle.search.proofs.Choice.{when-yes, when-no, lt-or-le}
 use Rattle.slices.specs.code.Wrote.{Wrote}
 use Rattle.slices.proofs.Writes.{wrote-on, wrote-put}
 use Rattle.table.specs.Limits.{maxDistances, maxTasks}
 use Rattle.table.specs.Bytes.{bytesOf}
 use Rattle.table.specs.declared.Row.{Row}
 use Rattle.table.proofs.Words.{length-bytes, bytes-join}
-use Rattle.writing.specs.Rows.{headBytes, taskRecord, pieces}
+use Rattle.writing.specs.Rows.{headBytes, distanceBytes, taskRecord, pieces, listBytes}
 use Rattle.writing.specs.code.Judged.{firstNumber}
-use Rattle.writing.specs.code.Put.{judgedNumber, tableLength, answerOf}
+use Rattle.writing.specs.code.Put.{distanceOf, judgedNumber, tableLength, answerOf}
 use Rattle.writing.specs.declared.judged.Judged.{Judged}
 use Rattle.writing.specs.declared.Written.{Written}
 use Rattle.writing.specs.declared.Written.the-variants.{Used, Refused}
@@ -58,6 +61,21 @@ pieces-on f i {before} {mid} {after} {at} {here} {next} w v =
     let z : 0 + i ≡ i = omega arith in
     let e : pieces f i 0 ++ f i ≡ pieces f (i + 1) 0 = rw (add-one, more-pieces f i 0, z) in
     subst (λ text. Wrote before at text after next) e (wrote-on w v)
+
+-- the next distance is put, where there is one
+pub distances-on : (list : List ℕ) (n i : ℕ) {before mid after : List ℕ} {at here next : ℕ} → Wrote before at (listBytes list (min i n)) mid here
+    → Wrote mid here (distanceOf list n i) after next → Wrote before at (listBytes list (min (i + 1) n)) after next
+distances-on list n i {before} {mid} {after} {at} {here} {next} w v = ⊎-elim
+    (λ l.
+    let a : min i n ≡ i = omega arith in
+    let b : min (i + 1) n ≡ i + 1 = omega arith in
+    subst (λ k. Wrote before at (listBytes list k) after next) (sym b)
+    (pieces-on (distanceBytes list) i (subst (λ k. Wrote before at (listBytes list k) mid here) a w) (subst (λ text. Wrote mid here text after next) (when-yes _ _ (lt-ltb _ _ l)) v)))
+    (λ l.
+    let e : min i n ≡ min (i + 1) n = omega arith in
+    subst (λ text. Wrote before at text after next) (append-nil (listBytes list (min i n)) ∙ ap (listBytes list) e)
+    (wrote-on w (subst (λ text. Wrote mid here text after next) (when-no _ _ (le-ltb _ _ l)) v)))
+    (lt-or-le i n)
 
 -- The answer
 

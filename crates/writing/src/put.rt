@@ -8,13 +8,13 @@ use table::put_u32;
 use table::u16_from_u8;
 use table::u32_from_u16;
 ghost use mathlib.Core.Path.{_≡_};
-ghost use Prim.Native.Nat.{_+_, _*_, _≤_};
+ghost use Prim.Native.Nat.{_+_, _*_, _-_, _≤_};
 ghost use lib.ListN.{length};
 ghost use Rattle.table.specs.Limits.{maxDistances, maxTasks};
 ghost use Rattle.slices.specs.code.Wrote.{Wrote};
 ghost use Rattle.writing.specs.Rows.{headBytes, listBytes, taskRecord, tasksBytes, rowBytes};
 ghost use Rattle.writing.specs.code.Judged.{Small};
-ghost use Rattle.writing.specs.code.Put.{answerOf, rowsPut, RowRoom, EndRoom, Ends};
+ghost use Rattle.writing.specs.code.Put.{distanceOf, answerOf, rowsPut, RowRoom, EndRoom, Ends};
 
 // The fixed part of a row's record: two numbers at a time.
 fn put_head(out: &mut [u8], at: usize, row: Row) -> usize
@@ -33,17 +33,37 @@ fn put_head(out: &mut [u8], at: usize, row: Row) -> usize
     at + 16
 }
 
-// The first n distances.
+// Distance i, where there are more than i; answers where the next one stands.
+fn put_distance(
+    out: &mut [u8],
+    at: usize,
+    list: &[u32; Table::DISTANCES],
+    i: usize,
+    n: usize,
+) -> usize
+    requires { ⌜ (n ≤ maxDistances) × (at + 4 * (n - i) ≤ length (now out)) ⌝ }
+    ensures { λ r. ⌜ Wrote (now (out .entry)) at (distanceOf (now (list .entry)) n i) (now (out .exit)) r ⌝ }
+{
+    if i < n {
+        put_u32(out, at, list[i]);
+        at + 4
+    } else {
+        at
+    }
+}
+
+// The first n distances. The loop goes over all places, so that it is unrolled; it would be a copy of memory otherwise, slow for so few.
 fn put_list(out: &mut [u8], at: usize, list: &[u32; Table::DISTANCES], n: usize) -> usize
     requires { ⌜ (n ≤ maxDistances) × (at + 4 * n ≤ length (now out)) ⌝ }
     ensures { λ r. ⌜ Wrote (now (out .entry)) at (listBytes (now (list .entry)) n) (now (out .exit)) r ⌝ }
 {
+    let mut next = at;
     let mut i: usize = 0;
-    while i < n {
-        put_u32(out, at + 4 * i, list[i]);
+    while i < Table::DISTANCES {
+        next = put_distance(out, next, list, i, n);
         i += 1;
     }
-    at + 4 * n
+    next
 }
 
 // A task record.

@@ -1,7 +1,7 @@
 -- What the code puts into a buffer, and how it decides that it does.
 use Prim.Native.Nat.{ℕ, _+_, _≤_}
 use mathlib.Core.Path.{_≡_}
-use mathlib.Core.List.{List, map, flatten}
+use mathlib.Core.List.{List, [], map, flatten}
 use lib.ListN.{length, take}
 use lib.Dec.{eqb, ltb}
 use Rattle.search.specs.Choice.{_when_else_, byNumber}
@@ -10,12 +10,16 @@ use Rattle.table.specs.Record.{endRecord}
 use Rattle.table.specs.declared.Row.{Row}
 use Rattle.slices.specs.Slices.{splice}
 use Rattle.slices.specs.code.Wrote.{Wrote}
-use Rattle.writing.specs.Rows.{rowBytes}
+use Rattle.writing.specs.Rows.{distanceBytes, rowBytes}
 use Rattle.writing.specs.Write.{numberOf}
 use Rattle.writing.specs.code.Judged.{firstNumber}
 use Rattle.writing.specs.declared.judged.Judged.{Judged}
 use Rattle.writing.specs.declared.Written.{Written}
 use Rattle.writing.specs.declared.Written.the-variants.{Used, Refused}
+
+-- distance i, where there are more than i
+abbrev pub distanceOf : List ℕ → ℕ → ℕ → List ℕ
+distanceOf list n i = distanceBytes list i when ltb i n else []
 
 -- the number of what was judged: its fault's, 11 where there is no row, 0 for good rows
 abbrev pub judgedNumber : Judged → ℕ
