@@ -20,14 +20,11 @@ use Rattle.table.specs.Find.{used}
 use Rattle.table.specs.Fault.{markOf, chainFault, endFault}
 use Rattle.table.specs.Place.{lengthOf}
 use Rattle.table.specs.Read.{empty, plus, unless, refusal, accepted, records}
-use Rattle.table.specs.code.Before.{Keeps}
 use Rattle.table.specs.declared.Row.{Row}
 use Rattle.table.specs.declared.Table.{Table}
 use Rattle.table.specs.declared.Reading.{Reading}
-use Rattle.table.specs.declared.before.Before.{Before}
 use Rattle.table.specs.declared.Mark.the-variants.{Chain, End}
 use Rattle.table.specs.declared.Verdict.the-variants.{Accepted, Refused}
-use Rattle.table.proofs.Earlier.{used-before, before-more}
 use Rattle.table.proofs.Steps.{records-mark, records-full, records-chain}
 use Rattle.table.proofs.Marks.{markNumber}
 use Rattle.table.proofs.Words.{end-length, end-mark-word, end-count}
@@ -37,6 +34,7 @@ use Rattle.writing.specs.code.Judged.{firstNumber, rowNumber, unjudged, 
 use Rattle.writing.specs.code.Put.{judgedNumber}
 use Rattle.writing.specs.declared.judged.Judged.{Judged}
 use Rattle.writing.proofs.Numbers.{row-counts}
+use Rattle.writing.proofs.Ids.{Holds, held-wrong, holds-none, holds-more}
 use Rattle.writing.proofs.Pieces.{row-length}
 use Rattle.writing.proofs.Fields.{Stored, word-there, stored}
 use Rattle.writing.proofs.Verdicts.{Says, says-number, says-none, says-when, says-unless, chain-says, row-read, length-read}
@@ -88,10 +86,6 @@ module _ (j : Judged) (r : Row) (sound : j .number ≡ 0) where
             let w = with-wrong (λ z. omega (arith, e, z)) in
             sym (ap (λ (k : Judged). judgedNumber (judgedAll k rs)) (w ∙ ap (faulted j) e) ∙ ap judgedNumber (stays (faulted j (suc n)) rs (λ z. omega arith)))
 
--- what is kept of the rows before
-abbrev before : Judged → Before
-before j = record { count = j .count; tasks = j .tasks }
-
 module _ (s : List ℕ) (total : ℕ) where
   -- the end record, after as many rows as it says
   end-says : (at : ℕ) (t : Table) → at ≤ length s → drop at s ≡ endRecord total → t .count ≡ total → total ≤ maxChains
@@ -110,7 +104,7 @@ module _ (s : List ℕ) (total : ℕ) where
       by u false = Says.none
 
   -- a stored row, its rows before without a fault
-  module _ (at : ℕ) (t : Table) (j : Judged) (r : Row) (st : Stored s at r) (f : Fits r) (sound : j .number ≡ 0) (keeps : Keeps (j .ids) (before j) t) where
+  module _ (at : ℕ) (t : Table) (j : Judged) (r : Row) (st : Stored s at r) (f : Fits r) (sound : j .number ≡ 0) (keeps : Holds (j .ids) (j .count) (j .tasks) t) where
     there : at + 2 ≤ length s
     there = omega (arith, st .there)
 
@@ -119,7 +113,7 @@ module _ (s : List ℕ) (total : ℕ) where
     marked = ap markOf (st .mark)
 
     row-says : Says (chainFault s at t) (rowNumber j r)
-    row-says = chain-says s at r st f j t (used-before t (r .id) keeps) (sym (keeps .tasks))
+    row-says = chain-says s at r st f j t (held-wrong t (r .id) keeps) (sym (keeps .tasks))
 
     -- and without one of its own
     module _ (right : rowNumber j r ≡ 0) where
@@ -129,12 +123,12 @@ module _ (s : List ℕ) (total : ℕ) where
       read-length : lengthAt s at ≡ length (rowBytes r)
       read-length = let c = row-counts j r right in length-read s at r st f (c .1) (c .2) ∙ sym (row-length r)
 
-      keeps-on : Keeps (counted j r .ids) (before (counted j r)) (plus t (rowAt s at))
-      keeps-on = rw read-row (before-more t (cleared r) keeps)
+      keeps-on : j .count < maxChains → Holds (counted j r .ids) (counted j r .count) (counted j r .tasks) (plus t (rowAt s at))
+      keeps-on few = rw read-row (holds-more t (cleared r) few keeps)
 
   -- the rows left, after those judged without a fault
   rows-says : (rs : List Row) (m at : ℕ) (t : Table) (j : Judged) → at ≤ length s → drop at s ≡ flatten (map rowBytes rs) ++ endRecord total → All Fits (take m rs)
-      → j .number ≡ 0 → m + j .count ≡ mostJudged → j .count ≤ maxChains → j .count + length rs ≡ total → Keeps (j .ids) (before j) t
+      → j .number ≡ 0 → m + j .count ≡ mostJudged → j .count ≤ maxChains → j .count + length rs ≡ total → Holds (j .ids) (j .count) (j .tasks) t
       → Says (records (maxChains - t .count) s at t .verdict) (judgedNumber (judgedAll j (take m rs)))
   unfolding judgedAll flatten
   rows-says [] m at t j in-s d f sound e few all keeps =
@@ -158,7 +152,7 @@ module _ (s : List ℕ) (total : ℕ) where
       let size = read-length at t j r st (f .0) sound keeps z in
       let rest : drop (at + lengthAt s at) s ≡ post = rw (size, ← drop-drop (length (rowBytes r)) at s, d′) (drop-at (rowBytes r) post (length (rowBytes r)) refl) in
       rows-says rs m (at + lengthAt s at) (plus t (rowAt s at)) (counted j r) (omega (arith, st .there, size, row-length r)) rest (f .1) refl (omega (arith, e)) (omega (arith, l)) (omega (arith, all))
-      (keeps-on at t j r st (f .0) sound keeps z)))))
+      (keeps-on at t j r st (f .0) sound keeps z l)))))
       (λ l.
       let full : j .count ≡ maxChains = omega arith in
       let fault = ap (λ (k : Judged). judgedNumber (judgedAll k (take m rs))) (with-full j r sound full) ∙ ap judgedNumber (stays (faulted j 11) (take m rs) (λ z. omega arith)) in
@@ -171,7 +165,7 @@ pub rows-verdict : (rs : List Row) (j : Judged) → JudgedRows rs j → Says (ve
 unfolding verdictOn tableBytes
 rows-verdict rs j h =
     subst (λ (k : Judged). Says (verdictOn rs) (judgedNumber k)) (sym (h .is))
-    (rows-says (tableBytes rs) (length rs) rs mostJudged 0 empty unjudged (omega arith) refl (h .fits) refl refl (omega arith) (omega arith) (record { bear = refl; count = refl; tasks = refl }))
+    (rows-says (tableBytes rs) (length rs) rs mostJudged 0 empty unjudged (omega arith) refl (h .fits) refl refl (omega arith) (omega arith) holds-none)
 
 -- Good rows: how many they are, how long their records, and each one's counts
 

@@ -41,7 +41,7 @@ use Rattle.writing.proofs.Fillings.{Filling, filling, there, chain-ther
 -- Rows judged one after the other
 
 pub small-start : Small unjudged
-small-start = record { count = omega arith; tasks = omega arith; bytes = omega arith }
+small-start = record { count = omega arith; tasks = omega arith; bytes = omega arith; places = refl }
 
 pub judged-on : (j : Judged) (ys : List Row) (k : ℕ) → k < min (length ys) mostJudged
     → judgedAll j (drop k (take mostJudged ys)) ≡ judgedAll (judgedWith j (getD ys k blank)) (drop (k + 1) (take mostJudged ys))

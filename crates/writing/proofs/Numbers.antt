@@ -141,7 +141,7 @@ module _ {j : Judged} {r : Row} (f : Fits r) (s : Small j) where
   with-before h = record { fits = f; small = s; is = rw (ne-eqb _ _ h) }
 
   small-faulted : (n : ℕ) → Small (faulted j n)
-  small-faulted n = record { count = s .count; tasks = s .tasks; bytes = s .bytes }
+  small-faulted n = record { count = s .count; tasks = s .tasks; bytes = s .bytes; places = s .places }
 
   module _ (none : j .number ≡ 0) where
     pub with-many : j .count ≡ maxChains → JudgedWith j r (faulted j 11)
@@ -159,6 +159,6 @@ module _ {j : Judged} {r : Row} (f : Fits r) (s : Small j) where
           let b = row-counts j r (sym e ∙ z) in
           record {
             fits = f;
-            small = record { count = omega (arith, s .count); tasks = b .3; bytes = omega (arith, s .bytes, b .1, b .2) };
+            small = record { count = omega (arith, s .count); tasks = b .3; bytes = omega (arith, s .bytes, b .1, b .2); places = omega (arith, s .places, length-take-le 15 (j .ids) (omega (arith, s .places))) };
             is = rw (eq-eqb _ _ none, ne-eqb _ _ few, ← e, eq-eqb _ _ z);
           }

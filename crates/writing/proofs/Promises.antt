@@ -67,7 +67,7 @@ judged-small [] j f s = s
 judged-small (r ∷ rs) j f s = judged-small rs (judgedWith j r) (f .1) (judged-one j r (f .0) s .small)
 
 pub all-judged : (rs : List Row) → All Fits (take mostJudged rs) → JudgedRows rs (judgedAll unjudged (take mostJudged rs))
-all-judged rs f = record { fits = f; small = judged-small (take mostJudged rs) unjudged f (record { count = omega arith; tasks = omega arith; bytes = omega arith }); is = refl }
+all-judged rs f = record { fits = f; small = judged-small (take mostJudged rs) unjudged f (record { count = omega arith; tasks = omega arith; bytes = omega arith; places = refl }); is = refl }
 
 -- Rows that are written
 

@@ -1,20 +1,19 @@
 // Rows judged by their values, in the reader's order; the first fault decides.
-use table::Before;
 use table::Row;
 use table::Table;
-use table::id_wrong;
 use table::outside;
 use table::u64_from_u32;
 ghost use mathlib.Core.Path.{_≡_};
 ghost use Prim.Native.Nat.{min, _+_, _≤_};
+ghost use mathlib.Core.List.{_∷_};
 ghost use lib.ListN.{length, take};
 ghost use Rattle.table.specs.Limits.{maxChains, maxAllTasks, maxDistances, maxTasks};
 ghost use Rattle.table.specs.Fault.{fallFault, gapShort};
 ghost use Rattle.table.specs.Read.{numberOf};
-ghost use Rattle.writing.specs.code.Judged.{identityNumber, timesNumber, countsNumber, listNumber, tasksNumber, listsNumber, rowNumber, unjudged as unjudgedOf, faulted as faultedOf, counted as countedOf, Small, CountedRoom, JudgedWith, mostJudged};
+ghost use Rattle.writing.specs.code.Judged.{bears as bearsOf, identityNumber, timesNumber, countsNumber, listNumber, tasksNumber, listsNumber, rowNumber, unjudged as unjudgedOf, faulted as faultedOf, counted as countedOf, Small, CountedRoom, JudgedWith, mostJudged};
 
 // What is known of the rows so far: the number of the first fault, 0 for none; of the good rows before it, how many they are, their tasks
-// in all, the length of their records, and their ids.
+// in all, the length of their records, and their ids, the newest first.
 pub struct Judged {
     pub number: u32,
     pub count: usize,
@@ -23,18 +22,45 @@ pub struct Judged {
     pub ids: [u16; Table::CHAINS],
 }
 
-// 4 or 5: the id, which no chain before may bear, the kind and the overload mark.
-fn identity_number(
-    id: u16,
-    kind: u8,
-    overload: u8,
-    ids: &[u16; Table::CHAINS],
-    before: Before,
-) -> u32
-    requires { ⌜ before .count ≤ maxChains ⌝ }
-    ensures { λ r. ⌜ r ≡ identityNumber (now (ids .entry)) (before .count) id kind overload ⌝ }
+// Whether one of the ids is this one. Every place is looked at, so that they are compared all at once.
+fn bears(ids: &[u16; Table::CHAINS], id: u16) -> bool
+    requires { ⌜ length (now ids) ≡ maxChains ⌝ }
+    ensures { λ r. ⌜ r ≡ bearsOf (now (ids .entry)) id ⌝ }
 {
-    if id_wrong(id, ids, before) {
+    let mut found = false;
+    let mut i: usize = 0;
+    while i < Table::CHAINS {
+        found = found | (ids[i] == id);
+        i += 1;
+    }
+    found
+}
+
+// The ids after one more, which takes the first place. Each moves by one place and none is put at a place that varies, so that all of
+// them stay in registers.
+fn after_id(id: u16, ids: &[u16; Table::CHAINS]) -> [u16; Table::CHAINS]
+    requires { ⌜ length (now ids) ≡ maxChains ⌝ }
+    ensures { λ r. ⌜ r ≡ id ∷ take 15 (now (ids .entry)) ⌝ }
+{
+    let mut with = [0u16; Table::CHAINS];
+    with[0] = id;
+    let mut i: usize = 0;
+    while i < Table::CHAINS - 1 {
+        with[i + 1] = ids[i];
+        i += 1;
+    }
+    with
+}
+
+// 4 or 5: the id, which no chain before may bear, the kind and the overload mark.
+fn identity_number(id: u16, kind: u8, overload: u8, ids: &[u16; Table::CHAINS]) -> u32
+    requires { ⌜ length (now ids) ≡ maxChains ⌝ }
+    ensures { λ r. ⌜ r ≡ identityNumber (now (ids .entry)) id kind overload ⌝ }
+{
+    if id == 0 {
+        return 4;
+    }
+    if bears(ids, id) {
         return 4;
     }
     if 1 < kind {
@@ -166,11 +192,7 @@ fn row_number(judged: Judged, row: Row) -> u32
     ensures { λ r. ⌜ r ≡ rowNumber judged row ⌝ }
 {
     let ids = judged.ids;
-    let before = Before {
-        count: judged.count,
-        tasks: judged.tasks,
-    };
-    let identity = identity_number(row.id, row.kind, row.overload, &ids, before);
+    let identity = identity_number(row.id, row.kind, row.overload, &ids);
     if identity != 0 {
         return identity;
     }
@@ -223,12 +245,11 @@ fn counted(judged: Judged, row: Row) -> Judged
     requires { ⌜ CountedRoom judged row ⌝ }
     ensures { λ r. ⌜ r ≡ countedOf judged row ⌝ }
 {
-    let mut ids = judged.ids;
-    let count = judged.count;
-    ids[count] = row.id;
+    let before = judged.ids;
+    let ids = after_id(row.id, &before);
     Judged {
         number: 0,
-        count: count + 1,
+        count: judged.count + 1,
         tasks: judged.tasks + row.tasks,
         bytes: judged.bytes + (16 + 4 * row.listed + 8 * row.tasks),
         ids,

@@ -2,8 +2,8 @@
 use Prim.Native.Nat.{ℕ, _+_, _*_, _<_, _≤_}
 use mathlib.Core.Path.{_≡_}
 use mathlib.Core.List.{List, [], _∷_}
-use mathlib.Core.Bool.{Bool, not, _||_}
-use lib.ListN.{getD, set, take, replicate}
+use mathlib.Core.Bool.{Bool, false, not, _||_}
+use lib.ListN.{length, getD, take, replicate}
 use lib.Dec.{eqb, ltb}
 use Rattle.search.specs.Choice.{_when_else_, byNumber}
 use Rattle.search.specs.Find.{first}
@@ -19,10 +19,15 @@ use Rattle.writing.specs.declared.judged.Judged.{Judged}
 
 -- The first fault of a row, as its number, 0 for none
 
--- the id is 0 or one of the first `count` ids; the kind, the overload mark
-unfoldable pub identityNumber : List ℕ → ℕ → ℕ → ℕ → ℕ → ℕ
-identityNumber ids count id kind overload =
-    4 when eqb id 0 || ltb (first (λ i. eqb (getD ids i 0) id) 0 count) count else
+-- one of the ids is this one
+unfoldable pub bears : List ℕ → ℕ → Bool
+bears [] id = false
+bears (n ∷ ids) id = eqb n id || bears ids id
+
+-- the id is 0 or one of the ids; the kind, the overload mark
+unfoldable pub identityNumber : List ℕ → ℕ → ℕ → ℕ → ℕ
+identityNumber ids id kind overload =
+    4 when eqb id 0 || bears ids id else
     5 when ltb 1 kind else
     5 when ltb 1 overload else
     0
@@ -57,7 +62,7 @@ listsNumber r = firstNumber (listNumber (r .gap) (distances r)) (tasksNumber (r 
 
 unfoldable pub rowNumber : Judged → Row → ℕ
 rowNumber j r =
-    firstNumber (identityNumber (j .ids) (j .count) (r .id) (r .kind) (r .overload))
+    firstNumber (identityNumber (j .ids) (r .id) (r .kind) (r .overload))
     (firstNumber (timesNumber (r .deadline) (r .gap))
     (firstNumber (countsNumber (j .tasks) (r .listed) (r .tasks))
     (listsNumber r)))
@@ -72,7 +77,7 @@ unjudged = record { number = 0; count = 0; tasks = 0; bytes = 0; ids = replicate
 abbrev pub faulted : Judged → ℕ → Judged
 faulted j n = record { number = n; count = j .count; tasks = j .tasks; bytes = j .bytes; ids = j .ids }
 
--- one good row more
+-- one good row more, its id the first; 16 ids have places, so none is lost
 abbrev pub counted : Judged → Row → Judged
 counted j r =
     record {
@@ -80,7 +85,7 @@ counted j r =
       count = j .count + 1;
       tasks = j .tasks + r .tasks;
       bytes = j .bytes + lengthOf r;
-      ids = set (j .ids) (j .count) (r .id);
+      ids = r .id ∷ take 15 (j .ids);
     }
 
 -- the first fault stays; a 17th row is 11
@@ -100,6 +105,7 @@ pub record Small (j : Judged) : Type 0 where
   pub count : j .count ≤ maxChains
   pub tasks : j .tasks ≤ maxAllTasks
   pub bytes : j .bytes ≤ 48 * j .count + 8 * j .tasks
+  pub places : length (j .ids) ≡ maxChains
 
 -- there is room for one row more
 pub record CountedRoom (j : Judged) (r : Row) : Type 0 where
@@ -108,6 +114,7 @@ pub record CountedRoom (j : Judged) (r : Row) : Type 0 where
   pub bytes : j .bytes ≤ 4096
   pub of-listed : r .listed ≤ maxDistances
   pub of-tasks : r .tasks ≤ maxTasks
+  pub places : length (j .ids) ≡ maxChains
 
 -- v is what was judged with the row
 pub record JudgedWith (j : Judged) (r : Row) (v : Judged) : Type 0 where

@@ -39,7 +39,7 @@ counted-requires : tie.Need-counted-requires
 counted-requires c κs =
     let s = c .before .before .before .before .before .before in
     let b = row-counts (s .args .judged) (s .args .row) (sym (c .before .row-number .ensures) ∙ c .if3 .left) in
-    record { count = omega (arith, s .pre .count, c .before .before .if2 .left); tasks = s .pre .tasks; bytes = omega (arith, s .pre .bytes, s .pre .count, s .pre .tasks); of-listed = b .1; of-tasks = b .2 }
+    record { count = omega (arith, s .pre .count, c .before .before .if2 .left); tasks = s .pre .tasks; bytes = omega (arith, s .pre .bytes, s .pre .count, s .pre .tasks); of-listed = b .1; of-tasks = b .2; places = s .pre .places }
 
 returns-4 : tie.Need-returns-4
 returns-4 c =
