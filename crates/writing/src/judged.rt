@@ -2,14 +2,12 @@
 use table::Row;
 use table::Table;
 use table::outside;
-use table::u64_from_u32;
 ghost use mathlib.Core.Path.{_≡_};
-ghost use Prim.Native.Nat.{min, _+_, _≤_};
+ghost use Prim.Native.Nat.{min, _+_, _*_, _<_, _≤_};
+ghost use lib.Dec.{ltb};
 ghost use mathlib.Core.List.{_∷_};
 ghost use lib.ListN.{length, take};
 ghost use Rattle.table.specs.Limits.{maxChains, maxAllTasks, maxDistances, maxTasks};
-ghost use Rattle.table.specs.Fault.{fallFault, gapShort};
-ghost use Rattle.table.specs.Read.{numberOf};
 ghost use Rattle.writing.specs.code.Judged.{bears as bearsOf, identityNumber, timesNumber, countsNumber, listNumber, tasksNumber, listsNumber, rowNumber, unjudged as unjudgedOf, faulted as faultedOf, counted as countedOf, Small, CountedRoom, JudgedWith, mostJudged};
 
 // What is known of the rows so far: the number of the first fault, 0 for none; of the good rows before it, how many they are, their tasks
@@ -102,55 +100,42 @@ fn counts_number(before: usize, listed: usize, tasks: usize) -> u32
     0
 }
 
-// 29: one of the first n distances falls, or exceeds the limit.
-fn fall_number(list: &[u32; Table::DISTANCES], n: usize) -> u32
-    requires { ⌜ (n ≤ maxDistances) × (length (now list) ≡ maxDistances) ⌝ }
-    ensures { λ r. ⌜ r ≡ numberOf (fallFault 0 (take n (now (list .entry))) 0) ⌝ }
+// Whether the gap is too small for distance i, which is d.
+fn beyond(gap: u32, i: usize, d: u32) -> bool
+    requires { ⌜ i < maxDistances ⌝ }
+    ensures { λ r. ⌜ r ≡ ltb (gap * (i + 1)) d ⌝ }
 {
-    let mut before: u32 = 0;
-    let mut i: usize = 0;
-    while i < n {
-        let d = list[i];
-        if outside(before, Table::DISTANCE, d) {
-            return 29;
-        }
-        before = d;
-        i += 1;
-    }
-    0
+    (gap as u64) * (i as u64 + 1) < d as u64
 }
 
-// Whether the gap is too small for one of the first n distances.
-fn gap_short(gap: u32, list: &[u32; Table::DISTANCES], n: usize) -> bool
-    requires { ⌜ (n ≤ maxDistances) × (length (now list) ≡ maxDistances) ⌝ }
-    ensures { λ r. ⌜ r ≡ gapShort gap 1 (take n (now (list .entry))) ⌝ }
-{
-    let mut i: usize = 0;
-    while i < n {
-        if (gap as u64) * (i as u64 + 1) < u64_from_u32(list[i]) {
-            return true;
-        }
-        i += 1;
-    }
-    false
-}
-
-// 29, 30 or 31: the first n distances, and the gap.
+// 29, 30 or 31: the first n distances, and the gap, in one pass. Where no distance falls the last is the greatest, so it alone is held
+// against the limit.
 fn list_number(gap: u32, list: &[u32; Table::DISTANCES], n: usize) -> u32
     requires { ⌜ (1 ≤ n) × (n ≤ maxDistances) × (length (now list) ≡ maxDistances) ⌝ }
     ensures { λ r. ⌜ r ≡ listNumber gap (take n (now (list .entry))) ⌝ }
 {
-    let falls = fall_number(list, n);
-    if falls != 0 {
-        return falls;
+    let mut short = false;
+    let mut before: u32 = 0;
+    let mut i: usize = 0;
+    while i < n {
+        let d = list[i];
+        if d < before {
+            return 29;
+        }
+        short = short | beyond(gap, i, d);
+        before = d;
+        i += 1;
     }
-    if list[n - 1] == 0 {
+    if Table::DISTANCE < before {
+        return 29;
+    }
+    if before == 0 {
         return 30;
     }
     if gap == 0 {
         return 0;
     }
-    if gap_short(gap, list, n) {
+    if short {
         return 31;
     }
     0
