@@ -7,8 +7,8 @@ ghost use Prim.Native.Nat.{min, _+_, _*_, _<_, _≤_};
 ghost use lib.Dec.{ltb};
 ghost use mathlib.Core.List.{_∷_};
 ghost use lib.ListN.{length, take};
-ghost use Rattle.table.specs.Limits.{maxChains, maxAllTasks, maxDistances, maxTasks};
-ghost use Rattle.writing.specs.code.Judged.{bears as bearsOf, identityNumber, timesNumber, countsNumber, listNumber, tasksNumber, listsNumber, rowNumber, unjudged as unjudgedOf, faulted as faultedOf, counted as countedOf, Small, CountedRoom, JudgedWith, mostJudged};
+ghost use Rattle.table.specs.Limits.{maxChains, maxDistances, maxTasks};
+ghost use Rattle.writing.specs.code.Judged.{bears as bearsOf, listNumber, tasksNumber, listsNumber, rowNumber, unjudged as unjudgedOf, faulted as faultedOf, counted as countedOf, Small, CountedRoom, JudgedWith, mostJudged};
 
 // What is known of the rows so far: the number of the first fault, 0 for none; of the good rows before it, how many they are, their tasks
 // in all, the length of their records, and their ids, the newest first.
@@ -48,56 +48,6 @@ fn after_id(id: u16, ids: &[u16; Table::CHAINS]) -> [u16; Table::CHAINS]
         i += 1;
     }
     with
-}
-
-// 4 or 5: the id, which no chain before may bear, the kind and the overload mark.
-fn identity_number(id: u16, kind: u8, overload: u8, ids: &[u16; Table::CHAINS]) -> u32
-    requires { ⌜ length (now ids) ≡ maxChains ⌝ }
-    ensures { λ r. ⌜ r ≡ identityNumber (now (ids .entry)) id kind overload ⌝ }
-{
-    if id == 0 {
-        return 4;
-    }
-    if bears(ids, id) {
-        return 4;
-    }
-    if 1 < kind {
-        return 5;
-    }
-    if 1 < overload {
-        return 5;
-    }
-    0
-}
-
-// 6 or 7: the deadline and the gap.
-fn times_number(deadline: u32, gap: u32) -> u32
-    ensures { λ r. ⌜ r ≡ timesNumber deadline gap ⌝ }
-{
-    if outside(1, Table::DEADLINE, deadline) {
-        return 6;
-    }
-    if Table::GAP < gap {
-        return 7;
-    }
-    0
-}
-
-// 28 or 9: the list length, and the task count after `before` tasks.
-fn counts_number(before: usize, listed: usize, tasks: usize) -> u32
-    requires { ⌜ before ≤ maxAllTasks ⌝ }
-    ensures { λ r. ⌜ r ≡ countsNumber before listed tasks ⌝ }
-{
-    if listed < 1 || Table::DISTANCES < listed {
-        return 28;
-    }
-    if tasks < 1 || Table::TASKS < tasks {
-        return 9;
-    }
-    if Table::ALL_TASKS < before + tasks {
-        return 9;
-    }
-    0
 }
 
 // Whether the gap is too small for distance i, which is d.
@@ -171,23 +121,39 @@ fn lists_number(row: Row) -> u32
     tasks_number(&priority, &cost, row.tasks)
 }
 
-// The number of a row's first fault, after those judged.
+// The number of a row's first fault, after those judged. The tests stand one after the other, each with its return: handed on, a number
+// would be chosen and tested again.
 fn row_number(judged: Judged, row: Row) -> u32
     requires { ⌜ Small judged ⌝ }
     ensures { λ r. ⌜ r ≡ rowNumber judged row ⌝ }
 {
     let ids = judged.ids;
-    let identity = identity_number(row.id, row.kind, row.overload, &ids);
-    if identity != 0 {
-        return identity;
+    if row.id == 0 {
+        return 4;
     }
-    let times = times_number(row.deadline, row.gap);
-    if times != 0 {
-        return times;
+    if bears(&ids, row.id) {
+        return 4;
     }
-    let counts = counts_number(judged.tasks, row.listed, row.tasks);
-    if counts != 0 {
-        return counts;
+    if 1 < row.kind {
+        return 5;
+    }
+    if 1 < row.overload {
+        return 5;
+    }
+    if outside(1, Table::DEADLINE, row.deadline) {
+        return 6;
+    }
+    if Table::GAP < row.gap {
+        return 7;
+    }
+    if row.listed < 1 || Table::DISTANCES < row.listed {
+        return 28;
+    }
+    if row.tasks < 1 || Table::TASKS < row.tasks {
+        return 9;
+    }
+    if Table::ALL_TASKS < judged.tasks + row.tasks {
+        return 9;
     }
     lists_number(row)
 }
