@@ -170,6 +170,7 @@ rows-verdict rs j h =
 -- Good rows: how many they are, how long their records, and each one's counts
 
 pub record Counts (r : Row) : Type 0 where
+  pub some : 1 ≤ r .listed
   pub listed : r .listed ≤ maxDistances
   pub tasks : r .tasks ≤ maxTasks
 
@@ -206,7 +207,7 @@ good-rows (r ∷ rs) (suc m) j e few sound z = ⊎-elim
           few = omega (arith, g .few);
           count = omega (arith, g .count);
           bytes = omega (arith, g .bytes, length-append (rowBytes r) (flatten (map rowBytes rs)), row-length r);
-          rows = (record { listed = c .1; tasks = c .2 }, g .rows);
+          rows = (record { some = c .0; listed = c .1; tasks = c .2 }, g .rows);
         })
 
 pub judged-good : (rs : List Row) (j : Judged) → JudgedRows rs j → j .number ≡ 0 → GoodRows rs unjudged j

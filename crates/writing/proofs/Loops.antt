@@ -101,7 +101,7 @@ rows-room ys j h buffer zs k at l w = by (puts ys j h (length buffer))
         let c = all-at Counts ys k blank (g .rows) one in
         let more = ap length (records-split ys (k + 1)) ∙ length-append (recordsOf ys (k + 1)) _ in
         let next = ap length (records-more ys k one) ∙ length-append (recordsOf ys k) (rowBytes (getD ys k blank)) in
-        record { listed = c .listed; tasks = c .tasks; room = omega (arith, m, table-length ys, more, next, w .ends, w .long) }
+        record { some = c .some; listed = c .listed; tasks = c .tasks; room = omega (arith, m, table-length ys, more, next, w .ends, w .long) }
 
 pub rows-on : (ys : List Row) (k : ℕ) → k < length ys → (buffer zs after : List ℕ) (at next : ℕ) → Wrote buffer 0 (recordsOf ys k) zs at
     → Wrote zs at (rowBytes (getD ys k blank)) after next → Wrote buffer 0 (recordsOf ys (k + 1)) after next

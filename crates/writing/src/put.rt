@@ -53,17 +53,20 @@ fn put_distance(
 }
 
 // The first n distances. The loop goes over all places, so that it is unrolled; it would be a copy of memory otherwise, slow for so few.
+// The last is put by its number, which keeps the list in one place instead of eight registers.
 fn put_list(out: &mut [u8], at: usize, list: &[u32; Table::DISTANCES], n: usize) -> usize
-    requires { ⌜ (n ≤ maxDistances) × (at + 4 * n ≤ length (now out)) ⌝ }
+    requires { ⌜ (1 ≤ n) × (n ≤ maxDistances) × (at + 4 * n ≤ length (now out)) ⌝ }
     ensures { λ r. ⌜ Wrote (now (out .entry)) at (listBytes (now (list .entry)) n) (now (out .exit)) r ⌝ }
 {
+    let last = n - 1;
     let mut next = at;
     let mut i: usize = 0;
-    while i < Table::DISTANCES {
-        next = put_distance(out, next, list, i, n);
+    while i < Table::DISTANCES - 1 {
+        next = put_distance(out, next, list, i, last);
         i += 1;
     }
-    next
+    put_u32(out, next, list[last]);
+    next + 4
 }
 
 // A task record.

@@ -41,6 +41,7 @@ rowsPut j room = j .count when eqb (numberOf (answerOf j room)) 0 else 0
 
 -- a row that has room from `at` on
 pub record RowRoom (r : Row) (buffer : List ℕ) (at : ℕ) : Type 0 where
+  pub some : 1 ≤ r .listed
   pub listed : r .listed ≤ maxDistances
   pub tasks : r .tasks ≤ maxTasks
   pub room : at + length (rowBytes r) ≤ length buffer
