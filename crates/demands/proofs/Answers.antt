@@ -44,7 +44,7 @@ use Rattle.merging.specs.declared.Found.the-variants.{Id, Refused as NotFound}
 use Rattle.slices.specs.Locate as locate
 use Rattle.slices.specs.declared.Located.{Located}
 use Rattle.slices.specs.declared.Located.the-variants.{Refused as NoRecord}
-use Rattle.writing.specs.Rows.{tableBytes, Fits}
+use Rattle.writing.specs.Rows.{tableBytes, Typed}
 use Rattle.writing.specs.Write as write
 use Rattle.writing.specs.Fill as fill
 use Rattle.writing.specs.declared.Written.{Written}
@@ -204,7 +204,7 @@ conflict-one v above = by (readTable (v .ancestor) .verdict) refl (readTable (v 
     by Accepted e Accepted g Accepted h = answers TableRefusal 1 _ refl
 
 -- rows written
-pub write-one : (rs : List Row) → All Fits rs → (room : ℕ)
+pub write-one : (rs : List Row) → All Typed rs → (room : ℕ)
     → OneAnswer WriteRefusal 1 (write.numberOf (write.writtenOf room rs)) (write.valuesOf (write.writtenOf room rs))
 unfolding write.writtenOf
 write-one rs f room = by (write.verdictOn rs) refl

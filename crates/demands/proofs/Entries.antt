@@ -20,7 +20,7 @@ use Rattle.saving.proofs.After.{saved-number}
 use Rattle.merging.specs.Versions.{Versions}
 use Rattle.merging.specs.Merge as merge
 use Rattle.merging.specs.declared.Merged.{Merged}
-use Rattle.writing.specs.Rows.{Fits}
+use Rattle.writing.specs.Rows.{Typed}
 use Rattle.writing.specs.Write as write
 use Rattle.writing.specs.Fill as fill
 use Rattle.writing.specs.declared.Written.{Written}
@@ -78,7 +78,7 @@ module _ (v : Versions) (buffer : List ℕ) where
   }
 
 -- rows written, and a table read into rows: the answer, and all that is lent
-write-call : (rs : List Row) → All Fits rs → (buffer : List ℕ) → Call (λ after a. write.Writes rs buffer a after) WriteRefusal write.numberOf buffer
+write-call : (rs : List Row) → All Typed rs → (buffer : List ℕ) → Call (λ after a. write.Writes rs buffer a after) WriteRefusal write.numberOf buffer
 write-call rs f buffer = record {
   taken = (write.bufferAfter (write.writtenOf (length buffer) rs) rs buffer, write.writtenOf (length buffer) rs, record { answers = refl; leaves = refl });
   one = λ {x} {y} {r} {q} a b. let e = a .answers ∙ sym (b .answers) in (a .leaves ∙ ap (λ (w : Written). write.bufferAfter w rs buffer) e ∙ sym (b .leaves), e);
@@ -167,7 +167,7 @@ merge-entry v buffer answer =
     entry (λ x r a. record { answers = a .answers; leaves = a .leaves }) (λ x r e. record { answers = e .answers; leaves = e .leaves })
     (beside MergeRefusal _ _ (merge-one (length buffer) v) buffer (mergeAfter v buffer) (merge-leaves v buffer) answer)
 
-pub write-entry : (rs : List Row) → All Fits rs → (buffer answer : List ℕ)
+pub write-entry : (rs : List Row) → All Typed rs → (buffer answer : List ℕ)
     → Call {A = List ℕ × List ℕ} (λ after r. WriteEntry rs buffer answer (after .0) (after .1) r) (AtEntry WriteRefusal) (λ r. r) (buffer, answer)
 write-entry rs f buffer answer =
     entry (λ x r a. record { answers = a .answers; leaves = a .leaves }) (λ x r e. record { answers = e .answers; leaves = e .leaves })

@@ -25,7 +25,7 @@ use Rattle.slices.specs.Locate.{recordIn, locatedOf}
 use Rattle.slices.specs.Stored.{recordOf}
 use Rattle.slices.specs.declared.Located.{Located}
 use Rattle.slices.specs.declared.Located.the-variants.{Record, Refused as Unlocated}
-use Rattle.writing.specs.Rows.{tableBytes, cleared, Fits}
+use Rattle.writing.specs.Rows.{tableBytes, cleared, Typed}
 use Rattle.writing.specs.Write.{verdictOn, RowsRefusal, writtenOf, Writes}
 use Rattle.writing.specs.declared.Written.{Written}
 use Rattle.writing.specs.declared.Written.the-variants.{Used, Refused}

@@ -19,7 +19,7 @@ use Rattle.misses.specs.Misses.{missesOf, numberOf as missesNumber, valuesOf as
 use Rattle.saving.specs.Save.{Saves, numberOf as saveNumber}
 use Rattle.merging.specs.Versions.{Versions}
 use Rattle.merging.specs.Merge.{Merges, foundOf, foundNumber, foundValues, Chosen, numberOf as mergeNumber}
-use Rattle.writing.specs.Rows.{Fits}
+use Rattle.writing.specs.Rows.{Typed}
 use Rattle.writing.specs.Write.{RowsRefusal, Writes, numberOf as writeNumber}
 use Rattle.writing.specs.Fill.{Fills, numberOf as fillNumber}
 use Rattle.report_text.specs.Report.{Reported}
@@ -114,7 +114,7 @@ pub record EveryEntry : Type 0 where
   pub conflict : (v : Versions) (above : ℕ) → Query (λ a. a ≡ foundOf v above) TableRefusal 1 foundNumber foundValues
   pub chosen : (ancestor first second : RefT (List ℕ)) (id : ℕ) → OneChosen ancestor first second id
   -- `writing::write`, of rows as a program has them, and `writing::read`
-  pub write : (rs : List Row) → All Fits rs → (buffer : List ℕ) → Call (λ after a. Writes rs buffer a after) WriteRefusal writeNumber buffer
+  pub write : (rs : List Row) → All Typed rs → (buffer : List ℕ) → Call (λ after a. Writes rs buffer a after) WriteRefusal writeNumber buffer
   pub read-rows : (s : List ℕ) (before : List Row) → Call (λ after a. Fills s before a after) ReadRefusal fillNumber before
   -- `slices::record`
   pub record-place : (s : List ℕ) (id : ℕ) → Query (λ a. a ≡ locatedOf s id) RecordRefusal 2 locatedNumber locatedFigures
@@ -133,7 +133,7 @@ pub record EveryEntry : Type 0 where
       → Call {A = List ℕ × List ℕ} (λ after r. SaveEntry buffer used old new answer (after .0) (after .1) r) (AtEntry SaveRefusal) (λ r. r) (buffer, answer)
   pub merge-entry : (v : Versions) (buffer answer : List ℕ)
       → Call {A = List ℕ × List ℕ} (λ after r. MergeEntry v buffer answer (after .0) (after .1) r) (AtEntry MergeRefusal) (λ r. r) (buffer, answer)
-  pub write-entry : (rs : List Row) → All Fits rs → (buffer answer : List ℕ)
+  pub write-entry : (rs : List Row) → All Typed rs → (buffer answer : List ℕ)
       → Call {A = List ℕ × List ℕ} (λ after r. WriteEntry rs buffer answer (after .0) (after .1) r) (AtEntry WriteRefusal) (λ r. r) (buffer, answer)
   pub read-rows-entry : (s : List ℕ) (rs : List Row) (answer : List ℕ)
       → Call {A = List Row × List ℕ} (λ after r. ReadEntry s rs answer (after .0) (after .1) r) (AtEntry ReadRefusal) (λ r. r) (rs, answer)

@@ -12,7 +12,7 @@ use Rattle.table.specs.declared.Row.{Row}
 use Rattle.table.specs.declared.Verdict.the-variants.{Accepted, Refused as Faulty}
 use Rattle.slices.specs.Locate.{locatedOf}
 use Rattle.slices.specs.declared.Located.the-variants.{Record}
-use Rattle.writing.specs.Rows.{tableBytes, cleared, Fits}
+use Rattle.writing.specs.Rows.{tableBytes, cleared, Typed}
 use Rattle.writing.specs.Write.{verdictOn, RowsRefusal, writtenOf, Writes}
 use Rattle.writing.specs.declared.Written.the-variants.{Used, Refused}
 use Rattle.demands.specs.Chains.{IsTable, Has, recordBytes}
@@ -20,7 +20,7 @@ use Rattle.demands.specs.Figures.{Exactly}
 
 -- rows as a program has them, written into a buffer with so much room: n bytes
 pub record WrittenInto (room : ℕ) (rs : List Row) (n : ℕ) : Type 0 where
-  pub fit : All Fits rs
+  pub fit : All Typed rs
   pub answered : writtenOf room rs ≡ Used n
 
 -- why rows are refused with n: the reader refuses their bytes, its length check left out; or it does not, and the room is too short
@@ -44,9 +44,9 @@ pub record RowsAndTables : Type 0 where
   pub refused : (rs : List Row) (room n : ℕ) → Exactly (writtenOf room rs ≡ Refused n) (RefusedFor room rs n)
   -- where these bytes are no more than a table has, and so wherever they are accepted, the length check changes nothing
   pub reader : (rs : List Row) → length (tableBytes rs) ≤ maxBytes → readTable (tableBytes rs) .verdict ≡ verdictOn rs
-  pub short : (rs : List Row) → All Fits rs → verdictOn rs ≡ Accepted → length (tableBytes rs) ≤ maxBytes
+  pub short : (rs : List Row) → All Typed rs → verdictOn rs ≡ Accepted → length (tableBytes rs) ≤ maxBytes
   -- 1, 2 and 3 are never given
-  pub numbers : (rs : List Row) → All Fits rs → {n place : ℕ} → verdictOn rs ≡ Faulty n place → RowsRefusal n
+  pub numbers : (rs : List Row) → All Typed rs → {n place : ℕ} → verdictOn rs ≡ Faulty n place → RowsRefusal n
   -- no row at all is 11
   pub none : (room : ℕ) → writtenOf room [] ≡ Refused 11
   -- the record of a chain stands where is answered, and is found wherever a chain has the id

@@ -62,7 +62,7 @@ fn same_id(ids: &[u16; Table::CHAINS], count: usize, id: u16) -> usize
 }
 
 // Whether the id is 0 or used earlier.
-pub fn id_wrong(id: u16, ids: &[u16; Table::CHAINS], before: Before) -> bool
+fn id_wrong(id: u16, ids: &[u16; Table::CHAINS], before: Before) -> bool
     requires { ⌜ before .count ≤ maxChains ⌝ }
     ensures { λ r. ⌜ ((t : Table) → Keeps (now (ids .entry)) before t → r ≡ (eqb id 0 || used t id)) ⌝ }
 {

@@ -14,7 +14,6 @@ mod reader;
 mod record;
 mod wide;
 
-pub use before::Before;
 pub use bytes::put_u16;
 pub use bytes::put_u32;
 pub use bytes::u16_at;
@@ -22,7 +21,6 @@ pub use bytes::u32_at;
 pub use bytes::u64_at;
 pub use decode::read;
 pub use decode::row_at;
-pub use fault::id_wrong;
 pub use fault::mark_of;
 pub use fault::outside;
 pub use places::count;

@@ -9,7 +9,7 @@ use Rattle.table.specs.Bytes.{word, bytesOf}
 use Rattle.table.specs.Record.{idAt, kindAt, overloadAt, deadlineAt, gapAt, listedAt, tasksAt, listPlace, afterList, priorityAt, costAt}
 use Rattle.table.specs.declared.Row.{Row}
 use Rattle.table.proofs.Words.{word-bytes}
-use Rattle.writing.specs.Rows.{countByte, headBytes, distanceBytes, taskBytes, pieces, listBytes, tasksBytes, rowBytes, Fits}
+use Rattle.writing.specs.Rows.{countByte, headBytes, distanceBytes, taskBytes, pieces, listBytes, tasksBytes, rowBytes, Typed}
 use Rattle.writing.proofs.Pieces.{pieces-split, head-length, list-length, tasks-length, row-length}
 
 -- a number of one byte
@@ -76,7 +76,7 @@ module _ (r : Row) (rest : List ℕ) where
   pub mark-here : word 2 all 0 ≡ 18499
   mark-here = found 2 18499 all [] _ 0 from-id refl (omega arith)
 
-  module _ (f : Fits r) where
+  module _ (f : Typed r) where
     pub id-here : word 2 all 2 ≡ r .id
     unfolding bytesOf
     id-here = found 2 (r .id) all upTo-id _ 2 from-id refl (f .id)
@@ -124,7 +124,7 @@ module _ (r : Row) (post : List ℕ) where
   unfolding rowBytes
   from-first = append-assoc (headBytes r ++ ofList) ofTasks post
 
-  module _ (f : Fits r) where
+  module _ (f : Typed r) where
     distance-here : (j : ℕ) → j < r .listed → word 4 whole (16 + 4 * j) ≡ getD (r .list) j 0
     distance-here j h =
         let d = distanceBytes (r .list) in
@@ -205,7 +205,7 @@ word-there (suc n) s l at o p d e =
 byte-there : (s l : List ℕ) (at o p : ℕ) → drop at s ≡ l → p ≡ at + o → getD s p 0 ≡ getD l o 0
 byte-there s l at o p d e = rw (e, ← d) (sym (getD-drop at s o 0))
 
-module _ (s : List ℕ) (at : ℕ) (r : Row) (post : List ℕ) (d : drop at s ≡ rowBytes r ++ post) (f : Fits r) (in-s : at ≤ length s) where
+module _ (s : List ℕ) (at : ℕ) (r : Row) (post : List ℕ) (d : drop at s ≡ rowBytes r ++ post) (f : Typed r) (in-s : at ≤ length s) where
   abbrev l : List ℕ
   l = rowBytes r ++ post
 

@@ -13,7 +13,7 @@ use denote.Struct.Declared.{row}
 use denote.Struct.Field.{uint-field}
 use Rattle.table.proofs.Row.{the-type}
 use Rattle.table.specs.declared.Row.{Row}
-use Rattle.writing.specs.Rows.{Fits}
+use Rattle.writing.specs.Rows.{Typed}
 
 -- each number of an array is of the elements' width
 each-below : (w : Width) → 0 < 2 ^ bits w → (xs : List ℕ) (us : List Val) → shadow (each ℕ (uint-field w .row .own) (map (λ n. n) xs) us) → (j : ℕ) → getD xs j 0 < 2 ^ bits w
@@ -24,7 +24,7 @@ each-below w p (x ∷ xs) (u ∷ us) h zero = h .0 .1
 each-below w p (x ∷ xs) (u ∷ us) h (suc j) = each-below w p xs us (h .1) j
 
 -- the fields in their order
-pub row-fits : (r : Row) (vs : List Val) → Is (row the-type) r vs → Fits r
+pub row-fits : (r : Row) (vs : List Val) → Is (row the-type) r vs → Typed r
 row-fits r vs h =
     let f = h .1 .1 in
     let list = f .1 .1 .1 .1 .1 .1 .1 .0 in

@@ -2,7 +2,7 @@
 use Prim.Native.Nat.{ℕ, zero, suc, _+_, _*_, _-_, _<_, _≤_}
 use mathlib.Core.Path.{_≡_, refl, ap, sym, _∙_}
 use mathlib.Core.List.{List, [], _∷_}
-use mathlib.Core.Bool.{Bool, true, false, not, _&&_}
+use mathlib.Core.Bool.{Bool, true, false, not, _&&_, _||_}
 use mathlib.Core.Logic.{_⊎_, ⊎-elim}
 use native.Mathlib.Omega.{arith}
 use lib.Dec.{eqb, ltb}
@@ -11,7 +11,7 @@ use lib.Seq.{getD-take, length-take-le}
 use borrow.Author.Tests.{lt-ltb, le-ltb, ltb-false, eq-eqb, ne-eqb}
 use Rattle.search.specs.Choice.{_when_else_, byNumber}
 use Rattle.search.specs.Find.{first}
-use Rattle.search.proofs.Choice.{when-yes, when-no, when-cases, when-zero, true-not-false}
+use Rattle.search.proofs.Choice.{when-yes, when-no, when-cases, when-zero, true-not-false, lt-or-le}
 use Rattle.search.proofs.Find.{first-miss, first-none}
 use Rattle.table.specs.Limits.{maxChains, maxTasks, maxAllTasks, maxDistances, maxDistance, maxCost}
 use Rattle.table.specs.Fault.{_then_, outside, fallFault, lastFault, gapShort, gapFault, distancesFault}
@@ -20,11 +20,12 @@ use Rattle.table.specs.declared.Row.{Row}
 use Rattle.table.specs.declared.Verdict.{Verdict}
 use Rattle.table.specs.declared.Verdict.the-variants.{Accepted, Refused}
 use Rattle.table.proofs.Firsts.{or-left, or-right, or-none, none-or}
-use Rattle.table.proofs.Lists.{fall-here, fall-on, gap-yes, gap-no}
-use Rattle.writing.specs.Rows.{Fits}
-use Rattle.writing.specs.code.Judged.{countsNumber, listNumber, taskWrong, tasksNumber, firstNumber, rowNumber, faulted, counted, judgedWith, Small, JudgedWith}
-use Rattle.writing.specs.declared.judged.Judged.{Judged}
-use Rattle.writing.proofs.Lefts.{left-on}
+use Rattle.table.proofs.Lists.{fall-here, fall-on, fall-end, gap-end}
+use Rattle.writing.specs.Rows.{Typed}
+use Rattle.writing.specs.code.Tally.{countsNumber, listNumber, taskWrong, tasksNumber, firstNumber, rowNumber, faulted, counted, judgedWith, Small, JudgedWith}
+use Rattle.writing.specs.declared.judged.Tally.{Tally}
+use Rattle.writing.proofs.Ids.{or-assoc, or-last}
+use Rattle.writing.proofs.Lefts.{left-on, left-none}
 
 -- a number refuses, 0 does not
 pub by-fault : {A : Type 0} (refuse : ℕ → A) (n : ℕ) (answer : A) → (n ≡ 0 → ⊥) → byNumber refuse n answer ≡ refuse n
@@ -52,25 +53,22 @@ module _ (list : List ℕ) (n i : ℕ) (h : n ≤ length list) (k : i < n) where
   opened = left-on list n i 0 k (omega arith)
 
   module _ (before : ℕ) where
-    pub fall-stop : outside before maxDistance (getD list i 0) ≡ true → fallFault before (drop i (take n list)) (4 * i) ≡ Refused 29 (4 * i)
+    fall-stop : outside before maxDistance (getD list i 0) ≡ true → fallFault before (drop i (take n list)) (4 * i) ≡ Refused 29 (4 * i)
     fall-stop e = rw opened (fall-here before (getD list i 0) (drop (i + 1) (take n list)) (4 * i) e)
 
-    pub fall-next : outside before maxDistance (getD list i 0) ≡ false
+    fall-next : outside before maxDistance (getD list i 0) ≡ false
         → fallFault before (drop i (take n list)) (4 * i) ≡ fallFault (getD list i 0) (drop (i + 1) (take n list)) (4 * (i + 1))
     fall-next e =
         let next : 4 * i + 4 ≡ 4 * (i + 1) = omega arith in
         rw (opened, ← next) (fall-on before (getD list i 0) (drop (i + 1) (take n list)) (4 * i) e)
 
-  module _ (gap : ℕ) where
-    pub short-here : gap * (i + 1) < getD list i 0 → gapShort gap (i + 1) (drop i (take n list)) ≡ true
-    short-here l = rw opened (gap-yes gap (i + 1) (getD list i 0) (drop (i + 1) (take n list)) l)
-
-    pub short-next : getD list i 0 ≤ gap * (i + 1) → gapShort gap (i + 1) (drop i (take n list)) ≡ gapShort gap (i + 1 + 1) (drop (i + 1) (take n list))
-    short-next l = rw opened (gap-no gap (i + 1) (getD list i 0) (drop (i + 1) (take n list)) l)
+  gap-open : (gap : ℕ) → gapShort gap (i + 1) (drop i (take n list)) ≡ (ltb (gap * (i + 1)) (getD list i 0) || gapShort gap (i + 1 + 1) (drop (i + 1) (take n list)))
+  unfolding gapShort
+  gap-open gap = ap (gapShort gap (i + 1)) opened
 
 -- A list's number
 
-pub fall-none : (before : ℕ) (ds : List ℕ) (at : ℕ) → numberOf (fallFault before ds at) ≡ 0 → fallFault before ds at ≡ Accepted
+fall-none : (before : ℕ) (ds : List ℕ) (at : ℕ) → numberOf (fallFault before ds at) ≡ 0 → fallFault before ds at ≡ Accepted
 unfolding fallFault
 fall-none before [] at e = refl
 fall-none before (d ∷ ds) at e = when-cases (λ v. numberOf v ≡ 0 → v ≡ Accepted) (outside before maxDistance d) (λ t z. absurd (omega (arith, z))) (λ t z. fall-none d ds (at + 4) z) e
@@ -90,7 +88,7 @@ pub list-falls : (gap : ℕ) (ds : List ℕ) → (numberOf (fallFault 0 ds 0) �
 unfolding listNumber distancesFault
 list-falls gap ds h = number-stop (fallFault 0 ds 0) (lastFault ds 0 then gapFault gap ds 0) h
 
-pub list-rises : (gap : ℕ) (list : List ℕ) (n : ℕ) → n ≤ length list → 1 ≤ n → numberOf (fallFault 0 (take n list) 0) ≡ 0
+list-rises : (gap : ℕ) (list : List ℕ) (n : ℕ) → n ≤ length list → 1 ≤ n → numberOf (fallFault 0 (take n list) 0) ≡ 0
     → listNumber gap (take n list) ≡ (30 when eqb (getD list (n - 1) 0) 0 else 31 when not (eqb gap 0) && gapShort gap 1 (take n list) else 0)
 unfolding listNumber distancesFault lastFault gapFault _then_
 list-rises gap list n h k e =
@@ -98,6 +96,52 @@ list-rises gap list n h k e =
     let last : getD ds (length ds - 1) 0 ≡ getD list (n - 1) 0 = rw (length-take-le n list h) (getD-take n list (n - 1) 0 (omega arith)) in
     rw (← last) (ap (λ v. numberOf (v then lastFault ds 0 then gapFault gap ds 0)) (fall-none 0 ds 0 e)
     ∙ last-or-gap (0 + 4 * (length ds - 1)) 0 (eqb (getD ds (length ds - 1) 0) 0) (not (eqb gap 0) && gapShort gap 1 ds))
+
+-- The first i distances of which none falls
+
+pub record Passed (gap : ℕ) (list : List ℕ) (n : ℕ) (short : Bool) (before i : ℕ) : Type 0 where
+  pub falls : numberOf (fallFault 0 (take n list) 0) ≡ (29 when ltb maxDistance before else numberOf (fallFault before (drop i (take n list)) (4 * i)))
+  pub gaps : (short || gapShort gap (i + 1) (drop i (take n list))) ≡ gapShort gap 1 (take n list)
+  pub last : (j : ℕ) → i ≡ j + 1 → before ≡ getD list j 0
+
+pub passed-none : (gap : ℕ) (list : List ℕ) (n : ℕ) → Passed gap list n false 0 0
+passed-none gap list n = record { falls = sym (when-no _ _ (le-ltb maxDistance 0 (omega arith))); gaps = refl; last = λ j e. absurd (omega (arith, e)) }
+
+module _ {gap : ℕ} {list : List ℕ} {n : ℕ} {short : Bool} {before i : ℕ} (p : Passed gap list n short before i) (h : n ≤ length list) where
+  -- the next one falls
+  pub passed-stop : i < n → getD list i 0 < before → numberOf (fallFault 0 (take n list) 0) ≡ 29
+  passed-stop k l = p .falls ∙ ⊎-elim
+      (λ m. when-yes _ _ (lt-ltb _ _ m))
+      (λ m. when-no _ _ (le-ltb _ _ m) ∙ ap numberOf (fall-stop list n i h k before (or-left _ (ltb maxDistance (getD list i 0)) (lt-ltb _ _ l))))
+      (lt-or-le maxDistance before)
+
+  -- it does not
+  pub passed-on : i < n → before ≤ getD list i 0 → Passed gap list n (short || ltb (gap * (i + 1)) (getD list i 0)) (getD list i 0) (i + 1)
+  passed-on k l = record {
+    falls = p .falls ∙ ⊎-elim
+        (λ m. when-yes 29 (numberOf (fallFault before (drop i (take n list)) (4 * i))) (lt-ltb maxDistance before m) ∙ sym (when-yes 29 (numberOf (fallFault (getD list i 0) (drop (i + 1) (take n list)) (4 * (i + 1)))) (lt-ltb maxDistance (getD list i 0) (omega (arith, m, l)))))
+        (λ m. when-no 29 (numberOf (fallFault before (drop i (take n list)) (4 * i))) (le-ltb maxDistance before m) ∙ ⊎-elim
+        (λ q. ap numberOf (fall-stop list n i h k before (or-right (ltb (getD list i 0) before) _ (lt-ltb maxDistance (getD list i 0) q))) ∙ sym (when-yes 29 (numberOf (fallFault (getD list i 0) (drop (i + 1) (take n list)) (4 * (i + 1)))) (lt-ltb maxDistance (getD list i 0) q)))
+        (λ q. ap numberOf (fall-next list n i h k before (or-none _ _ (le-ltb _ _ l) (le-ltb _ _ q))) ∙ sym (when-no 29 (numberOf (fallFault (getD list i 0) (drop (i + 1) (take n list)) (4 * (i + 1)))) (le-ltb maxDistance (getD list i 0) q)))
+        (lt-or-le maxDistance (getD list i 0)))
+        (lt-or-le maxDistance before);
+    gaps = or-assoc short (ltb (gap * (i + 1)) (getD list i 0)) (gapShort gap (i + 1 + 1) (drop (i + 1) (take n list))) ∙ ap (λ b. short || b) (sym (gap-open list n i h k gap)) ∙ p .gaps;
+    last = λ j e. let q : i ≡ j = omega (arith, e) in ap (λ m. getD list m 0) q;
+  }
+
+  -- all of them: the last is the greatest
+  module _ (e : i ≡ n) where
+    pub passed-all : numberOf (fallFault 0 (take n list) 0) ≡ (29 when ltb maxDistance before else 0)
+    passed-all = p .falls ∙ ap (λ m. 29 when ltb maxDistance before else m) (ap (λ ds. numberOf (fallFault before ds (4 * i))) (left-none list n i (omega arith)) ∙ ap numberOf (fall-end before (4 * i)))
+
+    short-all : gapShort gap 1 (take n list) ≡ short
+    short-all = sym (p .gaps) ∙ ap (λ b. short || b) (ap (gapShort gap (i + 1)) (left-none list n i (omega arith)) ∙ gap-end gap (i + 1)) ∙ or-last short
+
+    pub passed-number : 1 ≤ n → before ≤ maxDistance → listNumber gap (take n list) ≡ (30 when eqb before 0 else 31 when not (eqb gap 0) && short else 0)
+    passed-number k l =
+        list-rises gap list n h k (passed-all ∙ when-no _ _ (le-ltb _ _ l))
+        ∙ ap (λ m. 30 when eqb m 0 else 31 when not (eqb gap 0) && gapShort gap 1 (take n list) else 0) (sym (p .last (n - 1) (omega arith)))
+        ∙ ap (λ b. 30 when eqb before 0 else 31 when not (eqb gap 0) && b else 0) short-all
 
 -- The tasks' number
 
@@ -127,21 +171,21 @@ counts-none before listed tasks e =
     let t = none-or (outside 1 maxTasks tasks) _ (b .0) in
     (ltb-false _ _ (l .0), ltb-false _ _ (l .1), ltb-false _ _ (none-or (ltb tasks 1) _ (t .0) .1), ltb-false _ _ (t .1))
 
-pub row-counts : (j : Judged) (r : Row) → rowNumber j r ≡ 0
+pub row-counts : (j : Tally) (r : Row) → rowNumber j r ≡ 0
     → (1 ≤ r .listed) × (r .listed ≤ maxDistances) × (r .tasks ≤ maxTasks) × (j .tasks + r .tasks ≤ maxAllTasks)
 unfolding rowNumber
 row-counts j r e = counts-none (j .tasks) (r .listed) (r .tasks) (number-none _ _ (number-none _ _ (number-none _ _ e .1) .1) .0)
 
 -- One row more
 
-module _ {j : Judged} {r : Row} (f : Fits r) (s : Small j) where
+module _ {j : Tally} {r : Row} (f : Typed r) (s : Small j) where
   -- a fault before it stays
   pub with-before : (j .number ≡ 0 → ⊥) → JudgedWith j r j
   unfolding judgedWith _when_else_
   with-before h = record { fits = f; small = s; is = rw (ne-eqb _ _ h) }
 
   small-faulted : (n : ℕ) → Small (faulted j n)
-  small-faulted n = record { count = s .count; tasks = s .tasks; bytes = s .bytes }
+  small-faulted n = record { count = s .count; tasks = s .tasks; bytes = s .bytes; places = s .places }
 
   module _ (none : j .number ≡ 0) where
     pub with-many : j .count ≡ maxChains → JudgedWith j r (faulted j 11)
@@ -159,6 +203,6 @@ module _ {j : Judged} {r : Row} (f : Fits r) (s : Small j) where
           let b = row-counts j r (sym e ∙ z) in
           record {
             fits = f;
-            small = record { count = omega (arith, s .count); tasks = b .3; bytes = omega (arith, s .bytes, b .1, b .2) };
+            small = record { count = omega (arith, s .count); tasks = b .3; bytes = omega (arith, s .bytes, b .1, b .2); places = omega (arith, s .places, length-take-le 15 (j .ids) (omega (arith, s .places))) };
             is = rw (eq-eqb _ _ none, ne-eqb _ _ few, ← e, eq-eqb _ _ z);
           }

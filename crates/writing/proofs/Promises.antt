@@ -32,11 +32,11 @@ use Rattle.slices.proofs.Bytes.{bytes-append, bytes-flatten}
 use Rattle.slices.proofs.Parts.{Whole, Parts, rowIn, all-take}
 use Rattle.slices.proofs.Parsed.{parts-rows}
 use Rattle.table.specs.Record.{taskRecord}
-use Rattle.writing.specs.Rows.{countByte, headBytes, distanceBytes, taskBytes, pieces, listBytes, tasksBytes, rowBytes, tableBytes, cleared, Fits}
+use Rattle.writing.specs.Rows.{countByte, headBytes, distanceBytes, taskBytes, pieces, listBytes, tasksBytes, rowBytes, tableBytes, cleared, Typed}
 use Rattle.writing.specs.Write as write
-use Rattle.writing.specs.code.Judged.{rowNumber, unjudged, judgedWith, judgedAll, Small, JudgedWith, mostJudged, JudgedRows}
+use Rattle.writing.specs.code.Tally.{rowNumber, unjudged, judgedWith, judgedAll, Small, JudgedWith, mostJudged, JudgedRows}
 use Rattle.writing.specs.code.Put.{judgedNumber}
-use Rattle.writing.specs.declared.judged.Judged.{Judged}
+use Rattle.writing.specs.declared.judged.Tally.{Tally}
 use Rattle.writing.specs.declared.Written.{Written}
 use Rattle.writing.specs.declared.Written.the-variants.{Used}
 use Rattle.writing.proofs.Numbers.{number-none, with-before, with-many, with-fault, with-none}
@@ -135,7 +135,7 @@ table-bytes rs =
 
 -- Rows of their types are judged
 
-judged-one : (j : Judged) (r : Row) → Fits r → Small j → JudgedWith j r (judgedWith j r)
+judged-one : (j : Tally) (r : Row) → Typed r → Small j → JudgedWith j r (judgedWith j r)
 judged-one j r f s = ⊎-elim
     (λ l. own (with-before f s (λ z. omega (arith, z, l))))
     (λ l. let none : j .number ≡ 0 = omega arith in
@@ -149,16 +149,16 @@ judged-one j r f s = ⊎-elim
     (lt-or-le (j .count) maxChains))
     (lt-or-le 0 (j .number))
   where
-    own : {v : Judged} → JudgedWith j r v → JudgedWith j r (judgedWith j r)
+    own : {v : Tally} → JudgedWith j r v → JudgedWith j r (judgedWith j r)
     own w = subst (JudgedWith j r) (w .is) w
 
-judged-small : (rs : List Row) (j : Judged) → All Fits rs → Small j → Small (judgedAll j rs)
+judged-small : (rs : List Row) (j : Tally) → All Typed rs → Small j → Small (judgedAll j rs)
 unfolding judgedAll
 judged-small [] j f s = s
 judged-small (r ∷ rs) j f s = judged-small rs (judgedWith j r) (f .1) (judged-one j r (f .0) s .small)
 
-pub all-judged : (rs : List Row) → All Fits (take mostJudged rs) → JudgedRows rs (judgedAll unjudged (take mostJudged rs))
-all-judged rs f = record { fits = f; small = judged-small (take mostJudged rs) unjudged f (record { count = omega arith; tasks = omega arith; bytes = omega arith }); is = refl }
+pub all-judged : (rs : List Row) → All Typed (take mostJudged rs) → JudgedRows rs (judgedAll unjudged (take mostJudged rs))
+all-judged rs f = record { fits = f; small = judged-small (take mostJudged rs) unjudged f (record { count = omega arith; tasks = omega arith; bytes = omega arith; places = refl }); is = refl }
 
 -- Rows that are written
 
@@ -166,9 +166,9 @@ all-judged rs f = record { fits = f; small = judged-small (take mostJudged rs) u
 pub verdict-short : (rs : List Row) → length (tableBytes rs) ≤ maxBytes → readTable (tableBytes rs) ≡ records maxChains (tableBytes rs) 0 empty
 verdict-short rs h = read-on (tableBytes rs) (or-none _ _ (ne-eqb (length (tableBytes rs)) 0 (λ z. omega (arith, table-length rs, z))) (le-ltb maxBytes (length (tableBytes rs)) h))
 
-module _ (rs : List Row) (f : All Fits rs) where
+module _ (rs : List Row) (f : All Typed rs) where
   pub judged : JudgedRows rs (judgedAll unjudged (take mostJudged rs))
-  judged = all-judged rs (all-take Fits mostJudged rs f)
+  judged = all-judged rs (all-take Typed mostJudged rs f)
 
   module _ (verdict : write.verdictOn rs ≡ Accepted) where
     sound : judgedAll unjudged (take mostJudged rs) .number ≡ 0
@@ -186,21 +186,21 @@ module _ (rs : List Row) (f : All Fits rs) where
     read = ap (λ (r : Reading). r .verdict) (verdict-short rs short) ∙ verdict
 
     -- a row's record by itself
-    row-stored : (r : Row) → Fits r → Stored (rowBytes r) 0 r
+    row-stored : (r : Row) → Typed r → Stored (rowBytes r) 0 r
     row-stored r g = stored (rowBytes r) 0 r [] (sym (append-nil (rowBytes r))) g (omega arith)
 
-    row-whole : (r : Row) → Fits r → Counts r → Whole (rowBytes r)
+    row-whole : (r : Row) → Typed r → Counts r → Whole (rowBytes r)
     unfolding markOf _when_else_
     row-whole r g c = record { mark = ap markOf (row-stored r g .mark); long = row-length r ∙ sym (length-read (rowBytes r) 0 r (row-stored r g) g (c .listed) (c .tasks)) }
 
-    row-back : (r : Row) → Fits r → Counts r → rowIn (rowBytes r) ≡ cleared r
+    row-back : (r : Row) → Typed r → Counts r → rowIn (rowBytes r) ≡ cleared r
     row-back r g c = row-read (rowBytes r) 0 r (row-stored r g) g (c .listed) (c .tasks)
 
-    all-whole : (l : List Row) → All Fits l → All Counts l → All Whole (map rowBytes l)
+    all-whole : (l : List Row) → All Typed l → All Counts l → All Whole (map rowBytes l)
     all-whole [] g c = tt
     all-whole (r ∷ l) g c = (row-whole r (g .0) (c .0), all-whole l (g .1) (c .1))
 
-    all-back : (l : List Row) → All Fits l → All Counts l → map rowIn (map rowBytes l) ≡ map cleared l
+    all-back : (l : List Row) → All Typed l → All Counts l → map rowIn (map rowBytes l) ≡ map cleared l
     all-back [] g c = refl
     all-back (r ∷ l) g c = rw (row-back r (g .0) (c .0), all-back l (g .1) (c .1))
 

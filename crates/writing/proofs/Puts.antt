@@ -2,12 +2,15 @@
 use Prim.Native.Nat.{ℕ, zero, suc, min, _+_, _*_, _<_, _≤_}
 use native.Mathlib.Omega.{arith}
 use native.Mathlib.Numerals.{add-one}
-use mathlib.Core.Path.{_≡_, refl, ap, subst, _∙_}
-use mathlib.Core.List.{List, [], _++_, append-assoc}
+use mathlib.Core.Path.{_≡_, refl, ap, sym, subst, _∙_}
+use mathlib.Core.List.{List, [], _++_, append-assoc, append-nil}
 use mathlib.Core.Bool.{Bool, true, false}
 use lib.ListN.{length, take, drop}
+use mathlib.Core.Logic.{⊎-elim}
+use borrow.Author.Tests.{lt-ltb, le-ltb}
 use lib.Dec.{ltb}
 use Rattle.search.specs.Choice.{_when_else_, byNumber}
+use Rattle.search.proofs.Choice.{when-yes, when-no, lt-or-le}
 use Rattle.slices.specs.code.Wrote.{Wrote}
 use Rattle.slices.proofs.Writes.{wrote-on, wrote-put}
 use Rattle.table.specs.Limits.{maxDistances, maxTasks}
@@ -15,10 +18,10 @@ use Rattle.table.specs.Bytes.{bytesOf}
 use Rattle.table.specs.declared.Row.{Row}
 use Rattle.table.proofs.Words.{length-bytes, bytes-join}
 use Rattle.table.specs.Record.{taskRecord}
-use Rattle.writing.specs.Rows.{headBytes, pieces}
-use Rattle.writing.specs.code.Judged.{firstNumber}
-use Rattle.writing.specs.code.Put.{judgedNumber, tableLength, answerOf}
-use Rattle.writing.specs.declared.judged.Judged.{Judged}
+use Rattle.writing.specs.Rows.{headBytes, distanceBytes, pieces, listBytes}
+use Rattle.writing.specs.code.Tally.{firstNumber}
+use Rattle.writing.specs.code.Put.{distanceOf, judgedNumber, tableLength, writeAnswer}
+use Rattle.writing.specs.declared.judged.Tally.{Tally}
 use Rattle.writing.specs.declared.Written.{Written}
 use Rattle.writing.specs.declared.Written.the-variants.{Used, Refused}
 use Rattle.writing.proofs.Pieces.{more-pieces}
@@ -60,6 +63,21 @@ pieces-on f i {before} {mid} {after} {at} {here} {next} w v =
     let e : pieces f i 0 ++ f i ≡ pieces f (i + 1) 0 = rw (add-one, more-pieces f i 0, z) in
     subst (λ text. Wrote before at text after next) e (wrote-on w v)
 
+-- the next distance is put, where there is one
+pub distances-on : (list : List ℕ) (n i : ℕ) {before mid after : List ℕ} {at here next : ℕ} → Wrote before at (listBytes list (min i n)) mid here
+    → Wrote mid here (distanceOf list n i) after next → Wrote before at (listBytes list (min (i + 1) n)) after next
+distances-on list n i {before} {mid} {after} {at} {here} {next} w v = ⊎-elim
+    (λ l.
+    let a : min i n ≡ i = omega arith in
+    let b : min (i + 1) n ≡ i + 1 = omega arith in
+    subst (λ k. Wrote before at (listBytes list k) after next) (sym b)
+    (pieces-on (distanceBytes list) i (subst (λ k. Wrote before at (listBytes list k) mid here) a w) (subst (λ text. Wrote mid here text after next) (when-yes _ _ (lt-ltb _ _ l)) v)))
+    (λ l.
+    let e : min i n ≡ min (i + 1) n = omega arith in
+    subst (λ text. Wrote before at text after next) (append-nil (listBytes list (min i n)) ∙ ap (listBytes list) e)
+    (wrote-on w (subst (λ text. Wrote mid here text after next) (when-no _ _ (le-ltb _ _ l)) v)))
+    (lt-or-le i n)
+
 -- The answer
 
 -- the first number is the answer; where there is none, the length
@@ -89,6 +107,6 @@ some-number zero l n true e z = let x : _≡_ {A = ℕ} 24 0 = cc in omega arith
 some-number zero l n false e z = let x : _≡_ {A = ℕ} 0 1 = cc in omega arith
 some-number (suc k) l n t e z = let x : _≡_ {A = ℕ} (suc k) 0 = cc in omega arith
 
-pub refused-number : (j : Judged) (room n : ℕ) → answerOf j room ≡ Refused n → n ≡ 0 → ⊥
-unfolding answerOf
+pub refused-number : (j : Tally) (room n : ℕ) → writeAnswer j room ≡ Refused n → n ≡ 0 → ⊥
+unfolding writeAnswer
 refused-number j room n e = some-number (judgedNumber j) (tableLength j) n (ltb room (tableLength j)) e

@@ -14,9 +14,9 @@ use Rattle.table.specs.declared.Verdict.{Verdict}
 use Rattle.table.specs.declared.Verdict.the-variants.{Accepted, Refused}
 use Rattle.table.proofs.Firsts.{not-accepted}
 use Rattle.writing.specs.Write.{verdictOn, RowsRefusal}
-use Rattle.writing.specs.code.Judged.{identityNumber, timesNumber, countsNumber, listNumber, tasksNumber, firstNumber, listsNumber, rowNumber, unjudged, judgedWith, judgedAll, JudgedRows}
+use Rattle.writing.specs.code.Tally.{identityNumber, timesNumber, countsNumber, listNumber, tasksNumber, firstNumber, listsNumber, rowNumber, unjudged, judgedWith, judgedAll, JudgedRows}
 use Rattle.writing.specs.code.Put.{judgedNumber}
-use Rattle.writing.specs.declared.judged.Judged.{Judged}
+use Rattle.writing.specs.declared.judged.Tally.{Tally}
 use Rattle.writing.proofs.Verdicts.{Says, says-number, says-none}
 use Rattle.writing.proofs.Judging.{rows-verdict}
 
@@ -64,7 +64,7 @@ known-list gap ds =
     (known-then (lastFault ds 0) (gapFault gap ds 0) (known-fault 30 _ _ (of-lists 30 (omega arith) (omega arith)) Accepted (inl refl))
     (known-fault 31 _ _ (of-lists 31 (omega arith) (omega arith)) Accepted (inl refl)))
 
-known-row : (j : Judged) (r : Row) → Known (rowNumber j r)
+known-row : (j : Tally) (r : Row) → Known (rowNumber j r)
 unfolding rowNumber listsNumber identityNumber timesNumber countsNumber tasksNumber
 known-row j r =
     known-first _ _ (known-when _ (of-fields 4 (omega arith) (omega arith)) (known-when _ (of-fields 5 (omega arith) (omega arith)) (known-when _ (of-fields 5 (omega arith) (omega arith)) (inl refl))))
@@ -73,21 +73,21 @@ known-row j r =
     (known-first _ _ (known-list (r .gap) _) (known-when _ (of-tasks 10 (omega arith) (omega arith)) (inl refl)))))
 
 -- and that of rows one after the other
-known-with : (j : Judged) (r : Row) → Known (j .number) → Known (judgedWith j r .number)
+known-with : (j : Tally) (r : Row) → Known (j .number) → Known (judgedWith j r .number)
 unfolding judgedWith
 known-with j r k =
-    when-cases (λ (v : Judged). Known (v .number)) _ (λ e. k)
-    (λ e. when-cases (λ (v : Judged). Known (v .number)) _ (λ f. of-tasks 11 (omega arith) (omega arith))
-    (λ f. when-cases (λ (v : Judged). Known (v .number)) _ (λ g. known-row j r) (λ g. inl refl)))
+    when-cases (λ (v : Tally). Known (v .number)) _ (λ e. k)
+    (λ e. when-cases (λ (v : Tally). Known (v .number)) _ (λ f. of-tasks 11 (omega arith) (omega arith))
+    (λ f. when-cases (λ (v : Tally). Known (v .number)) _ (λ g. known-row j r) (λ g. inl refl)))
 
-known-all : (rs : List Row) (j : Judged) → Known (j .number) → Known (judgedAll j rs .number)
+known-all : (rs : List Row) (j : Tally) → Known (j .number) → Known (judgedAll j rs .number)
 unfolding judgedAll
 known-all [] j k = k
 known-all (r ∷ rs) j k = known-all rs (judgedWith j r) (known-with j r k)
 
 -- so a refusal of rows has one of these numbers
-pub rows-refusal : (rs : List Row) (j : Judged) → JudgedRows rs j → {n place : ℕ} → verdictOn rs ≡ Refused n place → RowsRefusal n
+pub rows-refusal : (rs : List Row) (j : Tally) → JudgedRows rs j → {n place : ℕ} → verdictOn rs ≡ Refused n place → RowsRefusal n
 rows-refusal rs j h {n} {place} e =
-    let k : Known (judgedNumber j) = known-first (j .number) _ (subst (λ (v : Judged). Known (v .number)) (sym (h .is)) (known-all _ unjudged (inl refl))) (known-when _ (of-tasks 11 (omega arith) (omega arith)) (inl refl)) in
+    let k : Known (judgedNumber j) = known-first (j .number) _ (subst (λ (v : Tally). Known (v .number)) (sym (h .is)) (known-all _ unjudged (inl refl))) (known-when _ (of-tasks 11 (omega arith) (omega arith)) (inl refl)) in
     let s : Says (Refused n place) (judgedNumber j) = subst (λ (v : Verdict). Says v (judgedNumber j)) e (rows-verdict rs j h) in
     ⊎-elim (λ z. absurd (not-accepted (says-none s z))) (λ r. subst RowsRefusal (sym (says-number s)) r) k

@@ -27,9 +27,9 @@ use Rattle.table.specs.declared.Verdict.the-variants.{Accepted, Refused}
 use Rattle.table.proofs.Firsts.{or-left, or-right, none-or}
 use Rattle.table.proofs.Faultless.{inside}
 use Rattle.table.proofs.Lists.{length-spaced, spaced-at}
-use Rattle.writing.specs.Rows.{cleared, Fits}
-use Rattle.writing.specs.code.Judged.{identityNumber, timesNumber, countsNumber, listNumber, taskWrong, tasksNumber, firstNumber, listsNumber, rowNumber}
-use Rattle.writing.specs.declared.judged.Judged.{Judged}
+use Rattle.writing.specs.Rows.{cleared, Typed}
+use Rattle.writing.specs.code.Tally.{bears, identityNumber, timesNumber, countsNumber, listNumber, taskWrong, tasksNumber, firstNumber, listsNumber, rowNumber}
+use Rattle.writing.specs.declared.judged.Tally.{Tally}
 use Rattle.writing.proofs.Numbers.{number-none, counts-none}
 use Rattle.writing.proofs.Fields.{Stored}
 
@@ -132,10 +132,10 @@ module _ (s : List ℕ) (at : ℕ) (r : Row) (st : Stored s at r) where
   abbrev tasksStart : ℕ
   tasksStart = afterList at (r .listed)
 
-  identity-says : (t : Table) (ids : List ℕ) (count : ℕ) → used t (r .id) ≡ ltb (first (λ i. eqb (getD ids i 0) (r .id)) 0 count) count
-      → Says (identityFault s at t) (identityNumber ids count (r .id) (r .kind) (r .overload))
+  identity-says : (t : Table) (ids : List ℕ) → (eqb (r .id) 0 || used t (r .id)) ≡ (eqb (r .id) 0 || bears ids (r .id))
+      → Says (identityFault s at t) (identityNumber ids (r .id) (r .kind) (r .overload))
   unfolding identityFault identityNumber
-  identity-says t ids count e = rw (st .id, st .kind, st .overload, e)
+  identity-says t ids e = rw (st .id, st .kind, st .overload, e)
       (says-when 3 (idPlace at) _ (says-when 4 (kindPlace at) _ (says-when 4 (overloadPlace at) _ Says.none)))
 
   times-says : Says (timesFault s at) (timesNumber (r .deadline) (r .gap))
@@ -147,15 +147,15 @@ module _ (s : List ℕ) (at : ℕ) (r : Row) (st : Stored s at r) where
   counts-says before = rw (st .listed, st .tasks, cut maxDistances (r .listed) (omega arith), cut-tasks before (r .tasks))
       (says-when 27 (listedPlace at) _ (says-when 8 (tasksPlace at) _ Says.none))
 
-  head-says : (t : Table) (ids : List ℕ) (count : ℕ) → used t (r .id) ≡ ltb (first (λ i. eqb (getD ids i 0) (r .id)) 0 count) count
+  head-says : (t : Table) (ids : List ℕ) → (eqb (r .id) 0 || used t (r .id)) ≡ (eqb (r .id) 0 || bears ids (r .id))
       → Says (headFault s at t)
-      (firstNumber (identityNumber ids count (r .id) (r .kind) (r .overload)) (firstNumber (timesNumber (r .deadline) (r .gap)) (countsNumber (t .tasks) (r .listed) (r .tasks))))
+      (firstNumber (identityNumber ids (r .id) (r .kind) (r .overload)) (firstNumber (timesNumber (r .deadline) (r .gap)) (countsNumber (t .tasks) (r .listed) (r .tasks))))
   unfolding headFault _when_else_
-  head-says t ids count e = rw (le-ltb (length s) (at + 16) (omega (arith, st .there)))
-      (says-then (identity-says t ids count e) (λ z. says-then times-says (λ y. counts-says (t .tasks))))
+  head-says t ids e = rw (le-ltb (length s) (at + 16) (omega (arith, st .there)))
+      (says-then (identity-says t ids e) (λ z. says-then times-says (λ y. counts-says (t .tasks))))
 
   -- where the counts are right
-  module _ (f : Fits r) (few : r .listed ≤ maxDistances) (some : r .tasks ≤ maxTasks) where
+  module _ (f : Typed r) (few : r .listed ≤ maxDistances) (some : r .tasks ≤ maxTasks) where
     listed-is : listedAt s at ≡ r .listed
     listed-is = st .listed ∙ omega arith
 
@@ -231,14 +231,14 @@ module _ (s : List ℕ) (at : ℕ) (r : Row) (st : Stored s at r) where
         says-then list-there-says (λ y. rw (listed-is, tasks-is) (subst (λ (n : ℕ). Says (tasksFault s (r .tasks) n) (10 when ltb (first wrong 0 (r .tasks)) (r .tasks) else 0)) z (tasks-says (r .tasks) 0 (omega arith))))
 
   -- the reader says of the record what the values say of the row
-  pub chain-says : Fits r → (j : Judged) (t : Table) → used t (r .id) ≡ ltb (first (λ i. eqb (getD (j .ids) i 0) (r .id)) 0 (j .count)) (j .count) → t .tasks ≡ j .tasks
+  pub chain-says : Typed r → (j : Tally) (t : Table) → (eqb (r .id) 0 || used t (r .id)) ≡ (eqb (r .id) 0 || bears (j .ids) (r .id)) → t .tasks ≡ j .tasks
       → Says (chainFault s at t) (rowNumber j r)
   unfolding chainFault rowNumber
   chain-says f j t e g =
-      let id = identityNumber (j .ids) (j .count) (r .id) (r .kind) (r .overload) in
+      let id = identityNumber (j .ids) (r .id) (r .kind) (r .overload) in
       let times = timesNumber (r .deadline) (r .gap) in
       let counts = countsNumber (j .tasks) (r .listed) (r .tasks) in
-      let head : Says (headFault s at t) (firstNumber id (firstNumber times counts)) = subst (λ (n : ℕ). Says (headFault s at t) (firstNumber id (firstNumber times (countsNumber n (r .listed) (r .tasks))))) g (head-says t (j .ids) (j .count) e) in
+      let head : Says (headFault s at t) (firstNumber id (firstNumber times counts)) = subst (λ (n : ℕ). Says (headFault s at t) (firstNumber id (firstNumber times (countsNumber n (r .listed) (r .tasks))))) g (head-says t (j .ids) e) in
       subst (Says (headFault s at t then listFault s at then tasksFault s (tasksAt s at) (firstTask s at)))
       (first-assoc id (firstNumber times counts) (listsNumber r) ∙ ap (firstNumber id) (first-assoc times counts (listsNumber r)))
       (says-then head (λ z.

@@ -61,8 +61,9 @@ cleared r =
       cost = pad maxTasks (take (r .tasks) (r .cost));
     }
 
--- each number is of its field's width, and each list has its places: so is every row that a program has
-pub record Fits (r : Row) : Type 0 where
+-- each number but the two counts, which stand as at most 255, is of its field's width, and each list has its places: so is every row that
+-- a program has
+pub record Typed (r : Row) : Type 0 where
   pub id : r .id < 65536
   pub kind : r .kind < 256
   pub overload : r .overload < 256

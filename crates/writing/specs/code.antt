@@ -1,3 +1,3 @@
-pub mod Judged
+pub mod Tally
 pub mod Put
 pub mod Rows

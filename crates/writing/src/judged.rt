@@ -1,21 +1,18 @@
 // Rows judged by their values, in the reader's order; the first fault decides.
-use table::Before;
 use table::Row;
 use table::Table;
-use table::id_wrong;
 use table::outside;
-use table::u64_from_u32;
 ghost use mathlib.Core.Path.{_≡_};
-ghost use Prim.Native.Nat.{min, _+_, _≤_};
+ghost use Prim.Native.Nat.{min, _+_, _*_, _<_, _≤_};
+ghost use lib.Dec.{ltb};
+ghost use mathlib.Core.List.{_∷_};
 ghost use lib.ListN.{length, take};
-ghost use Rattle.table.specs.Limits.{maxChains, maxAllTasks, maxDistances, maxTasks};
-ghost use Rattle.table.specs.Fault.{fallFault, gapShort};
-ghost use Rattle.table.specs.Read.{numberOf};
-ghost use Rattle.writing.specs.code.Judged.{identityNumber, timesNumber, countsNumber, listNumber, tasksNumber, listsNumber, rowNumber, unjudged as unjudgedOf, faulted as faultedOf, counted as countedOf, Small, CountedRoom, JudgedWith, mostJudged};
+ghost use Rattle.table.specs.Limits.{maxChains, maxDistances, maxTasks};
+ghost use Rattle.writing.specs.code.Tally.{bears as bearsOf, listNumber, tasksNumber, listsNumber, rowNumber, unjudged as unjudgedOf, faulted as faultedOf, counted as countedOf, Small, CountedRoom, JudgedWith, mostJudged};
 
 // What is known of the rows so far: the number of the first fault, 0 for none; of the good rows before it, how many they are, their tasks
-// in all, the length of their records, and their ids.
-pub struct Judged {
+// in all, the length of their records, and their ids, the newest first.
+pub struct Tally {
     pub number: u32,
     pub count: usize,
     pub tasks: usize,
@@ -23,108 +20,72 @@ pub struct Judged {
     pub ids: [u16; Table::CHAINS],
 }
 
-// 4 or 5: the id, which no chain before may bear, the kind and the overload mark.
-fn identity_number(
-    id: u16,
-    kind: u8,
-    overload: u8,
-    ids: &[u16; Table::CHAINS],
-    before: Before,
-) -> u32
-    requires { ⌜ before .count ≤ maxChains ⌝ }
-    ensures { λ r. ⌜ r ≡ identityNumber (now (ids .entry)) (before .count) id kind overload ⌝ }
+// Whether one of the ids is this one. Every place is looked at, so that they are compared all at once.
+fn bears(ids: &[u16; Table::CHAINS], id: u16) -> bool
+    requires { ⌜ length (now ids) ≡ maxChains ⌝ }
+    ensures { λ r. ⌜ r ≡ bearsOf (now (ids .entry)) id ⌝ }
 {
-    if id_wrong(id, ids, before) {
-        return 4;
-    }
-    if 1 < kind {
-        return 5;
-    }
-    if 1 < overload {
-        return 5;
-    }
-    0
-}
-
-// 6 or 7: the deadline and the gap.
-fn times_number(deadline: u32, gap: u32) -> u32
-    ensures { λ r. ⌜ r ≡ timesNumber deadline gap ⌝ }
-{
-    if outside(1, Table::DEADLINE, deadline) {
-        return 6;
-    }
-    if Table::GAP < gap {
-        return 7;
-    }
-    0
-}
-
-// 28 or 9: the list length, and the task count after `before` tasks.
-fn counts_number(before: usize, listed: usize, tasks: usize) -> u32
-    requires { ⌜ before ≤ maxAllTasks ⌝ }
-    ensures { λ r. ⌜ r ≡ countsNumber before listed tasks ⌝ }
-{
-    if listed < 1 || Table::DISTANCES < listed {
-        return 28;
-    }
-    if tasks < 1 || Table::TASKS < tasks {
-        return 9;
-    }
-    if Table::ALL_TASKS < before + tasks {
-        return 9;
-    }
-    0
-}
-
-// 29: one of the first n distances falls, or exceeds the limit.
-fn fall_number(list: &[u32; Table::DISTANCES], n: usize) -> u32
-    requires { ⌜ (n ≤ maxDistances) × (length (now list) ≡ maxDistances) ⌝ }
-    ensures { λ r. ⌜ r ≡ numberOf (fallFault 0 (take n (now (list .entry))) 0) ⌝ }
-{
-    let mut before: u32 = 0;
+    let mut found = false;
     let mut i: usize = 0;
-    while i < n {
-        let d = list[i];
-        if outside(before, Table::DISTANCE, d) {
-            return 29;
-        }
-        before = d;
+    while i < Table::CHAINS {
+        found = found | (ids[i] == id);
         i += 1;
     }
-    0
+    found
 }
 
-// Whether the gap is too small for one of the first n distances.
-fn gap_short(gap: u32, list: &[u32; Table::DISTANCES], n: usize) -> bool
-    requires { ⌜ (n ≤ maxDistances) × (length (now list) ≡ maxDistances) ⌝ }
-    ensures { λ r. ⌜ r ≡ gapShort gap 1 (take n (now (list .entry))) ⌝ }
+// The ids after one more, which takes the first place. Each moves by one place and none is put at a place that varies, so that all of
+// them stay in registers.
+fn after_id(id: u16, ids: &[u16; Table::CHAINS]) -> [u16; Table::CHAINS]
+    requires { ⌜ length (now ids) ≡ maxChains ⌝ }
+    ensures { λ r. ⌜ r ≡ id ∷ take 15 (now (ids .entry)) ⌝ }
 {
+    let mut with = [0u16; Table::CHAINS];
+    with[0] = id;
     let mut i: usize = 0;
-    while i < n {
-        if (gap as u64) * (i as u64 + 1) < u64_from_u32(list[i]) {
-            return true;
-        }
+    while i < Table::CHAINS - 1 {
+        with[i + 1] = ids[i];
         i += 1;
     }
-    false
+    with
 }
 
-// 29, 30 or 31: the first n distances, and the gap.
+// Whether the gap is too small for distance i, which is d.
+fn beyond(gap: u32, i: usize, d: u32) -> bool
+    requires { ⌜ i < maxDistances ⌝ }
+    ensures { λ r. ⌜ r ≡ ltb (gap * (i + 1)) d ⌝ }
+{
+    (gap as u64) * (i as u64 + 1) < d as u64
+}
+
+// 29, 30 or 31: the first n distances, and the gap, in one pass. Where no distance falls the last is the greatest, so it alone is held
+// against the limit.
 fn list_number(gap: u32, list: &[u32; Table::DISTANCES], n: usize) -> u32
     requires { ⌜ (1 ≤ n) × (n ≤ maxDistances) × (length (now list) ≡ maxDistances) ⌝ }
     ensures { λ r. ⌜ r ≡ listNumber gap (take n (now (list .entry))) ⌝ }
 {
-    let falls = fall_number(list, n);
-    if falls != 0 {
-        return falls;
+    let mut short = false;
+    let mut before: u32 = 0;
+    let mut i: usize = 0;
+    while i < n {
+        let d = list[i];
+        if d < before {
+            return 29;
+        }
+        short = short | beyond(gap, i, d);
+        before = d;
+        i += 1;
     }
-    if list[n - 1] == 0 {
+    if Table::DISTANCE < before {
+        return 29;
+    }
+    if before == 0 {
         return 30;
     }
     if gap == 0 {
         return 0;
     }
-    if gap_short(gap, list, n) {
+    if short {
         return 31;
     }
     0
@@ -160,27 +121,39 @@ fn lists_number(row: Row) -> u32
     tasks_number(&priority, &cost, row.tasks)
 }
 
-// The number of a row's first fault, after those judged.
-fn row_number(judged: Judged, row: Row) -> u32
+// The number of a row's first fault, after those judged. The tests stand one after the other, each with its return: handed on, a number
+// would be chosen and tested again.
+fn row_number(judged: Tally, row: Row) -> u32
     requires { ⌜ Small judged ⌝ }
     ensures { λ r. ⌜ r ≡ rowNumber judged row ⌝ }
 {
     let ids = judged.ids;
-    let before = Before {
-        count: judged.count,
-        tasks: judged.tasks,
-    };
-    let identity = identity_number(row.id, row.kind, row.overload, &ids, before);
-    if identity != 0 {
-        return identity;
+    if row.id == 0 {
+        return 4;
     }
-    let times = times_number(row.deadline, row.gap);
-    if times != 0 {
-        return times;
+    if bears(&ids, row.id) {
+        return 4;
     }
-    let counts = counts_number(judged.tasks, row.listed, row.tasks);
-    if counts != 0 {
-        return counts;
+    if 1 < row.kind {
+        return 5;
+    }
+    if 1 < row.overload {
+        return 5;
+    }
+    if outside(1, Table::DEADLINE, row.deadline) {
+        return 6;
+    }
+    if Table::GAP < row.gap {
+        return 7;
+    }
+    if row.listed < 1 || Table::DISTANCES < row.listed {
+        return 28;
+    }
+    if row.tasks < 1 || Table::TASKS < row.tasks {
+        return 9;
+    }
+    if Table::ALL_TASKS < judged.tasks + row.tasks {
+        return 9;
     }
     lists_number(row)
 }
@@ -197,10 +170,10 @@ pub fn looked_at(n: usize) -> usize
 }
 
 // Nothing is judged yet.
-pub fn unjudged() -> Judged
+pub fn unjudged() -> Tally
     ensures { λ r. ⌜ r ≡ unjudgedOf ⌝ }
 {
-    Judged {
+    Tally {
         number: 0,
         count: 0,
         tasks: 0,
@@ -210,7 +183,7 @@ pub fn unjudged() -> Judged
 }
 
 // The same with a fault.
-fn faulted(judged: Judged, number: u32) -> Judged
+fn faulted(judged: Tally, number: u32) -> Tally
     ensures { λ r. ⌜ r ≡ faultedOf judged number ⌝ }
 {
     let mut with = judged;
@@ -219,16 +192,15 @@ fn faulted(judged: Judged, number: u32) -> Judged
 }
 
 // The same with one good row more.
-fn counted(judged: Judged, row: Row) -> Judged
+fn counted(judged: Tally, row: Row) -> Tally
     requires { ⌜ CountedRoom judged row ⌝ }
     ensures { λ r. ⌜ r ≡ countedOf judged row ⌝ }
 {
-    let mut ids = judged.ids;
-    let count = judged.count;
-    ids[count] = row.id;
-    Judged {
+    let before = judged.ids;
+    let ids = after_id(row.id, &before);
+    Tally {
         number: 0,
-        count: count + 1,
+        count: judged.count + 1,
         tasks: judged.tasks + row.tasks,
         bytes: judged.bytes + (16 + 4 * row.listed + 8 * row.tasks),
         ids,
@@ -236,7 +208,7 @@ fn counted(judged: Judged, row: Row) -> Judged
 }
 
 // What is known with one row more.
-pub fn judged_with(judged: Judged, row: Row) -> Judged
+pub fn judged_with(judged: Tally, row: Row) -> Tally
     requires { ⌜ Small judged ⌝ }
     ensures { λ r. ⌜ JudgedWith judged row r ⌝ }
 {

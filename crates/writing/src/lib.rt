@@ -3,7 +3,7 @@
 ghost use mathlib.Core.Path.{_≡_};
 ghost use Rattle.writing.specs.Write.{Writes};
 ghost use Rattle.writing.specs.Fill.{Fills};
-ghost use Rattle.writing.specs.code.Judged.{JudgedRows};
+ghost use Rattle.writing.specs.code.Tally.{JudgedRows};
 ghost use Rattle.writing.specs.code.Rows.{Answers, rowsFilled};
 ghost use Rattle.table.specs.code.Taken.{Stands};
 ghost use Prim.Native.Nat.{_+_};
@@ -12,7 +12,7 @@ ghost use Rattle.table.specs.Record.{lengthAt};
 mod judged;
 mod put;
 
-use judged::Judged;
+use judged::Tally;
 use judged::judged_with;
 use judged::looked_at;
 use judged::unjudged;
@@ -35,15 +35,15 @@ pub enum Filled {
 }
 
 // Judges the rows, in order.
-fn judge(rows: &[Row]) -> Judged
+fn judge(rows: &[Row]) -> Tally
     ensures { λ j. ⌜ JudgedRows (now (rows .entry)) j ⌝ }
 {
     let n = looked_at(rows.len());
     let mut judged = unjudged();
-    let mut k = 0;
-    while k < n {
-        judged = judged_with(judged, rows[k]);
-        k = k + 1;
+    let mut chain = 0;
+    while chain < n {
+        judged = judged_with(judged, rows[chain]);
+        chain = chain + 1;
     }
     judged
 }
@@ -55,10 +55,10 @@ pub fn write(rows: &[Row], out: &mut [u8]) -> Written
     let judged = judge(rows);
     let n = rows_put(judged, out.len());
     let mut at = 0;
-    let mut k = 0;
-    while k < n {
-        at = put_row(out, at, rows[k]);
-        k = k + 1;
+    let mut chain = 0;
+    while chain < n {
+        at = put_row(out, at, rows[chain]);
+        chain = chain + 1;
     }
     end(judged, out, at)
 }
@@ -105,11 +105,11 @@ pub fn read(s: &[u8], rows: &mut [Row]) -> Filled
     let answer = answered(s, rows.len());
     let n = rows_filled(answer);
     let mut at = 0;
-    let mut k = 0;
-    while k < n {
-        rows[k] = table::row_at(s, at);
+    let mut chain = 0;
+    while chain < n {
+        rows[chain] = table::row_at(s, at);
         at = after(s, at);
-        k = k + 1;
+        chain = chain + 1;
     }
     answer
 }

@@ -1,6 +1,6 @@
 // Rows put into a lent buffer, and whether they are.
 use crate::Written;
-use crate::judged::Judged;
+use crate::judged::Tally;
 use table::Row;
 use table::Table;
 use table::put_u16;
@@ -8,17 +8,17 @@ use table::put_u32;
 use table::u16_from_u8;
 use table::u32_from_u16;
 ghost use mathlib.Core.Path.{_≡_};
-ghost use Prim.Native.Nat.{_+_, _*_, _≤_};
+ghost use Prim.Native.Nat.{_+_, _*_, _-_, _≤_};
 ghost use lib.ListN.{length};
 ghost use Rattle.table.specs.Limits.{maxDistances, maxTasks};
 ghost use Rattle.slices.specs.code.Wrote.{Wrote};
 ghost use Rattle.table.specs.Record.{taskRecord};
 ghost use Rattle.writing.specs.Rows.{headBytes, listBytes, tasksBytes, rowBytes};
-ghost use Rattle.writing.specs.code.Judged.{firstNumber};
+ghost use Rattle.writing.specs.code.Tally.{firstNumber};
 ghost use Rattle.search.specs.Choice.{_when_else_};
-ghost use Rattle.writing.specs.code.Put.{answerOf, rowsPut, RowRoom, EndRoom, Ends};
+ghost use Rattle.writing.specs.code.Put.{distanceOf, writeAnswer, rowsPut, RowRoom, EndRoom, Ends};
 
-// The fixed part of a row's record: two numbers at a time.
+// The fixed part of a row's record: mark and id, kind and overload mark, and the two counts each as one number.
 fn put_head(out: &mut [u8], at: usize, row: Row) -> usize
     requires { ⌜ (row .listed ≤ maxDistances) × (row .tasks ≤ maxTasks) × (at + 16 ≤ length (now out)) ⌝ }
     ensures { λ r. ⌜ Wrote (now (out .entry)) at (headBytes row) (now (out .exit)) r ⌝ }
@@ -35,17 +35,40 @@ fn put_head(out: &mut [u8], at: usize, row: Row) -> usize
     at + 16
 }
 
-// The first n distances.
+// Distance i, where there are more than i; answers where the next one stands.
+fn put_distance(
+    out: &mut [u8],
+    at: usize,
+    list: &[u32; Table::DISTANCES],
+    i: usize,
+    n: usize,
+) -> usize
+    requires { ⌜ (n ≤ maxDistances) × (at + 4 * (n - i) ≤ length (now out)) ⌝ }
+    ensures { λ r. ⌜ Wrote (now (out .entry)) at (distanceOf (now (list .entry)) n i) (now (out .exit)) r ⌝ }
+{
+    if i < n {
+        put_u32(out, at, list[i]);
+        at + 4
+    } else {
+        at
+    }
+}
+
+// The first n distances. The loop goes over all places, so that it is unrolled; it would be a copy of memory otherwise, slow for so few.
+// The last is put by its number, which keeps the list in one place instead of eight registers.
 fn put_list(out: &mut [u8], at: usize, list: &[u32; Table::DISTANCES], n: usize) -> usize
-    requires { ⌜ (n ≤ maxDistances) × (at + 4 * n ≤ length (now out)) ⌝ }
+    requires { ⌜ (1 ≤ n) × (n ≤ maxDistances) × (at + 4 * n ≤ length (now out)) ⌝ }
     ensures { λ r. ⌜ Wrote (now (out .entry)) at (listBytes (now (list .entry)) n) (now (out .exit)) r ⌝ }
 {
+    let last = n - 1;
+    let mut next = at;
     let mut i: usize = 0;
-    while i < n {
-        put_u32(out, at + 4 * i, list[i]);
+    while i < Table::DISTANCES - 1 {
+        next = put_distance(out, next, list, i, last);
         i += 1;
     }
-    at + 4 * n
+    put_u32(out, next, list[last]);
+    next + 4
 }
 
 // A task record.
@@ -106,9 +129,9 @@ fn first_number(n: u32, m: u32) -> u32
 }
 
 // What a write into so much room answers, by what was judged: the rows' number, 11 where there is no row, then 24.
-fn answer_of(judged: Judged, room: usize) -> Written
+fn answer_of(judged: Tally, room: usize) -> Written
     requires { ⌜ judged .bytes ≤ 4096 ⌝ }
-    ensures { λ r. ⌜ r ≡ answerOf judged room ⌝ }
+    ensures { λ r. ⌜ r ≡ writeAnswer judged room ⌝ }
 {
     let n = judged.bytes + 4;
     let rules = first_number(judged.number, number_if(judged.count == 0, 11));
@@ -121,7 +144,7 @@ fn answer_of(judged: Judged, room: usize) -> Written
 }
 
 // How many rows are then put: all, or none.
-pub fn rows_put(judged: Judged, room: usize) -> usize
+pub fn rows_put(judged: Tally, room: usize) -> usize
     requires { ⌜ judged .bytes ≤ 4096 ⌝ }
     ensures { λ r. ⌜ r ≡ rowsPut judged room ⌝ }
 {
@@ -132,7 +155,7 @@ pub fn rows_put(judged: Judged, room: usize) -> usize
 }
 
 // The answer; where the rows are put, the end record after them.
-pub fn end(judged: Judged, out: &mut [u8], at: usize) -> Written
+pub fn end(judged: Tally, out: &mut [u8], at: usize) -> Written
     requires { ⌜ EndRoom judged (now out) at ⌝ }
     ensures { λ r. ⌜ Ends judged (now (out .entry)) at r (now (out .exit)) ⌝ }
 {

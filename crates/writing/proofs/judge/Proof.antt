@@ -53,12 +53,12 @@ use Rattle.table.specs.Record.{blank}
 use Rattle.table.specs.declared.Row.{Row}
 use Rattle.table.proofs.Row as T
 use Rattle.table.proofs.Row.Laws as T′
-use Rattle.writing.specs.Rows.{Fits}
-use Rattle.writing.specs.declared.judged.Judged.{Judged}
-use Rattle.writing.specs.code.Judged.{unjudged, judgedAll, Small, JudgedWith, mostJudged, JudgedRows}
+use Rattle.writing.specs.Rows.{Typed}
+use Rattle.writing.specs.declared.judged.Tally.{Tally}
+use Rattle.writing.specs.code.Tally.{unjudged, judgedAll, Small, JudgedWith, mostJudged, JudgedRows}
 use Rattle.writing.proofs.Loops.{small-start, judged-on, judged-end, fits-on, fits-end}
-use Rattle.writing.proofs.judged.Judged as B
-use Rattle.writing.proofs.judged.Judged.Laws as B′
+use Rattle.writing.proofs.judged.Tally as B
+use Rattle.writing.proofs.judged.Tally.Laws as B′
 use Rattle.writing.proofs.judged.looked_at as looked-at
 use Rattle.writing.proofs.judged.looked_at.Symbol as looked-def
 use Rattle.writing.proofs.judged.looked_at.Symbol.{name as #writing·judged·looked-at}
@@ -92,11 +92,11 @@ slice = sliceTy (tyRef (named 0) imm (pointee (T.the-row .written)))
 -- where the loop stands
 record State (ys : List Row) : Type 0 where
   pub k : ℕ
-  pub j : Judged
+  pub j : Tally
   pub v : Val
   pub is : Is B.the-row j (v ∷ [])
   pub on : k ≤ min (length ys) mostJudged
-  pub fits : All Fits (take k ys)
+  pub fits : All Typed (take k ys)
   pub small : Small j
   pub so : judgedAll j (drop k (take mostJudged ys)) ≡ judgedAll unjudged (take mostJudged ys)
 
@@ -120,10 +120,10 @@ module _ {M : Type 1} (𝓤 : URA M) (H : Heap 𝓤) (A : Atoms 𝓤) (mem : Mem
   looked-of : (n r : ℕ) → ent 𝓤 (ensured 𝓤 H A looked-at.ended (looked-at.clauses 𝓤 H A mem run) tt (n, tt) tt r) (fact 𝓤 (r ≡ min n mostJudged))
   looked-of n r = exE 𝓤 _ (λ ws. snd∗ 𝓤 (sem 𝓤 H A (lasts looked-at.ended tt (n, tt) ws)) (fact 𝓤 (r ≡ min n mostJudged)))
 
-  unjudged-of : (r : Judged) → ent 𝓤 (ensured 𝓤 H A unjudged′.ended (unjudged′.clauses 𝓤 H A mem run) tt tt tt r) (fact 𝓤 (r ≡ unjudged))
+  unjudged-of : (r : Tally) → ent 𝓤 (ensured 𝓤 H A unjudged′.ended (unjudged′.clauses 𝓤 H A mem run) tt tt tt r) (fact 𝓤 (r ≡ unjudged))
   unjudged-of r = exE 𝓤 _ (λ ws. snd∗ 𝓤 (sem 𝓤 H A (lasts unjudged′.ended tt tt ws)) (fact 𝓤 (r ≡ unjudged)))
 
-  with-of : (j : Judged) (x : Row) (r : Judged) → ent 𝓤 (ensured 𝓤 H A judged-with.ended (judged-with.clauses 𝓤 H A mem run) tt (j, (x, tt)) tt r) (fact 𝓤 (JudgedWith j x r))
+  with-of : (j : Tally) (x : Row) (r : Tally) → ent 𝓤 (ensured 𝓤 H A judged-with.ended (judged-with.clauses 𝓤 H A mem run) tt (j, (x, tt)) tt r) (fact 𝓤 (JudgedWith j x r))
   with-of j x r = exE 𝓤 _ (λ ws. snd∗ 𝓤 (sem 𝓤 H A (lasts judged-with.ended tt (j, (x, tt)) ws)) (fact 𝓤 (JudgedWith j x r)))
 
 module _ {M : Type 1} (𝓤 : URA M) (H : Heap 𝓤) (A : Atoms 𝓤) (W : Given 𝓤 H A) (mem : Memory → SProp 𝓤) (run : Routine → Fun 𝓤) (κ : Lft) (q : Share) (b o : ℕ) (γ : GName) (ys : List Row) where
@@ -136,7 +136,7 @@ module _ {M : Type 1} (𝓤 : URA M) (H : Heap 𝓤) (A : Atoms 𝓤) (W : Given
   abbrev Post : Val → SProp 𝓤
   Post = walkOf 𝓤 H A judge.ended stayed (judge.clauses 𝓤 H A mem run) .post (((κ, tt), (q, tt), tt, x, at), tt)
 
-  exits : (j : Judged) (v : Val) → Is B.the-row j (v ∷ []) → JudgedRows ys j → ent 𝓤 (⋆ 𝓤 H A (‵ (flft κ q) ∷ ‵ (ShrSlice (named 0) κ T.the-row .own (x .0) (at .0)) ∷ [])) (Post v)
+  exits : (j : Tally) (v : Val) → Is B.the-row j (v ∷ []) → JudgedRows ys j → ent 𝓤 (⋆ 𝓤 H A (‵ (flft κ q) ∷ ‵ (ShrSlice (named 0) κ T.the-row .own (x .0) (at .0)) ∷ [])) (Post v)
   exits j v g e =
       qed W (‵ (flft κ q) ∷ ‵ (ShrSlice (named 0) κ T.the-row .own (x .0) (at .0)) ∷ []) ∵
       suffices ! _ (ends-at 𝓤 H A judge.ended stayed (judge.clauses 𝓤 H A mem run) W (((κ, tt), (q, tt), tt, x, at), tt) v j (tt, tt) (tt, tt)) $ says ! e $
@@ -204,7 +204,7 @@ module _ {M : Type 1} (𝓤 : URA M) (H : Heap 𝓤) (A : Atoms 𝓤) (W : Given
           -- the slice is shut, and row k stands in _9
           use0 W (raw (With 𝓤 H A mem run .pre (to-with s (getD ys (s .k) blank)))) (goes-with s (getD ys (s .k) blank) g) $
           calls-at ! (fmOf 𝓤 H (W .laws) 𝓣) (With 𝓤 H A mem run) known-with (to-with s (getD ys (s .k) blank)) (and-then ! (load ! (from ! (stop !)) (look ! 19 refl)) (and-then ! (load ! (from ! (stop !)) (look ! 7 refl)) (no-more !))) (λ v.
-          use1 W (later (some (λ (r : Judged). (‵ ftrue ⊛ ‵ (B.the-row .own r (v ∷ []))) ⊛ raw (ensured 𝓤 H A judged-with.ended (judged-with.clauses 𝓤 H A mem run) tt (s .j, (getD ys (s .k) blank, tt)) tt r)))) (id⊢ 𝓤 _) $ await ! tt $ pick ! (λ r.
+          use1 W (later (some (λ (r : Tally). (‵ ftrue ⊛ ‵ (B.the-row .own r (v ∷ []))) ⊛ raw (ensured 𝓤 H A judged-with.ended (judged-with.clauses 𝓤 H A mem run) tt (s .j, (getD ys (s .k) blank, tt)) tt r)))) (id⊢ 𝓤 _) $ await ! tt $ pick ! (λ r.
           split ! $ move ! (1 ∷ []) $ use1 W (raw (fact 𝓤 (JudgedWith (s .j) (getD ys (s .k) blank) r))) (with-of 𝓤 H A mem run (s .j) (getD ys (s .k) blank) r) $ heard ! (JudgedWith (s .j) (getD ys (s .k) blank) r) (λ e. split ! $ leave ! $
           peeks ! B.the-row (Is B.the-row) (shows 𝓤 H A B.the-row) r (v ∷ []) (λ is.
           land ! (from ! (stop !)) (store ! 19 refl (LL.lawful B.the-type B′.the-laws 𝓤 H A W .typed r _ is .0)) $ leave ! $
@@ -219,7 +219,7 @@ module _ {M : Type 1} (𝓤 : URA M) (H : Heap 𝓤) (A : Atoms 𝓤) (W : Given
             on = omega (arith, here);
             fits = fits-on ys (s .k) there (s .fits) (e .fits);
             small = e .small;
-            so = ap (λ (u : Judged). judgedAll u (drop (s .k + 1) (take mostJudged ys))) (e .is) ∙ sym (judged-on (s .j) ys (s .k) here) ∙ s .so;
+            so = ap (λ (u : Tally). judgedAll u (drop (s .k + 1) (take mostJudged ys))) (e .is) ∙ sym (judged-on (s .j) ys (s .k) here) ∙ s .so;
           }) (omega (arith, there))))))))
 
       -- the turn that leaves the loop, and the rest of the body
@@ -259,13 +259,13 @@ module _ {M : Type 1} (𝓤 : URA M) (H : Heap 𝓤) (A : Atoms 𝓤) (W : Given
         land ! (from ! (stop !)) (init ! 21 refl (uint-lawful 𝓤 H A W w64 .typed n _ isn .0)) $ rewrite ! 21 (λ (u : Val). ‵ (fat fullShare word l₂ 0 u)) (ap only (isn .0)) refl $ leave ! $
         use0 W (raw (Unjudged 𝓤 H A mem run .pre to-unjudged)) goes-unjudged $
         calls-at ! (fmOf 𝓤 H (W .laws) 𝓣) (Unjudged 𝓤 H A mem run) known-unjudged to-unjudged (no-more !) (λ v.
-        use1 W (later (some (λ (r : Judged). (‵ ftrue ⊛ ‵ (B.the-row .own r (v ∷ []))) ⊛ raw (ensured 𝓤 H A unjudged′.ended (unjudged′.clauses 𝓤 H A mem run) tt tt tt r)))) (id⊢ 𝓤 _) $ await ! tt $ pick ! (λ r.
+        use1 W (later (some (λ (r : Tally). (‵ ftrue ⊛ ‵ (B.the-row .own r (v ∷ []))) ⊛ raw (ensured 𝓤 H A unjudged′.ended (unjudged′.clauses 𝓤 H A mem run) tt tt tt r)))) (id⊢ 𝓤 _) $ await ! tt $ pick ! (λ r.
         split ! $ move ! (1 ∷ []) $ use1 W (raw (fact 𝓤 (r ≡ unjudged))) (unjudged-of 𝓤 H A mem run r) $ heard ! (r ≡ unjudged) (λ e. split ! $ leave ! $
         peeks ! B.the-row (Is B.the-row) (shows 𝓤 H A B.the-row) r (v ∷ []) (λ is.
         land ! (from ! (stop !)) (init ! 19 refl (LL.lawful B.the-type B′.the-laws 𝓤 H A W .typed r _ is .0)) $ leave ! $
         assigns ! (of-opd ! (lit ! tt)) (from ! (stop !)) (init ! 16 refl (tt, record { fits = lit< tt })) $
         looped l₀ l₁ l₂ l₃ l₄ l₅ l₆ l₇ l₈ l₉ n en
-        (record { k = 0; j = r; v = v; is = is; on = omega arith; fits = tt; small = subst Small (sym e) small-start; so = ap (λ (u : Judged). judgedAll u (take mostJudged ys)) e })))))))))))))))))))
+        (record { k = 0; j = r; v = v; is = is; on = omega arith; fits = tt; small = subst Small (sym e) small-start; so = ap (λ (u : Tally). judgedAll u (take mostJudged ys)) e })))))))))))))))))))
 
 module _ {M : Type 1} (𝓤 : URA M) (H : Heap 𝓤) (A : Atoms 𝓤) (W : Given 𝓤 H A) (mem : Memory → SProp 𝓤) (run : Routine → Fun 𝓤) where
   judge-walks : (𝓣 : Tables 𝓤 H) → Triple 𝓤 (𝓣 .C #writing·judged·looked-at) (Looked 𝓤 H A mem run) → Triple 𝓤 (𝓣 .C #writing·judged·unjudged) (Unjudged 𝓤 H A mem run) → Triple 𝓤 (𝓣 .C #writing·judged·judged-with) (With 𝓤 H A mem run)

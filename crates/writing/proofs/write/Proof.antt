@@ -60,13 +60,13 @@ use Rattle.table.proofs.Row.Laws as T′
 use Rattle.slices.specs.code.Wrote.{Wrote}
 use Rattle.writing.specs.Rows.{rowBytes}
 use Rattle.writing.specs.Write.{Writes}
-use Rattle.writing.specs.declared.judged.Judged.{Judged}
+use Rattle.writing.specs.declared.judged.Tally.{Tally}
 use Rattle.writing.specs.declared.Written.{Written}
-use Rattle.writing.specs.code.Judged.{JudgedRows}
-use Rattle.writing.specs.code.Put.{rowsPut, RowRoom, EndRoom, recordsOf, Ends}
+use Rattle.writing.specs.code.Tally.{JudgedRows}
+use Rattle.writing.specs.code.Put.{rowsPut, RowRoom, EndRoom, rowRecords, Ends}
 use Rattle.writing.proofs.Loops.{judged-short, rows-there, rows-start, rows-room, rows-on, end-room, writes}
-use Rattle.writing.proofs.judged.Judged as B
-use Rattle.writing.proofs.judged.Judged.Laws as B′
+use Rattle.writing.proofs.judged.Tally as B
+use Rattle.writing.proofs.judged.Tally.Laws as B′
 use Rattle.writing.proofs.Written as S
 use Rattle.writing.proofs.Written.Laws as S′
 use Rattle.writing.proofs.judge as judge
@@ -111,18 +111,18 @@ abbrev ptr-mut : Ty
 ptr-mut = tyRef erased mut (tyInt w8)
 
 -- where the loop stands
-record State (ys : List Row) (buffer : List ℕ) (j : Judged) : Type 0 where
+record State (ys : List Row) (buffer : List ℕ) (j : Tally) : Type 0 where
   pub k : ℕ
   pub next : ℕ
   pub zs : List ℕ
   pub on : k ≤ rowsPut j (length buffer)
   pub fits : next < 2 ^ 64
-  pub wrote : Wrote buffer 0 (recordsOf ys k) zs next
+  pub wrote : Wrote buffer 0 (rowRecords ys k) zs next
 
-abbrev Nearer : (ys : List Row) (buffer : List ℕ) (j : Judged) → State ys buffer j → State ys buffer j → Type 0
+abbrev Nearer : (ys : List Row) (buffer : List ℕ) (j : Tally) → State ys buffer j → State ys buffer j → Type 0
 Nearer ys buffer j s′ s = length ys - s′ .k < length ys - s .k
 
-Nearer-wf : (ys : List Row) (buffer : List ℕ) (j : Judged) → WellFounded (Nearer ys buffer j)
+Nearer-wf : (ys : List Row) (buffer : List ℕ) (j : Tally) → WellFounded (Nearer ys buffer j)
 Nearer-wf ys buffer j = InvImage·wf (λ (s : State ys buffer j). length ys - s .k) (Nat·lt-wfRel .wf)
 
 module _ {M : Type 1} (𝓤 : URA M) (H : Heap 𝓤) (A : Atoms 𝓤) (mem : Memory → SProp 𝓤) (run : Routine → Fun 𝓤) where
@@ -139,10 +139,10 @@ module _ {M : Type 1} (𝓤 : URA M) (H : Heap 𝓤) (A : Atoms 𝓤) (mem : Mem
   abbrev End : Contract 𝓤
   End = tripleOf 𝓤 H A end′.signature (end′.spec 𝓤 H A mem run)
 
-  judged-of : (κ : Lft) (x : RefT (List Row)) (r : Judged) → ent 𝓤 (ensured 𝓤 H A judge.ended (judge.clauses 𝓤 H A mem run) (κ, tt) (x, tt) tt r) (fact 𝓤 (JudgedRows (x .now) r))
+  judged-of : (κ : Lft) (x : RefT (List Row)) (r : Tally) → ent 𝓤 (ensured 𝓤 H A judge.ended (judge.clauses 𝓤 H A mem run) (κ, tt) (x, tt) tt r) (fact 𝓤 (JudgedRows (x .now) r))
   judged-of κ x r = exE 𝓤 _ (λ ws. snd∗ 𝓤 (sem 𝓤 H A (lasts judge.ended (κ, tt) (x, tt) ws)) (fact 𝓤 (JudgedRows (x .now) r)))
 
-  count-of : (j : Judged) (n r : ℕ) → ent 𝓤 (ensured 𝓤 H A rows-put.ended (rows-put.clauses 𝓤 H A mem run) tt (j, (n, tt)) tt r) (fact 𝓤 (r ≡ rowsPut j n))
+  count-of : (j : Tally) (n r : ℕ) → ent 𝓤 (ensured 𝓤 H A rows-put.ended (rows-put.clauses 𝓤 H A mem run) tt (j, (n, tt)) tt r) (fact 𝓤 (r ≡ rowsPut j n))
   count-of j n r = exE 𝓤 _ (λ ws. snd∗ 𝓤 (sem 𝓤 H A (lasts rows-put.ended tt (j, (n, tt)) ws)) (fact 𝓤 (r ≡ rowsPut j n)))
 
 module _ {M : Type 1} (𝓤 : URA M) (H : Heap 𝓤) (A : Atoms 𝓤) (W : Given 𝓤 H A) (mem : Memory → SProp 𝓤) (run : Routine → Fun 𝓤) (κ κ′ : Lft) (q q′ : Share) (b o : ℕ) (γ : GName) (ys : List Row) (b′ o′ : ℕ) (γ′ : GName) (buffer : List ℕ)
@@ -190,7 +190,7 @@ module _ {M : Type 1} (𝓤 : URA M) (H : Heap 𝓤) (A : Atoms 𝓤) (W : Given
   goes-judge = qed W (‵ (flft κ q) ∷ ‵ Own ∷ []) ∵ nothing ! $ move ! (1 ∷ 0 ∷ []) $ join ! $ nothing ! $ move ! (2 ∷ 0 ∷ []) $ fjoin ! $ move ! (1 ∷ 0 ∷ []) $ join ! $ frame ! $ done !
 
   -- j was judged, its machine value being v
-  module _ (j : Judged) (v : Val) (is : Is B.the-row j (v ∷ [])) (ej : JudgedRows ys j) where
+  module _ (j : Tally) (v : Val) (is : Is B.the-row j (v ∷ [])) (ej : JudgedRows ys j) where
     abbrev to-count : Count 𝓤 H A mem run .Ghost
     to-count = ((tt, tt, tt, (j, (length buffer, tt)), (v ∷ [], (vint w64 (length buffer) ∷ [], tt))), tt)
 
@@ -210,7 +210,7 @@ module _ {M : Type 1} (𝓤 : URA M) (H : Heap 𝓤) (A : Atoms 𝓤) (W : Given
         qed W (‵ (flft (ν ∷ []) fullShare) ∷ ‵ (Lent (ν ∷ []) δ (t .zs)) ∷ []) ∵ says ! e $ nothing ! $ move ! (1 ∷ 0 ∷ []) $ join ! $ frame ! $
         nothing ! $ owned ! T.the-row (Is T.the-row) (LL.makes T.the-type T′.the-plain 𝓤 H A) r _ g $ fjoin ! $ owned ! usize (Is usize) (uint-makes 𝓤 H A W w64) (t .next) _ (refl, t .fits) $ fjoin ! $ move ! (1 ∷ 0 ∷ []) $ fjoin ! $ done !
 
-    abbrev passed-end : State ys buffer j → Judged × (RefT (List ℕ) × (ℕ × Unit {0}))
+    abbrev passed-end : State ys buffer j → Tally × (RefT (List ℕ) × (ℕ × Unit {0}))
     passed-end t = (j, (out γ′ (t .zs), (t .next, tt)))
 
     abbrev to-end : State ys buffer j → End 𝓤 H A mem run .Ghost
@@ -337,7 +337,7 @@ module _ {M : Type 1} (𝓤 : URA M) (H : Heap 𝓤) (A : Atoms 𝓤) (W : Given
         -- [the rows, twice; their token; the other; what out owns; true; _15; …; … ; _0; …]
         move ! (2 ∷ 0 ∷ []) $ use2 W (raw (Judges 𝓤 H A mem run .pre to-judge)) goes-judge $
         calls-at ! (fmOf 𝓤 H (W .laws) 𝓣) (Judges 𝓤 H A mem run) known-judge to-judge (and-then ! (load ! (from ! (stop !)) (look ! 33 refl)) (no-more !)) (λ v.
-        use1 W (later (some (λ (j : Judged). ((‵ (flft κ q) ⊛ ‵ ftrue) ⊛ ‵ (B.the-row .own j (v ∷ []))) ⊛ raw (ensured 𝓤 H A judge.ended (judge.clauses 𝓤 H A mem run) (κ, tt) (rows, tt) tt j)))) (id⊢ 𝓤 _) $ await ! tt $ pick ! (λ j.
+        use1 W (later (some (λ (j : Tally). ((‵ (flft κ q) ⊛ ‵ ftrue) ⊛ ‵ (B.the-row .own j (v ∷ []))) ⊛ raw (ensured 𝓤 H A judge.ended (judge.clauses 𝓤 H A mem run) (κ, tt) (rows, tt) tt j)))) (id⊢ 𝓤 _) $ await ! tt $ pick ! (λ j.
         split ! $ move ! (1 ∷ []) $ use1 W (raw (fact 𝓤 (JudgedRows ys j))) (judged-of 𝓤 H A mem run κ rows j) $ heard ! (JudgedRows ys j) (λ ej. split ! $ move ! (1 ∷ []) $
         peeks ! B.the-row (Is B.the-row) (shows 𝓤 H A B.the-row) j (v ∷ []) (λ is. land ! (from ! (stop !)) (init ! 30 refl (LL.lawful B.the-type B′.the-laws 𝓤 H A W .typed j _ is .0)) $ drop ! $
         -- [the rows' token; the rows; the other token; what out owns; true; _15; …]: the buffer is opened, and the rows are taken apart

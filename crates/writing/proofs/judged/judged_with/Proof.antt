@@ -1,15 +1,15 @@
 -- Each return is one of the four ways to judge a row more.
 use native.Mathlib.Omega.{arith}
 use mathlib.Core.Path.{subst, sym, _∙_}
-use Rattle.writing.specs.Rows.{Fits}
-use Rattle.writing.specs.code.Judged.{JudgedWith}
+use Rattle.writing.specs.Rows.{Typed}
+use Rattle.writing.specs.code.Tally.{JudgedWith}
 use Rattle.writing.proofs.Fit.{row-fits}
 use Rattle.writing.proofs.Numbers.{row-counts, with-before, with-many, with-fault, with-none}
 use borrow.Author.Needs.{needs}
 use Rattle.writing.proofs.judged.judged_with.Statement.{statement}
 use Rattle.writing.proofs.judged.judged_with.Tie as tie
 
-fits : (s : tie.Start) → Fits (s .args .row)
+fits : (s : tie.Start) → Typed (s .args .row)
 fits s = row-fits (s .args .row) _ (s .good .1 .0)
 
 returns : tie.Need-returns
@@ -39,7 +39,7 @@ counted-requires : tie.Need-counted-requires
 counted-requires c κs =
     let s = c .before .before .before .before .before .before in
     let b = row-counts (s .args .judged) (s .args .row) (sym (c .before .row-number .ensures) ∙ c .if3 .left) in
-    record { count = omega (arith, s .pre .count, c .before .before .if2 .left); tasks = s .pre .tasks; bytes = omega (arith, s .pre .bytes, s .pre .count, s .pre .tasks); of-listed = b .1; of-tasks = b .2 }
+    record { count = omega (arith, s .pre .count, c .before .before .if2 .left); tasks = s .pre .tasks; bytes = omega (arith, s .pre .bytes, s .pre .count, s .pre .tasks); of-listed = b .1; of-tasks = b .2; places = s .pre .places }
 
 returns-4 : tie.Need-returns-4
 returns-4 c =

@@ -1,7 +1,7 @@
 -- The first of the two numbers that is not 0.
 use mathlib.Core.Path.{sym}
 use Rattle.search.specs.Choice.{byNumber}
-use Rattle.writing.specs.code.Judged.{listsNumber}
+use Rattle.writing.specs.code.Tally.{listsNumber}
 use Rattle.writing.proofs.Fit.{row-fits}
 use Rattle.writing.proofs.Numbers.{by-fault}
 use borrow.Author.Needs.{needs}

@@ -9,7 +9,7 @@ use borrow.Author.Count.{below-more}
 use borrow.Author.Tests.{ne-eqb}
 use Rattle.search.proofs.Choice.{true-not-false}
 use Rattle.table.proofs.Firsts.{or-none}
-use Rattle.writing.specs.code.Judged.{taskWrong}
+use Rattle.writing.specs.code.Tally.{taskWrong}
 use Rattle.writing.proofs.Numbers.{task-wrong, tasks-wrong, tasks-right}
 use Rattle.writing.proofs.judged.tasks_number.Statement.{statement}
 use Rattle.writing.proofs.judged.tasks_number.Tie as tie

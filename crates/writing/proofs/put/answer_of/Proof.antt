@@ -3,8 +3,8 @@ use Prim.Native.Nat.{ℕ}
 use mathlib.Core.Path.{_≡_, ap, ap₂, sym, _∙_}
 use lib.Dec.{ltb}
 use Rattle.search.specs.Choice.{_when_else_}
-use Rattle.writing.specs.code.Judged.{firstNumber}
-use Rattle.writing.specs.code.Put.{judgedNumber, tableLength, answerOf}
+use Rattle.writing.specs.code.Tally.{firstNumber}
+use Rattle.writing.specs.code.Put.{judgedNumber, tableLength, writeAnswer}
 use Rattle.writing.proofs.Puts.{first-answers, none-answers}
 use borrow.Author.Needs.{needs}
 use Rattle.writing.proofs.put.answer_of.Statement.{statement}
@@ -34,14 +34,14 @@ module _ (c : tie.After-first-number2) where
   number-is = c .first-number2 .ensures ∙ ap₂ firstNumber (c .before .before .first-number .ensures ∙ ap (firstNumber (asked .args .judged .number)) (c .before .before .before .number-if .ensures)) (c .before .number-if2 .ensures)
 
 returns : tie.Need-returns
-unfolding answerOf
+unfolding writeAnswer
 returns c = first-answers _ _ _ _ (number-is (c .before)) (c .if1 .taken)
 
 cast-t7 : tie.Need-cast-t7
 cast-t7 c = search needs
 
 returns-2 : tie.Need-returns-2
-unfolding answerOf
+unfolding writeAnswer
 returns-2 c = none-answers _ _ _ (sym (number-is (c .before)) ∙ c .if1 .left)
 
 pub answer-of-spec : {M : Type 1} → statement M

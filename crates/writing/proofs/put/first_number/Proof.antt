@@ -2,7 +2,7 @@
 use Prim.Native.Nat.{ℕ}
 use mathlib.Core.Path.{ap, sym}
 use Rattle.search.specs.Choice.{byNumber}
-use Rattle.writing.specs.code.Judged.{firstNumber}
+use Rattle.writing.specs.code.Tally.{firstNumber}
 use Rattle.writing.proofs.Numbers.{by-fault}
 use Rattle.writing.proofs.put.first_number.Statement.{statement}
 use Rattle.writing.proofs.put.first_number.Tie as tie

@@ -1,42 +1,40 @@
--- The first i distances are put.
-use Prim.Native.Nat.{_≤_, _+_, _*_, _-_}
+-- As many of the first i distances as there are before the last are put; then the last.
+use Prim.Native.Nat.{min, _≤_, _+_, _-_}
 use native.Mathlib.Omega.{arith}
-use native.Mathlib.Nat.{add-zero}
 use mathlib.Core.Path.{_≡_, subst}
 use denote.Ref.{now}
 use lib.ListN.{getD}
 use Rattle.slices.specs.code.Wrote.{Wrote}
 use Rattle.slices.proofs.Writes.{wrote-none}
 use Rattle.writing.specs.Rows.{distanceBytes, listBytes}
-use Rattle.writing.proofs.Puts.{wrote-number, pieces-none, pieces-on}
+use Rattle.writing.proofs.Pieces.{list-length}
+use Rattle.writing.proofs.Puts.{wrote-number, pieces-none, pieces-on, distances-on}
 use Rattle.writing.proofs.put.put_list.Statement.{statement}
 use Rattle.writing.proofs.put.put_list.Tie as tie
 
 abbrev Inv-loop : tie.InvT-loop
-Inv-loop out₀ at list n i₀ out i = (i ≤ n) × Wrote out₀ at (listBytes list i) out (at + 4 * i)
+Inv-loop out₀ at list n last next₀ i₀ out next i = (i ≤ 7) × Wrote out₀ at (listBytes list (min i (n - 1))) out next
 
 abbrev μ-loop : tie.MeasureT-loop
-μ-loop out₀ at list n i₀ out i = n - i
+μ-loop out₀ at list n last next₀ i₀ out next i = 7 - i
+
+sub-last : tie.Need-sub-last Inv-loop μ-loop
+sub-last c = omega arith
 
 loop-holds : tie.Need-loop-holds Inv-loop μ-loop
 loop-holds c =
     let a = c .before .args in
-    (omega arith, rw (pieces-none (distanceBytes (now (a .list))), add-zero) (wrote-none (now (a .out)) (a .at) (omega arith)))
+    let e : min 0 (a .n - 1) ≡ 0 = omega arith in
+    (omega arith, rw (e, pieces-none (distanceBytes (now (a .list)))) (wrote-none (now (a .out)) (a .at) (omega arith)))
 
-mul-put-u32 : tie.Need-mul-put-u32 Inv-loop μ-loop
-mul-put-u32 c = omega arith
+sub-loop : tie.Need-sub-loop Inv-loop μ-loop
+sub-loop c = omega arith
 
-add-put-u32 : tie.Need-add-put-u32 Inv-loop μ-loop
-add-put-u32 c = omega arith
-
-mul-put-u32-2 : tie.Need-mul-put-u32-2 Inv-loop μ-loop
-mul-put-u32-2 c = omega arith
-
-element-copy-out-put-u32 : tie.Need-element-copy-out-put-u32 Inv-loop μ-loop
-element-copy-out-put-u32 c = omega arith
-
-put-u32-requires : tie.Need-put-u32-requires Inv-loop μ-loop
-put-u32-requires c κs = omega (arith, c .before .before .before .loop .inv .1 .long)
+put-distance-requires : tie.Need-put-distance-requires Inv-loop μ-loop
+put-distance-requires c κs =
+    let s = c .before .before .before .before in
+    let l = c .before .before .loop in
+    (omega (arith, s .pre .1), omega (arith, s .pre .0, s .pre .2, l .inv .1 .long, l .inv .1 .ends, list-length (now (s .args .list)) (min (l .i) (s .args .n - 1))))
 
 add-i : tie.Need-add-i Inv-loop μ-loop
 add-i c = omega arith
@@ -46,30 +44,51 @@ loop-less c = omega arith
 
 loop-again : tie.Need-loop-again Inv-loop μ-loop
 loop-again c =
+    let a = c .before .before .before .before .before .before .before .args in
+    let l = c .before .before .before .before .before .loop in
+    (omega arith, distances-on (now (a .list)) (a .n - 1) (l .i) (l .inv .1) (c .before .before .put-distance .ensures))
+
+mul-put-u32 : tie.Need-mul-put-u32 Inv-loop μ-loop
+mul-put-u32 c = omega arith
+
+element-copy-out-put-u32 : tie.Need-element-copy-out-put-u32 Inv-loop μ-loop
+element-copy-out-put-u32 c = omega arith
+
+put-u32-requires : tie.Need-put-u32-requires Inv-loop μ-loop
+put-u32-requires c κs =
+    let s = c .before .before .before .before .before in
+    let l = c .before .before .before .loop in
+    omega (arith, s .pre .0, s .pre .1, s .pre .2, l .inv .0, l .inv .1 .long, l .inv .1 .ends, list-length (now (s .args .list)) (min (l .i) (s .args .n - 1)))
+
+add-result : tie.Need-add-result Inv-loop μ-loop
+add-result c =
+    let s = c .before .before .before .before .before .before .before .before in
+    let l = c .before .before .before .before .before .before .loop in
+    omega (arith, s .pre .0, s .pre .1, s .pre .2, l .inv .0, l .inv .1 .long, l .inv .1 .ends, list-length (now (s .args .list)) (min (l .i) (s .args .n - 1)))
+
+-- the last after the others
+all-put : (c : tie.After-slice-known3 Inv-loop μ-loop)
+    → Wrote (now (c .before .before .before .before .before .before .before .before .args .out)) (c .before .before .before .before .before .before .before .before .args .at)
+    (listBytes (now (c .before .before .before .before .before .before .before .before .args .list)) (c .before .before .before .before .before .before .before .before .args .n))
+    (c .before .before .put-u32 .last .0) (c .before .before .before .before .before .before .loop .next + 4)
+all-put c =
     let s = c .before .before .before .before .before .before .before .before in
     let a = s .args in
     let l = c .before .before .before .before .before .before .loop in
-    let p = c .before .before .put-u32 in (
-      omega arith,
-      pieces-on (distanceBytes (now (a .list))) (l .i) (l .inv .1)
-          (wrote-number (l .out) (a .at + 4 * l .i) 4 (getD (now (a .list)) (l .i) 0) (p .last .0) (a .at + 4 * (l .i + 1)) (omega arith) (omega (arith, s .pre .1, l .inv .0, l .inv .1 .long)) (p .ensures)),
-    )
-
-mul-result : tie.Need-mul-result Inv-loop μ-loop
-mul-result c = omega arith
-
-add-result : tie.Need-add-result Inv-loop μ-loop
-add-result c = omega arith
+    let p = c .before .before .put-u32 in
+    let d = distanceBytes (now (a .list)) in
+    let e : min (l .i) (a .n - 1) ≡ a .n - 1 = omega (arith, s .pre .1) in
+    let f : a .n - 1 + 1 ≡ a .n = omega (arith, s .pre .0) in
+    let w = subst (λ k. Wrote (now (a .out)) (a .at) (listBytes (now (a .list)) k) (l .out) (l .next)) e (l .inv .1) in
+    let v = wrote-number (l .out) (l .next) 4 (getD (now (a .list)) (a .n - 1) 0) (p .last .0) (l .next + 4) (omega arith)
+    (omega (arith, s .pre .0, s .pre .2, w .long, w .ends, list-length (now (a .list)) (a .n - 1))) (p .ensures) in
+    subst (λ k. Wrote (now (a .out)) (a .at) (listBytes (now (a .list)) k) (p .last .0) (l .next + 4)) f (pieces-on d (a .n - 1) w v)
 
 same-length : tie.Need-same-length Inv-loop μ-loop
-same-length c = c .before .loop .inv .1 .long
+same-length c = all-put c .long
 
 returns : tie.Need-returns Inv-loop μ-loop
-returns c =
-    let a = c .before .before .before .args in
-    let l = c .before .loop in
-    let e : l .i ≡ a .n = omega arith in
-    subst (λ n. Wrote (now (a .out)) (a .at) (listBytes (now (a .list)) n) (l .out) (a .at + 4 * n)) e (l .inv .1)
+returns c = all-put c
 
 pub put-list-spec : {M : Type 1} → statement M
 put-list-spec =
@@ -77,16 +96,16 @@ put-list-spec =
     (tie.spec
     Inv-loop
     μ-loop
+    sub-last
     loop-holds
-    mul-put-u32
-    add-put-u32
-    mul-put-u32-2
-    element-copy-out-put-u32
-    put-u32-requires
+    sub-loop
+    put-distance-requires
     add-i
     loop-less
     loop-again
-    mul-result
+    mul-put-u32
+    element-copy-out-put-u32
+    put-u32-requires
     add-result
     same-length
     returns)

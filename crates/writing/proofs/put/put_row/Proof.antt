@@ -14,7 +14,7 @@ put-list-requires : tie.Need-put-list-requires
 put-list-requires c κs =
     let s = c .before .before .before .before .before .before .before .before .before .before in
     let h = c .before .before .before .before .put-head .ensures in
-    (s .pre .listed, omega (arith, s .pre .room, row-length (s .args .row), h .ends, h .long, head-length (s .args .row)))
+    (s .pre .some, s .pre .listed, omega (arith, s .pre .room, row-length (s .args .row), h .ends, h .long, head-length (s .args .row)))
 
 put-tasks-requires : tie.Need-put-tasks-requires
 put-tasks-requires c κs =

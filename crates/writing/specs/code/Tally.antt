@@ -2,8 +2,8 @@
 use Prim.Native.Nat.{ℕ, _+_, _*_, _<_, _≤_}
 use mathlib.Core.Path.{_≡_}
 use mathlib.Core.List.{List, [], _∷_}
-use mathlib.Core.Bool.{Bool, not, _||_}
-use lib.ListN.{getD, set, take, replicate}
+use mathlib.Core.Bool.{Bool, false, not, _||_}
+use lib.ListN.{length, getD, take, replicate}
 use lib.Dec.{eqb, ltb}
 use Rattle.search.specs.Choice.{_when_else_, byNumber}
 use Rattle.search.specs.Find.{first}
@@ -14,15 +14,20 @@ use Rattle.table.specs.Fault.{outside, distancesFault}
 use Rattle.table.specs.Place.{lengthOf}
 use Rattle.table.specs.Read.{numberOf}
 use Rattle.table.specs.declared.Row.{Row}
-use Rattle.writing.specs.Rows.{Fits}
-use Rattle.writing.specs.declared.judged.Judged.{Judged}
+use Rattle.writing.specs.Rows.{Typed}
+use Rattle.writing.specs.declared.judged.Tally.{Tally}
 
 -- The first fault of a row, as its number, 0 for none
 
--- the id is 0 or one of the first `count` ids; the kind, the overload mark
-unfoldable pub identityNumber : List ℕ → ℕ → ℕ → ℕ → ℕ → ℕ
-identityNumber ids count id kind overload =
-    4 when eqb id 0 || ltb (first (λ i. eqb (getD ids i 0) id) 0 count) count else
+-- one of the ids is this one
+unfoldable pub bears : List ℕ → ℕ → Bool
+bears [] id = false
+bears (n ∷ ids) id = eqb n id || bears ids id
+
+-- the id is 0 or one of the ids; the kind, the overload mark
+unfoldable pub identityNumber : List ℕ → ℕ → ℕ → ℕ → ℕ
+identityNumber ids id kind overload =
+    4 when eqb id 0 || bears ids id else
     5 when ltb 1 kind else
     5 when ltb 1 overload else
     0
@@ -55,9 +60,9 @@ firstNumber n m = byNumber (λ k. k) n m
 unfoldable pub listsNumber : Row → ℕ
 listsNumber r = firstNumber (listNumber (r .gap) (distances r)) (tasksNumber (r .priority) (r .cost) (r .tasks))
 
-unfoldable pub rowNumber : Judged → Row → ℕ
+unfoldable pub rowNumber : Tally → Row → ℕ
 rowNumber j r =
-    firstNumber (identityNumber (j .ids) (j .count) (r .id) (r .kind) (r .overload))
+    firstNumber (identityNumber (j .ids) (r .id) (r .kind) (r .overload))
     (firstNumber (timesNumber (r .deadline) (r .gap))
     (firstNumber (countsNumber (j .tasks) (r .listed) (r .tasks))
     (listsNumber r)))
@@ -65,53 +70,55 @@ rowNumber j r =
 -- Rows one after the other
 
 -- nothing judged yet
-abbrev pub unjudged : Judged
+abbrev pub unjudged : Tally
 unjudged = record { number = 0; count = 0; tasks = 0; bytes = 0; ids = replicate maxChains 0 }
 
 -- a fault was found
-abbrev pub faulted : Judged → ℕ → Judged
+abbrev pub faulted : Tally → ℕ → Tally
 faulted j n = record { number = n; count = j .count; tasks = j .tasks; bytes = j .bytes; ids = j .ids }
 
--- one good row more
-abbrev pub counted : Judged → Row → Judged
+-- one good row more, its id the first; 16 ids have places, so none is lost
+abbrev pub counted : Tally → Row → Tally
 counted j r =
     record {
       number = 0;
       count = j .count + 1;
       tasks = j .tasks + r .tasks;
       bytes = j .bytes + lengthOf r;
-      ids = set (j .ids) (j .count) (r .id);
+      ids = r .id ∷ take 15 (j .ids);
     }
 
 -- the first fault stays; a 17th row is 11
-unfoldable pub judgedWith : Judged → Row → Judged
+unfoldable pub judgedWith : Tally → Row → Tally
 judgedWith j r =
     j when not (eqb (j .number) 0) else
     faulted j 11 when eqb (j .count) maxChains else
     faulted j (rowNumber j r) when not (eqb (rowNumber j r) 0) else
     counted j r
 
-unfoldable pub judgedAll : Judged → List Row → Judged
+unfoldable pub judgedAll : Tally → List Row → Tally
 judgedAll j [] = j
 judgedAll j (r ∷ rs) = judgedAll (judgedWith j r) rs
 
 -- what is judged stays within the limits
-pub record Small (j : Judged) : Type 0 where
+pub record Small (j : Tally) : Type 0 where
   pub count : j .count ≤ maxChains
   pub tasks : j .tasks ≤ maxAllTasks
   pub bytes : j .bytes ≤ 48 * j .count + 8 * j .tasks
+  pub places : length (j .ids) ≡ maxChains
 
 -- there is room for one row more
-pub record CountedRoom (j : Judged) (r : Row) : Type 0 where
+pub record CountedRoom (j : Tally) (r : Row) : Type 0 where
   pub count : j .count < maxChains
   pub tasks : j .tasks ≤ maxAllTasks
   pub bytes : j .bytes ≤ 4096
   pub of-listed : r .listed ≤ maxDistances
   pub of-tasks : r .tasks ≤ maxTasks
+  pub places : length (j .ids) ≡ maxChains
 
 -- v is what was judged with the row
-pub record JudgedWith (j : Judged) (r : Row) (v : Judged) : Type 0 where
-  pub fits : Fits r
+pub record JudgedWith (j : Tally) (r : Row) (v : Tally) : Type 0 where
+  pub fits : Typed r
   pub small : Small v
   pub is : v ≡ judgedWith j r
 
@@ -120,7 +127,7 @@ abbrev pub mostJudged : ℕ
 mostJudged = maxChains + 1
 
 -- v is what was judged of the rows
-pub record JudgedRows (rs : List Row) (v : Judged) : Type 0 where
-  pub fits : All Fits (take mostJudged rs)
+pub record JudgedRows (rs : List Row) (v : Tally) : Type 0 where
+  pub fits : All Typed (take mostJudged rs)
   pub small : Small v
   pub is : v ≡ judgedAll unjudged (take mostJudged rs)
