@@ -107,17 +107,16 @@ figures-one : (b : Row) (views : List View) (os : List Overload) (k close latenc
 unfolding misses.byFigures
 figures-one b views os k close latency late last =
     when-cases OneMisses _ (λ e. answers MissesRefusal 1 _ refl) (λ e.
-    when-cases OneMisses _ (λ e. refuses MissesRefusal 1 18 (lit≤ tt) (inr (lit≤ tt, lit≤ tt))) (λ e.
-    when-cases OneMisses _ (λ e. refuses MissesRefusal 1 19 (lit≤ tt) (inr (lit≤ tt, lit≤ tt))) (λ e.
-    when-cases OneMisses _ (λ e. refuses MissesRefusal 1 20 (lit≤ tt) (inr (lit≤ tt, lit≤ tt))) (λ e.
-    when-cases OneMisses _ (λ e. refuses MissesRefusal 1 21 (lit≤ tt) (inr (lit≤ tt, lit≤ tt))) (λ e. answers MissesRefusal 1 _ refl)))))
+    when-cases OneMisses _ (λ e. refuses MissesRefusal 1 18 (lit≤ tt) (inr (inl (lit≤ tt, lit≤ tt)))) (λ e.
+    when-cases OneMisses _ (λ e. refuses MissesRefusal 1 19 (lit≤ tt) (inr (inl (lit≤ tt, lit≤ tt)))) (λ e.
+    when-cases OneMisses _ (λ e. refuses MissesRefusal 1 21 (lit≤ tt) (inr (inr refl))) (λ e. answers MissesRefusal 1 _ refl))))
 
 early-one : (b : Row) (k : ℕ) → (misses.earlyOf b k ≡ 0 → ⊥) → MissesRefusal (misses.earlyOf b k)
 unfolding misses.earlyOf
 early-one b k =
-    when-cases (λ f. (f ≡ 0 → ⊥) → MissesRefusal f) _ (λ e h. inr (lit≤ tt, lit≤ tt)) (λ e.
-    when-cases (λ f. (f ≡ 0 → ⊥) → MissesRefusal f) _ (λ e h. inr (lit≤ tt, lit≤ tt)) (λ e.
-    when-cases (λ f. (f ≡ 0 → ⊥) → MissesRefusal f) _ (λ e h. inr (lit≤ tt, lit≤ tt)) (λ e h. absurd (h refl))))
+    when-cases (λ f. (f ≡ 0 → ⊥) → MissesRefusal f) _ (λ e h. inr (inl (lit≤ tt, lit≤ tt))) (λ e.
+    when-cases (λ f. (f ≡ 0 → ⊥) → MissesRefusal f) _ (λ e h. inr (inl (lit≤ tt, lit≤ tt))) (λ e.
+    when-cases (λ f. (f ≡ 0 → ⊥) → MissesRefusal f) _ (λ e h. inr (inl (lit≤ tt, lit≤ tt))) (λ e h. absurd (h refl))))
 
 in-one : (b : Row) (views : List View) (os : List Overload) (k : ℕ) → OneMisses (misses.missesBeside b views os k)
 unfolding misses.missesBeside byNumber
@@ -131,7 +130,7 @@ in-one b views os k = by (misses.earlyOf b k) (early-one b k) (latency.boundOf b
         some zero o = absurd (omega (arith, o .answered refl))
         some (suc n) o =
             let r = o .refused (λ z. omega (arith, z)) .0 in
-            refuses MissesRefusal 1 (suc n) (omega arith) (⊎-elim (λ h. inl h) (λ g. ⊎-elim (λ h. inr (omega (arith, h), omega (arith, h))) (λ h. inr (omega (arith, h .0), omega (arith, h .1))) g) r)
+            refuses MissesRefusal 1 (suc n) (omega arith) (⊎-elim (λ h. inl h) (λ g. inr (inl (⊎-elim (λ h. (omega (arith, h), omega (arith, h))) (λ h. (omega (arith, h .0), omega (arith, h .1))) g))) r)
     by (suc f) l a last o = refuses MissesRefusal 1 (suc f) (omega arith) (l (λ z. omega (arith, z)))
 
 pub misses-one : (s : List ℕ) (id k : ℕ) → OneMisses (misses.missesOf s id k)
@@ -139,7 +138,7 @@ unfolding misses.missesOf misses.missesIn misses.missesAt
 misses-one s id k = by (readTable s .verdict) refl
   where
     by : (v : Verdict) → readTable s .verdict ≡ v → OneMisses (byVerdict NoMisses v (misses.missesIn (readTable s .table) id k))
-    by Accepted e = when-cases OneMisses _ (λ f. refuses MissesRefusal 1 12 (lit≤ tt) (inr (lit≤ tt, lit≤ tt))) (λ f. in-one _ _ _ k)
+    by Accepted e = when-cases OneMisses _ (λ f. refuses MissesRefusal 1 12 (lit≤ tt) (inr (inl (lit≤ tt, lit≤ tt)))) (λ f. in-one _ _ _ k)
     by (Faulty f place) e = faulty MissesRefusal 1 (λ f h. inl h) s f place e
 
 -- segment

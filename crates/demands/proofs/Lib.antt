@@ -9,6 +9,7 @@ pub mod Figures
 pub mod Sets
 pub mod Capacities
 pub mod Misses
+pub mod Runs
 pub mod Regroupings
 pub mod Others
 pub mod Saves

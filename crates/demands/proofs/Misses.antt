@@ -1,5 +1,5 @@
--- Demand 2 for the miss query: its definition meets the words of document 01, 'Misses'. Assumes nothing.
-use Prim.Native.Nat.{ℕ, suc, _*_, _≤_}
+-- Demand 2 for the miss query: its definition meets the words of document 01, 'Misses', and of document 02, request 3. Assumes nothing.
+use Prim.Native.Nat.{ℕ, suc, _*_, _≤_, min}
 use mathlib.Core.Path.{_≡_, refl, ap, sym, subst, _∙_}
 use mathlib.Core.Bool.{Bool, true, false}
 use mathlib.Core.List.{List, [], _∷_}
@@ -30,7 +30,7 @@ use Rattle.packing.proofs.Most.{most-greatest, most-is}
 use Rattle.packing.proofs.Laws.{most-same}
 use Rattle.packing.specs.Most.{mostUses}
 use Rattle.misses.specs.Overloads.{Overload}
-use Rattle.misses.specs.Misses.{earlyOf, badOf, roomOf, byFigures, byBound, missesBeside, missesOf}
+use Rattle.misses.specs.Misses.{earlyOf, badOf, roomOf, packingFigure, missedOf, byFigures, byBound, missesBeside, missesOf}
 use Rattle.misses.specs.declared.Answer.{Answer}
 use Rattle.misses.specs.declared.Answer.the-variants.{Misses, Refused}
 use Rattle.misses.proofs.Starts.{starts}
@@ -141,6 +141,17 @@ module _ (b : Row) (l : List Row) (good : GoodRow b) (rows : All GoodRow l) (pac
         (λ x s h. same-test _ _ (bad-exactly x) (m .is x)) (λ i h. room-at b l k (f .latency) i)
         ∙ most-is (m .bad) (capacityOf b l k (f .latency)) (m .most)
 
+    figure-is : (uses : ℕ) → Most b l f uses → packingFigure b vs os k (f .close) (f .latency) (f .late) ≡ f .late * uses
+    unfolding packingFigure
+    figure-is uses m = ap (λ u. f .late * u) (most-same-uses uses m)
+
+    -- nothing is refused
+    by-count : 1 ≤ f .late → AtMostSix b l → Once b l f → Capped b l f → answer ≡ Misses (missedOf b vs os k (f .close) (f .latency) (f .late))
+    by-count h few once room =
+        by-figures
+        ∙ answers.counts b vs os k (f .close) (f .latency) (f .late) (lastOf b l f) (λ e. omega (arith, e, h)) few
+        (within-none 1 (λ o. η (o .list) (lastOf b l f)) os once) (within-none maxCapacity (λ c. c) (roomOf b os k (f .latency)) (capped-all b l k (f .latency) maxCapacity room))
+
   -- an answer that the words allow is the answer given
   says-answer : {a : Answer} → Says b l k a → answer ≡ a
   says-answer (Says.run (inl h)) = early-refused 12 (answers.early-run b k (or-left _ (ltb maxRun k) (lt-ltb k 1 h)))
@@ -158,19 +169,15 @@ module _ (b : Row) (l : List Row) (good : GoodRow b) (rows : All GoodRow l) (pac
       by-figures f
       ∙ answers.starts-again b vs os k (f .close) (f .latency) (f .late) (lastOf b l f) (λ e. omega (arith, e, h)) few
       (not-within 1 (λ o. η (o .list) (lastOf b l f)) os n)
-  says-answer (Says.always f h few once x) =
-      by-figures f
-      ∙ answers.without b vs os k (f .close) (f .latency) (f .late) (lastOf b l f) (λ e. omega (arith, e, h)) few
-      (within-none 1 (λ o. η (o .list) (lastOf b l f)) os once) (bad-exactly f 0 .1 x)
-  says-answer (Says.above f h few once fine n) =
+  says-answer (Says.above f h few once n) =
       by-figures f
       ∙ answers.too-roomy b vs os k (f .close) (f .latency) (f .late) (lastOf b l f) (λ e. omega (arith, e, h)) few
-      (within-none 1 (λ o. η (o .list) (lastOf b l f)) os once) (bad-false f fine) (not-within maxCapacity (λ c. c) (roomOf b os k (f .latency)) (λ a. n (all-capped b l k (f .latency) maxCapacity a)))
-  says-answer (Says.packed f uses h few once fine room m) =
-      by-figures f
-      ∙ answers.packs b vs os k (f .close) (f .latency) (f .late) (lastOf b l f) (λ e. omega (arith, e, h)) few
-      (within-none 1 (λ o. η (o .list) (lastOf b l f)) os once) (bad-false f fine) (within-none maxCapacity (λ c. c) (roomOf b os k (f .latency)) (capped-all b l k (f .latency) maxCapacity room))
-      ∙ ap (λ u. Misses (f .late * u)) (most-same-uses f uses m)
+      (within-none 1 (λ o. η (o .list) (lastOf b l f)) os once) (not-within maxCapacity (λ c. c) (roomOf b os k (f .latency)) (λ a. n (all-capped b l k (f .latency) maxCapacity a)))
+  says-answer (Says.always f h few once room x) =
+      by-count f h few once room ∙ ap Misses (answers.missed-all b vs os k (f .close) (f .latency) (f .late) (bad-exactly f 0 .1 x))
+  says-answer (Says.packed f uses h few once room fine m) =
+      by-count f h few once room
+      ∙ ap Misses (answers.missed-packed b vs os k (f .close) (f .latency) (f .late) (bad-false f fine) ∙ ap (min k) (figure-is f uses m))
 
   -- and the words allow it
   is : {a : Answer} → Says b l k a → Says b l k answer
@@ -178,25 +185,26 @@ module _ (b : Row) (l : List Row) (good : GoodRow b) (rows : All GoodRow l) (pac
 
   -- no more than 6 active segments, and some activation is late: three tests are left
   module _ (f : Figured b l k) (h : 1 ≤ f .late) (few : AtMostSix b l) where
-    packed-says : Once b l f → Fine b l f → Capped b l f → Says b l k answer
-    packed-says once fine room =
-        is (Says.packed f (mostUses (badOf b vs os (f .close)) (capacityOf b l k (f .latency))) h few once fine room (record {
+    packed-says : Once b l f → Capped b l f → Fine b l f → Says b l k answer
+    packed-says once room fine =
+        is (Says.packed f (mostUses (badOf b vs os (f .close)) (capacityOf b l k (f .latency))) h few once room fine (record {
           bad = badOf b vs os (f .close);
           is = bad-exactly f;
           most = most-greatest (badOf b vs os (f .close)) (capacityOf b l k (f .latency));
         }))
 
-    roomy-says : Once b l f → Fine b l f → (t : Bool) → some (ltb maxCapacity) (roomOf b os k (f .latency)) ≡ t → Says b l k answer
-    roomy-says once fine true e = is (Says.above f h few once fine (λ a. some-not maxCapacity (λ c. c) (roomOf b os k (f .latency)) e (capped-all b l k (f .latency) maxCapacity a)))
-    roomy-says once fine false e = packed-says once fine (all-capped b l k (f .latency) maxCapacity (none-within maxCapacity (λ c. c) (roomOf b os k (f .latency)) e))
+    always-says : Once b l f → Capped b l f → (t : Bool) → badOf b vs os (f .close) 0 ≡ t → Says b l k answer
+    always-says once room true e = is (Says.always f h few once room (bad-exactly f 0 .0 e))
+    always-says once room false e = packed-says once room (λ x. true-not-false (bad-exactly f 0 .1 x) e)
 
-    always-says : Once b l f → (t : Bool) → badOf b vs os (f .close) 0 ≡ t → Says b l k answer
-    always-says once true e = is (Says.always f h few once (bad-exactly f 0 .0 e))
-    always-says once false e = roomy-says once (λ x. true-not-false (bad-exactly f 0 .1 x) e) (some (ltb maxCapacity) (roomOf b os k (f .latency))) refl
+    roomy-says : Once b l f → (t : Bool) → some (ltb maxCapacity) (roomOf b os k (f .latency)) ≡ t → Says b l k answer
+    roomy-says once true e = is (Says.above f h few once (λ a. some-not maxCapacity (λ c. c) (roomOf b os k (f .latency)) e (capped-all b l k (f .latency) maxCapacity a)))
+    roomy-says once false e =
+        always-says once (all-capped b l k (f .latency) maxCapacity (none-within maxCapacity (λ c. c) (roomOf b os k (f .latency)) e)) (badOf b vs os (f .close) 0) refl
 
     again-says : (t : Bool) → some (starts (lastOf b l f)) os ≡ t → Says b l k answer
     again-says true e = is (Says.again f h few (some-not 1 (λ o. η (o .list) (lastOf b l f)) os e))
-    again-says false e = always-says (none-within 1 (λ o. η (o .list) (lastOf b l f)) os e) (badOf b vs os (f .close) 0) refl
+    again-says false e = roomy-says (none-within 1 (λ o. η (o .list) (lastOf b l f)) os e) (some (ltb maxCapacity) (roomOf b os k (f .latency))) refl
 
   late-says : Figured b l k → Says b l k answer
   late-says f = ⊎-elim

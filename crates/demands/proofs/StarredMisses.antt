@@ -1,5 +1,5 @@
 -- The starred cases of 01, 'Misses': the bad sets of the sample, and its answers for k = 10, 11 and 1. Assumes nothing.
-use Prim.Native.Nat.{ℕ, zero, suc, _+_, _*_, _-_, _≤_, _<_, max}
+use Prim.Native.Nat.{ℕ, zero, suc, _+_, _*_, _-_, _≤_, _<_, max, min}
 use mathlib.Core.Path.{_≡_, refl, ap, ap₂, sym, _∙_}
 use mathlib.Core.Bool.{Bool, true, false, _&&_, _||_}
 use mathlib.Core.List.{List, [], _∷_}
@@ -41,11 +41,11 @@ use Rattle.packing.proofs.Laws.{most-same}
 use Rattle.misses.specs.Overloads.{Overload, overloads, Piece, piecesFrom, piecesOf, capacitiesOf}
 use Rattle.misses.specs.Sets.{members, together, allowed, setCost}
 use Rattle.misses.specs.Bad.{withCost, over, bad}
-use Rattle.misses.specs.Misses.{earlyOf, badOf, roomOf, missesOf, missesAt, missesIn}
+use Rattle.misses.specs.Misses.{earlyOf, badOf, roomOf, packingFigure, missesOf, missesAt, missesIn}
 use Rattle.misses.specs.declared.Answer.the-variants.{Misses}
 use Rattle.misses.proofs.Prices.{allowed-past}
 use Rattle.misses.proofs.Starts.{starts}
-use Rattle.misses.proofs.Answers.{misses-accepted, chain-found, at-bound, packs}
+use Rattle.misses.proofs.Answers.{misses-accepted, chain-found, at-bound, counts, missed-packed}
 use Rattle.demands.specs.Starred.{sample}
 use Rattle.demands.proofs.Tables.{sampled, sample-reads}
 use Rattle.demands.proofs.StarredWindows.{sample-window}
@@ -207,8 +207,8 @@ no-excess : (n : ℕ) → n ≤ 40 → some (ltb 40) (n ∷ n ∷ n ∷ []) ≡ 
 unfolding some
 no-excess n h = rw (le-ltb 40 n h)
 
-answers : (k n uses : ℕ) → earlyOf b k ≡ 0 → η (1000 ∷ []) (largest b k + 64) + 1 ≡ n → n ≤ 40 → mostUses anyTwo (each n) ≡ uses → missesOf sample 1 k ≡ Misses uses
-unfolding sampled
+answers : (k n uses : ℕ) → earlyOf b k ≡ 0 → η (1000 ∷ []) (largest b k + 64) + 1 ≡ n → n ≤ 40 → mostUses anyTwo (each n) ≡ uses → missesOf sample 1 k ≡ Misses (min k uses)
+unfolding sampled packingFigure
 answers k n uses early e few most =
     let r = rooms k n e in
     misses-accepted sample 1 k (ap (λ (x : Reading). x .verdict) (sample-reads .reads))
@@ -216,8 +216,9 @@ answers k n uses early e few most =
     ∙ chain-found sampled 1 k (λ x. omega (arith, x, finds))
     ∙ ap (λ j. missesAt sampled j k) finds
     ∙ sym (at-bound sampled 0 k early _ (sym bounds))
-    ∙ packs b views os k 1 64 1 64 (λ x. omega (arith, x)) (rw pieces (lit≤ tt)) starts-once (bad-sets 0) (ap (some (ltb 40)) r ∙ no-excess n few)
-    ∙ ap (λ u. Misses (1 * u)) (most-same (badOf b views os 1) anyTwo (λ i. getD (roomOf b os k 64) i 0) (each n) (λ m l h. bad-sets m) (λ i h. ap (λ l. getD l i 0) r) ∙ most)
+    ∙ counts b views os k 1 64 1 64 (λ x. omega (arith, x)) (rw pieces (lit≤ tt)) starts-once (ap (some (ltb 40)) r ∙ no-excess n few)
+    ∙ ap Misses (missed-packed b views os k 1 64 1 (bad-sets 0))
+    ∙ ap (λ u. Misses (min k (1 * u))) (most-same (badOf b views os 1) anyTwo (λ i. getD (roomOf b os k 64) i 0) (each n) (λ m l h. bad-sets m) (λ i h. ap (λ l. getD l i 0) r) ∙ most)
     ∙ ap Misses (omega arith)
 
 room-of : (k n : ℕ) → η (1000 ∷ []) (largest b k + 64) ≡ n → η (1000 ∷ []) (largest b k + 64) + 1 ≡ n + 1
@@ -240,6 +241,6 @@ pub misses-11 : missesOf sample 1 11 ≡ Misses 4
 unfolding sampled largest earlyOf _when_else_
 misses-11 = answers 11 3 4 refl (room-of 11 2 (twice 1064 (lit≤ tt) (lit≤ tt))) (lit≤ tt) capacity-3
 
-pub misses-1 : missesOf sample 1 1 ≡ Misses 3
+pub misses-1 : missesOf sample 1 1 ≡ Misses 1
 unfolding sampled largest earlyOf _when_else_
 misses-1 = answers 1 2 3 refl (room-of 1 1 (once 64 (lit≤ tt) (lit≤ tt))) (lit≤ tt) capacity-2

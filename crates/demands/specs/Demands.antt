@@ -1,6 +1,6 @@
 -- What the customer demands: each demand is one record, its fields his sentences in his order and what his requests add, over definitions that stand in the files
 -- imported here. proofs/Demands.antt closes each record by one theorem, `demand-1`, `demand-2`, `demand-3`.
-use Prim.Native.Nat.{ℕ, _<_}
+use Prim.Native.Nat.{ℕ, _≤_, _<_}
 use mathlib.Core.Path.{_≡_}
 use mathlib.Core.List.{List}
 use lib.ListN.{length, getD}
@@ -14,9 +14,11 @@ use Rattle.segments.specs.declared.Answer.the-variants.{Records}
 use Rattle.windows.specs.Latency.{latencyOf}
 use Rattle.windows.specs.declared.Answer.{Answer as Latency}
 use Rattle.misses.specs.Misses.{missesOf}
-use Rattle.misses.specs.declared.Answer.{Answer as Misses}
+use Rattle.misses.specs.declared.Answer.{Answer as Missed}
+use Rattle.misses.specs.declared.Answer.the-variants.{Misses}
 use Rattle.saving.specs.Later.{State, stored, Edit, after}
 use Rattle.report_text.specs.Numbers.{decimal, valueFrom}
+use Rattle.report_text.specs.Report.{missRun}
 use Rattle.editor.specs.Entry.{LatencyEntry, MissesEntry}
 use Rattle.demands.specs.Chains.{Has, chainOf, othersOf}
 use Rattle.demands.specs.Entries.{EveryEntry}
@@ -54,8 +56,13 @@ pub record Demand2 : Type 0 where
   pub windows : {s : List ℕ} {id : ℕ} → Has s id → MeansOf s id (latencyOf s id)
   -- and no other answer is
   pub only : {s : List ℕ} {id : ℕ} → Has s id → (a : Latency) → MeansOf s id a → a ≡ latencyOf s id
-  -- the miss count is the late activations per window times the greatest feasible packing of bad combinations
-  pub misses : {s : List ℕ} {id : ℕ} → Has s id → (k : ℕ) (a : Misses) → Exactly (missesOf s id k ≡ a) (Says (chainOf s id) (othersOf s id) k a)
+  -- the miss count is the late activations per window times the greatest feasible packing of bad combinations, or k where that is smaller; and
+  -- k where a deadline is missed without any overload (02, request 3)
+  pub misses : {s : List ℕ} {id : ℕ} → Has s id → (k : ℕ) (a : Missed) → Exactly (missesOf s id k ≡ a) (Says (chainOf s id) (othersOf s id) k a)
+  -- so it never exceeds the run, nor 10 in the report, and never falls as the run grows
+  pub within-run : (s : List ℕ) (id k : ℕ) {n : ℕ} → missesOf s id k ≡ Misses n → n ≤ k
+  pub within-ten : (s : List ℕ) (id : ℕ) {n : ℕ} → missesOf s id missRun ≡ Misses n → n ≤ 10
+  pub longer-run : (s : List ℕ) → Bytes s → (id : ℕ) {k m n r : ℕ} → k ≤ m → missesOf s id k ≡ Misses n → missesOf s id m ≡ Misses r → n ≤ r
   -- the report prints a figure in decimal: the digits read back as the figure, and the first is no 0 but in 0 itself
   pub printed : (n : ℕ) → (valueFrom 0 (decimal n) ≡ n) × (0 < n → 48 < getD (decimal n) 0 0)
   -- an active segment is handed back as the records of its tasks

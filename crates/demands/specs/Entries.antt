@@ -35,7 +35,7 @@ abbrev pub LatencyRefusal : ℕ → Type 0
 LatencyRefusal n = TableRefusal n ⊎ (n ≡ 12) ⊎ Between 16 17 n
 
 abbrev pub MissesRefusal : ℕ → Type 0
-MissesRefusal n = TableRefusal n ⊎ Between 12 21 n
+MissesRefusal n = TableRefusal n ⊎ Between 12 19 n ⊎ (n ≡ 21)
 
 abbrev pub SegmentRefusal : ℕ → Type 0
 SegmentRefusal n = TableRefusal n ⊎ (n ≡ 12) ⊎ Between 25 26 n

@@ -1,5 +1,5 @@
 -- Demand 2 for the miss query: what its answer says of a chain b beside the other chains l, for a run of k activations.
-use Prim.Native.Nat.{ℕ, _+_, _*_, _-_, _^_, _≤_, _<_}
+use Prim.Native.Nat.{ℕ, _+_, _*_, _-_, _^_, _≤_, _<_, min}
 use mathlib.Core.Path.{_≡_}
 use mathlib.Core.Bool.{Bool, true}
 use mathlib.Core.List.{List, [], map}
@@ -90,16 +90,16 @@ module _ (b : Row) (l : List Row) where
   abbrev pub AtMostSix : Type 0
   AtMostSix = length pieces ≤ maxOverloads
 
-  -- no overload chain may start more than once in the last window; no miss without any overload; no capacity above 40
+  -- no overload chain may start more than once in the last window; no capacity above 40; no miss without any overload
   module _ {k : ℕ} (f : Figured k) where
     abbrev pub Once : Type 0
     Once = All (λ o. η (o .list) (lastOf f) ≤ 1) marked
 
-    abbrev pub Fine : Type 0
-    Fine = IsBad (f .close) 0 → ⊥
-
     abbrev pub Capped : Type 0
     Capped = (i : ℕ) → i < length pieces → capacityOf k (f .latency) i ≤ maxCapacity
+
+    abbrev pub Fine : Type 0
+    Fine = IsBad (f .close) 0 → ⊥
 
     -- the most uses that a packing of the bad combinations has, no active segment beyond its capacity: reached by one, exceeded by none
     pub record Most (uses : ℕ) : Type 0 where
@@ -107,7 +107,7 @@ module _ (b : Row) (l : List Row) where
       pub is : (m : ℕ) → Exactly (bad m ≡ true) (IsBad (f .close) m)
       pub most : IsMost bad (capacityOf k (f .latency)) uses
 
-  -- what each answer says, in document 01's order
+  -- what each answer says, in document 01's order as document 02, request 3, has changed it
   pub data Says (k : ℕ) : Answer → Type 0 where
     -- k outside 1 to 1,000
     run : (k < 1) ⊎ (maxRun < k) → Says k (Refused 13)
@@ -125,12 +125,12 @@ module _ (b : Row) (l : List Row) where
     many : (f : Figured k) → 1 ≤ f .late → (AtMostSix → ⊥) → Says k (Refused 18)
     -- an overload chain may start more than once in the last window
     again : (f : Figured k) → 1 ≤ f .late → AtMostSix → (Once f → ⊥) → Says k (Refused 19)
-    -- a miss without any overload
-    always : (f : Figured k) → 1 ≤ f .late → AtMostSix → Once f → IsBad (f .close) 0 → Says k (Refused 20)
     -- a capacity above 40
-    above : (f : Figured k) → 1 ≤ f .late → AtMostSix → Once f → Fine f → (Capped f → ⊥) → Says k (Refused 21)
-    -- late times the most uses that any packing has
-    packed : (f : Figured k) (uses : ℕ) → 1 ≤ f .late → AtMostSix → Once f → Fine f → Capped f → Most f uses → Says k (Misses (f .late * uses))
+    above : (f : Figured k) → 1 ≤ f .late → AtMostSix → Once f → (Capped f → ⊥) → Says k (Refused 21)
+    -- a miss without any overload: all of them
+    always : (f : Figured k) → 1 ≤ f .late → AtMostSix → Once f → Capped f → IsBad (f .close) 0 → Says k (Misses k)
+    -- the smaller of k and the packing figure: late times the most uses that any packing has
+    packed : (f : Figured k) (uses : ℕ) → 1 ≤ f .late → AtMostSix → Once f → Capped f → Fine f → Most f uses → Says k (Misses (min k (f .late * uses)))
 
 -- a latency answer is what the words say of the chain with the id
 abbrev pub MeansOf : List ℕ → ℕ → Latency → Type 0

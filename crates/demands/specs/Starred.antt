@@ -94,9 +94,9 @@ pub record Starred : Type 0 where
   pub active-3 : map (λ a. a .cost) (activesOf chain3 chain1) ≡ 6 ∷ 10 ∷ []
   -- the bad sets are both of these, which have the bits 0 and 1, either with chain 4, which has the bit 2, and all three
   pub bad-sets : (m : ℕ) → badOf chain1 (map (λ a. viewOf a chain1) others1) (marked chain1 others1) 1 m ≡ (eqb m 3 || eqb m 5 || eqb m 6 || eqb m 7)
-  -- k = 10: capacities 2, answer 3; k = 11: capacities 3, answer 4; k = 1: 3
+  -- k = 10: capacities 2, answer 3; k = 11: capacities 3, answer 4; k = 1: 1 (02, request 3)
   pub room-10 : roomOf chain1 (marked chain1 others1) 10 64 ≡ 2 ∷ 2 ∷ 2 ∷ []
   pub room-11 : roomOf chain1 (marked chain1 others1) 11 64 ≡ 3 ∷ 3 ∷ 3 ∷ []
   pub misses-10 : missesOf sample 1 10 ≡ Misses 3
   pub misses-11 : missesOf sample 1 11 ≡ Misses 4
-  pub misses-1 : missesOf sample 1 1 ≡ Misses 3
+  pub misses-1 : missesOf sample 1 1 ≡ Misses 1

@@ -1,10 +1,10 @@
 -- What the miss query answers, case by case, in the order of 01. Assumes nothing.
-use Prim.Native.Nat.{ℕ, zero, suc, _*_, _≤_, _<_}
+use Prim.Native.Nat.{ℕ, zero, suc, _≤_, _<_, min}
 use mathlib.Core.Path.{_≡_, refl, ap, sym, _∙_}
 use mathlib.Core.Bool.{true, false, not}
 use mathlib.Core.List.{List}
 use lib.Dec.{ltb}
-use lib.ListN.{length, getD}
+use lib.ListN.{length}
 use borrow.Author.Tests.{lt-ltb, le-ltb, eq-eqb, ne-eqb}
 use Rattle.search.specs.Choice.{byNumber}
 use Rattle.search.proofs.Choice.{when-yes, when-no}
@@ -19,10 +19,9 @@ use Rattle.segments.specs.View.{View}
 use Rattle.windows.specs.Demand.{viewsOf}
 use Rattle.windows.specs.Latency.{boundAt}
 use Rattle.windows.specs.declared.Windows.{Windows}
-use Rattle.packing.specs.Most.{mostUses}
 use Rattle.search.specs.Lists.{some}
 use Rattle.misses.specs.Overloads.{Overload, piecesOf}
-use Rattle.misses.specs.Misses.{earlyOf, badOf, roomOf, byFigures, byBound, missesBeside, overloadsOf, missesAt, missesIn, missesOf}
+use Rattle.misses.specs.Misses.{earlyOf, badOf, roomOf, packingFigure, missedOf, byFigures, byBound, missesBeside, overloadsOf, missesAt, missesIn, missesOf}
 use Rattle.misses.specs.declared.Answer.{Answer}
 use Rattle.misses.specs.declared.Answer.the-variants.{Misses, Refused}
 use Rattle.misses.proofs.Starts.{starts}
@@ -46,21 +45,24 @@ module _ (b : Row) (views : List View) (os : List Overload) (k close latency lat
       starts-again e = when-no _ _ (ne-eqb late 0 some-late) ∙ when-no _ _ (le-ltb maxOverloads _ few) ∙ when-yes _ _ e
 
       module _ (once : some (starts last) os ≡ false) where
-        pub without : badOf b views os close 0 ≡ true → answer ≡ Refused 20
+        pub too-roomy : some (ltb maxCapacity) (roomOf b os k latency) ≡ true → answer ≡ Refused 21
         unfolding byFigures
-        without e = when-no _ _ (ne-eqb late 0 some-late) ∙ when-no _ _ (le-ltb maxOverloads _ few) ∙ when-no _ _ once ∙ when-yes _ _ e
+        too-roomy e = when-no _ _ (ne-eqb late 0 some-late) ∙ when-no _ _ (le-ltb maxOverloads _ few) ∙ when-no _ _ once ∙ when-yes _ _ e
 
-        module _ (fine : badOf b views os close 0 ≡ false) where
-          pub too-roomy : some (ltb maxCapacity) (roomOf b os k latency) ≡ true → answer ≡ Refused 21
+        module _ (within : some (ltb maxCapacity) (roomOf b os k latency) ≡ false) where
+          pub counts : answer ≡ Misses (missedOf b views os k close latency late)
           unfolding byFigures
-          too-roomy e =
-              when-no _ _ (ne-eqb late 0 some-late) ∙ when-no _ _ (le-ltb maxOverloads _ few) ∙ when-no _ _ once ∙ when-no _ _ fine ∙ when-yes _ _ e
+          counts = when-no _ _ (ne-eqb late 0 some-late) ∙ when-no _ _ (le-ltb maxOverloads _ few) ∙ when-no _ _ once ∙ when-no _ _ within
 
-          pub packs : some (ltb maxCapacity) (roomOf b os k latency) ≡ false
-              → answer ≡ Misses (late * mostUses (badOf b views os close) (λ i. getD (roomOf b os k latency) i 0))
-          unfolding byFigures
-          packs e =
-              when-no _ _ (ne-eqb late 0 some-late) ∙ when-no _ _ (le-ltb maxOverloads _ few) ∙ when-no _ _ once ∙ when-no _ _ fine ∙ when-no _ _ e
+-- how many are missed
+module _ (b : Row) (views : List View) (os : List Overload) (k close latency late : ℕ) where
+  pub missed-all : badOf b views os close 0 ≡ true → missedOf b views os k close latency late ≡ k
+  unfolding missedOf
+  missed-all e = when-yes _ _ e
+
+  pub missed-packed : badOf b views os close 0 ≡ false → missedOf b views os k close latency late ≡ min k (packingFigure b views os k close latency late)
+  unfolding missedOf
+  missed-packed e = when-no _ _ e
 
 -- before any window
 module _ (b : Row) (k : ℕ) where

@@ -12,6 +12,7 @@ pub mod Packs
 pub mod Held
 pub mod Loading
 pub mod Answers
+pub mod Enough
 pub mod Judging
 pub mod Limits
 pub mod Existence
@@ -20,3 +21,4 @@ pub mod Together
 pub mod Relabelling
 pub mod Carrying
 pub mod Views
+pub mod Runs

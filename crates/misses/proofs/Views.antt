@@ -1,5 +1,5 @@
 -- The misses go by the views alone: not by their order, and views that are alike give the same answer, refusals included. Assumes nothing.
-use Prim.Native.Nat.{ℕ, _+_, _*_, _≤_}
+use Prim.Native.Nat.{ℕ, _+_, _*_, _≤_, min}
 use mathlib.Core.Path.{_≡_, refl, ap, sym, fun-ext, _∙_}
 use mathlib.Core.Bool.{Bool, true, false, not, _||_}
 use mathlib.Core.List.{List, [], _∷_, map}
@@ -27,7 +27,7 @@ use Rattle.windows.proofs.Views.{alike-demand, alike-bound, alike-typical}
 use Rattle.packing.specs.Most.{mostUses}
 use Rattle.misses.specs.Overloads.{Overload, overload, overloads, piecesOf, capacitiesOf}
 use Rattle.misses.specs.Bad.{over, bad}
-use Rattle.misses.specs.Misses.{earlyOf, badOf, roomOf, byFigures, byBound, missesBeside}
+use Rattle.misses.specs.Misses.{earlyOf, badOf, roomOf, packingFigure, missedOf, byFigures, byBound, missesBeside}
 use Rattle.misses.specs.declared.Answer.the-variants.{Misses, Refused}
 use Rattle.misses.proofs.Packs.{bad-none}
 use Rattle.misses.proofs.Starts.{starts}
@@ -92,16 +92,19 @@ module _ (b : Row) {vs ws : List View} (views : Paired Alike vs ws) {os ps : Lis
         ap (λ f. mostUses f (λ i. getD (capacitiesOf (largest b k + latency) os) i 0)) (fun-ext same-bad)
         ∙ same-most r q (largest b k + latency) _ (omega (arith, same-count r 0))
 
+    same-missed : length (piecesOf ps) ≤ maxOverloads → missedOf b vs os k close latency late ≡ missedOf b ws ps k close latency late
+    unfolding missedOf packingFigure
+    same-missed few = rw empty (ap (λ n. k when badOf b ws ps close 0 else min k (late * n)) (most few))
+
     same-figures : byFigures b vs os k close latency late last ≡ byFigures b ws ps k close latency late last
     unfolding byFigures
     same-figures =
-        rw (same-count r 0, again, empty, above)
+        rw (same-count r 0, again, above)
         (choose _ _ _ _ (eqb late 0) (λ e. refl) (λ e.
         choose _ _ _ _ (ltb maxOverloads (length (piecesOf ps))) (λ f. refl) (λ f.
         choose _ _ _ _ (some (starts last) ps) (λ g. refl) (λ g.
-        choose _ _ _ _ (badOf b ws ps close 0) (λ g. refl) (λ g.
         choose _ _ _ _ (some (ltb maxCapacity) (roomOf b ps k latency)) (λ g. refl) (λ g.
-        ap (λ n. Misses (late * n)) (most (ltb-false _ _ f))))))))
+        ap Misses (same-missed (ltb-false _ _ f)))))))
 
   same-byBound : (x : Bound) (last : ℕ) → byBound b vs os k x last ≡ byBound b ws ps k x last
   same-byBound (Figures close latency late margin) last = same-figures close latency late last

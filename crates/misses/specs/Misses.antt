@@ -1,5 +1,5 @@
--- The miss query (01, 'Misses' and 'Numbers given back').
-use Prim.Native.Nat.{ℕ, _+_, _*_}
+-- The miss query (01, 'Misses' and 'Numbers given back'; 02, request 3).
+use Prim.Native.Nat.{ℕ, _+_, _*_, min}
 use mathlib.Core.Bool.{Bool, not}
 use mathlib.Core.List.{List, [], _∷_}
 use lib.Dec.{eqb, ltb}
@@ -53,16 +53,23 @@ roomOf b os k latency = capacitiesOf (largest b k + latency) os
 
 -- the misses of b in a run of k activations
 module _ (b : Row) (views : List View) (os : List Overload) (k : ℕ) where
+  -- the packing figure: late times the most uses any packing of the bad combinations has
+  unfoldable pub packingFigure : ℕ → ℕ → ℕ → ℕ
+  packingFigure close latency late = late * mostUses (badOf b views os close) (λ i. getD (roomOf b os k latency) i 0)
+
+  -- all k where a deadline is missed even without overload, the empty set being bad; else the smaller of k and the packing figure
+  unfoldable pub missedOf : ℕ → ℕ → ℕ → ℕ
+  missedOf close latency late = k when badOf b views os close 0 else min k (packingFigure close latency late)
+
   -- zero late activations answers 0; over 6 overload active segments; any overload chain, with segments or none, may start more
-  -- than once in the last window; a miss without any overload; a capacity above 40; else late times the most uses any packing has
+  -- than once in the last window; a capacity above 40; else so many are missed
   unfoldable pub byFigures : ℕ → ℕ → ℕ → ℕ → Answer
   byFigures close latency late last =
       Misses 0 when eqb late 0 else
       Refused 18 when ltb maxOverloads (length (piecesOf os)) else
       Refused 19 when some (λ o. ltb 1 (η (o .list) last)) os else
-      Refused 20 when badOf b views os close 0 else
       Refused 21 when some (ltb maxCapacity) (roomOf b os k latency) else
-      Misses (late * mostUses (badOf b views os close) (λ i. getD (roomOf b os k latency) i 0))
+      Misses (missedOf close latency late)
 
   -- 16 or 17, or the figures of the full analysis beside its last window
   abbrev pub byBound : Bound → ℕ → Answer

@@ -8,7 +8,7 @@ use crate::settling::lowest_bad;
 use crate::settling::over;
 use arrivals::eta_up_to;
 use packing::COMBINATIONS;
-use packing::most_uses;
+use packing::uses_up_to;
 use table::Table;
 use table::Verdict;
 use table::count;
@@ -28,7 +28,7 @@ use windows::load;
 ghost use mathlib.Core.Path.{_≡_};
 ghost use mathlib.Core.Bool.{false};
 ghost use mathlib.Core.List.{[], _∷_};
-ghost use Prim.Native.Nat.{ℕ, _+_, _≤_, _<_};
+ghost use Prim.Native.Nat.{ℕ, _+_, _≤_, _<_, min};
 ghost use lib.Dec.{ltb, leb};
 ghost use lib.ListN.{length, getD};
 ghost use Rattle.search.specs.Choice.{_when_else_};
@@ -48,7 +48,7 @@ ghost use Rattle.search.specs.Lists.{some};
 ghost use Rattle.misses.specs.Overloads.{overloads};
 ghost use Rattle.misses.specs.Bad.{bad as badIn};
 ghost use Rattle.misses.specs.Misses.{earlyOf, missesAt, missesIn, missesOf};
-ghost use Rattle.misses.specs.code.Held.{Few, piecesIn, Asked, figuresAt};
+ghost use Rattle.misses.specs.code.Held.{Few, piecesIn, Asked, Admitted, figuresAt, missedAt};
 ghost use Rattle.misses.specs.code.Settling.{overWith, Tries};
 
 // 13, 14 or 15, what is refused of the chain at `b` before any window; 0 for none of them.
@@ -133,17 +133,33 @@ fn flags(costs: &[u64; COMBINATIONS], lowest: u64) -> [u8; COMBINATIONS]
     out
 }
 
-// The most uses any packing has of the bad ones among sets of the active segments held, where the empty set is not bad.
-fn packed(s: &[u8], own: Own, held: &[u64; Own::HELD], close: u32, p: Pieces) -> u32
+// The most uses any packing has of the bad ones among sets of the active segments held, up to `enough`, where the empty set is not bad.
+fn packed(s: &[u8], own: Own, held: &[u64; Own::HELD], close: u32, p: Pieces, enough: u32) -> u32
     requires { ⌜ Tries (loadOf (now s) own (now held)) close × (overWith (loadOf (now s) own (now held)) close 0 ≡ false) × Few p ⌝ }
-    ensures { λ r. ⌜ r ≡ mostUses (badIn (overWith (loadOf (now (s .entry)) own (now (held .entry))) close) (piecesIn p)) (capacityIn (p .capacity)) ⌝ }
+    ensures { λ r. ⌜ r ≡ min enough (mostUses (badIn (overWith (loadOf (now (s .entry)) own (now (held .entry))) close) (piecesIn p)) (capacityIn (p .capacity))) ⌝ }
 {
     let capacity = p.capacity;
     let sets = sets_of(p.count);
     let costs = prices(p);
     let lowest = lowest_bad(s, own, held, close, &costs, sets);
     let bad = flags(&costs, lowest);
-    most_uses(&bad, &capacity)
+    uses_up_to(&bad, &capacity, enough)
+}
+
+// How many deadlines are missed in a run of k activations, where nothing is refused. No more uses are looked for than reach k.
+fn missed(s: &[u8], chain: usize, k: u32, f: Figures, p: Pieces) -> u32
+    requires { ⌜ Taken (now s) × (chain < tableOf (now s) .count) × Asked (rowOf (tableOf (now s)) chain) k f × Admitted (tableOf (now s)) chain k f p ⌝ }
+    ensures { λ r. ⌜ r ≡ missedAt (tableOf (now (s .entry))) chain k f ⌝ }
+{
+    let mut held = [0u64; Own::HELD];
+    let own = load(s, chain, Others::Typical, &mut held);
+    if over(s, own, &held, f.close, 0) {
+        return k;
+    }
+    let late = f.late;
+    let enough = (k - 1) / late + 1;
+    let figure = late * packed(s, own, &held, f.close, p, enough);
+    if k < figure { k } else { figure }
 }
 
 // What the figures of the full analysis give in a run of k activations.
@@ -151,8 +167,7 @@ fn by_figures(s: &[u8], chain: usize, k: u32, f: Figures) -> Answer
     requires { ⌜ Taken (now s) × (chain < tableOf (now s) .count) × Asked (rowOf (tableOf (now s)) chain) k f ⌝ }
     ensures { λ r. ⌜ r ≡ figuresAt (tableOf (now (s .entry))) chain k f ⌝ }
 {
-    let late = f.late;
-    if late == 0 {
+    if f.late == 0 {
         return Answer::Misses(0);
     }
     let b = place(s, chain);
@@ -167,16 +182,11 @@ fn by_figures(s: &[u8], chain: usize, k: u32, f: Figures) -> Answer
     if any_again(s, f.last) {
         return Answer::Refused(19);
     }
-    let mut held = [0u64; Own::HELD];
-    let own = load(s, chain, Others::Typical, &mut held);
-    if over(s, own, &held, f.close, 0) {
-        return Answer::Refused(20);
-    }
     let capacity = p.capacity;
     if above(&capacity) {
         return Answer::Refused(21);
     }
-    Answer::Misses(late * packed(s, own, &held, f.close, p))
+    Answer::Misses(missed(s, chain, k, f, p))
 }
 
 // 16 or 17, or what the figures give, where nothing is refused before any window.

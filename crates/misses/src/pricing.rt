@@ -1,5 +1,5 @@
 // What the combinations cost. A price of 0 stands for 'no combination': the one combination that costs 0 is the empty set, and
-// that is not bad where prices are made, since 20 has answered before.
+// that is not bad where prices are made: where it is, all k are missed, and nothing is packed.
 use crate::Pieces;
 use packing::COMBINATIONS;
 use packing::has;

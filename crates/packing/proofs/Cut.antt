@@ -53,11 +53,11 @@ module _ (kept shares : List ℕ) (n v d : ℕ) (f : Floor kept shares n v d) (r
       omega (arith, a, b)
 
 -- a lower ceiling: d uses for each use weigh no more than the room
-pub ceiling-low : {kept shares : List ℕ} {n v d r s all : ℕ} {room : ℕ → ℕ} → Floor kept shares n v d → all ≡ weight shares v room → 0 < d
-    → s ≡ all / d → s ≤ r → Ceiling kept n room r → Ceiling kept n room s
-ceiling-low {kept} {shares} {n} {v} {d} {r} {s} {all} {room} f e some q l c = record {
+pub ceiling-low : {kept shares : List ℕ} {n v d r s all enough : ℕ} {room : ℕ → ℕ} → Floor kept shares n v d → all ≡ weight shares v room → 0 < d
+    → s ≡ all / d → s ≤ r → Ceiling kept n room enough r → Ceiling kept n room enough s
+ceiling-low {kept} {shares} {n} {v} {d} {r} {s} {all} {enough} {room} f e some q l c = record {
   few = omega (arith, c .few);
-  bound = λ k h.
+  bound = λ k m h.
       let w = weighs-all kept shares n v d f room (h .uses) (h .packed) in
       let t : k * d ≤ all = omega (arith, ap (λ y. d * y) (h .total)) in
       rw q (le-div-iff-mul-le some .1 t);

@@ -1,6 +1,6 @@
 -- The bad combinations with no smaller bad one in them, kept one by one: every bad one so far has a kept part, so the kept ones
 -- have as many uses as the bad ones. Assumes nothing.
-use Prim.Native.Nat.{ℕ, _+_, _≤_, _<_}
+use Prim.Native.Nat.{ℕ, _+_, _≤_, _<_, min}
 use mathlib.Core.Path.{_≡_, sym, ap, subst, _∙_}
 use mathlib.Core.Bool.{true, false}
 use mathlib.Core.List.{List}
@@ -15,12 +15,13 @@ use Rattle.search.proofs.Choice.{true-not-false, lt-or-le}
 use Rattle.search.proofs.Find.{first-miss, first-hit}
 use Rattle.packing.specs.Packing.{bit, sumTo, usable, Reached}
 use Rattle.packing.specs.Most.{mostUses, flagged}
-use Rattle.packing.specs.code.Engine.{nth, keptInside, keptPart, Kept, HasRoom, Ceiling}
+use Rattle.packing.specs.code.Engine.{nth, keptInside, keptPart, Kept, HasRoom, MostUpTo}
 use Rattle.packing.proofs.Bits.{inside-bits}
 use Rattle.packing.proofs.Linear.{usable-some}
-use Rattle.packing.proofs.Most.{most-is, reached-room}
+use Rattle.packing.proofs.Most.{most-greatest}
 use Rattle.packing.proofs.Carry.{turned, turned-some, turned-sum, turned-total}
 use Rattle.packing.proofs.Laws.{usable-bad, bad-usable, used-mono}
+use Rattle.packing.proofs.Tries.{fewer-fit}
 
 -- a kept part is found
 part-found : (kept : List ℕ) (count x j : ℕ) → j < count → keptInside kept x j ≡ true → keptPart kept count x < count
@@ -121,9 +122,14 @@ module _ {bad kept : List ℕ} {count : ℕ} (k : Kept bad kept count 64) {room 
       }
 
 -- so the most uses of kept combinations that have room are the most of any packing
-module _ {bad kept : List ℕ} {count : ℕ} (k : Kept bad kept count 64) {room : ℕ → ℕ} {n : ℕ} where
-  pub kept-most : Ceiling kept count room n → HasRoom kept count room n → n ≡ mostUses (flagged bad) room
-  kept-most c h = sym (most-is (flagged bad) room record { holds = kept-reached k h; above = λ m r. c .bound m (reached-kept k r) })
-
-  pub kept-room : HasRoom kept count room n → n ≤ sumTo 6 room
-  kept-room h = reached-room (flagged bad) room (kept-reached k h)
+pub kept-up-to : {bad kept : List ℕ} {count enough n : ℕ} {room : ℕ → ℕ} → Kept bad kept count 64 → MostUpTo kept count room enough n
+    → n ≡ min enough (mostUses (flagged bad) room)
+kept-up-to {bad} {kept} {count} {enough} {n} {room} k m =
+    let most = mostUses (flagged bad) room in
+    let g = most-greatest (flagged bad) room in
+    let all = reached-kept k (g .holds) in
+    let above : n ≤ most = g .above n (kept-reached k (m .fits)) in
+    ⊎-elim
+    (λ l. omega (arith, above, m .ceiling .few, m .ceiling .bound enough (omega arith) (fewer-fit enough (omega arith) all)))
+    (λ l. omega (arith, above, m .ceiling .bound most l all))
+    (lt-or-le enough most)

@@ -1,6 +1,6 @@
 -- How often a kept combination is tried: the uses that come into question, fewer with each try that fails. Assumes nothing.
-use Prim.Native.Nat.{ℕ, zero, suc, _+_, _-_, _*_, _≤_, _<_}
-use mathlib.Core.Path.{_≡_, refl, ap}
+use Prim.Native.Nat.{ℕ, zero, suc, _+_, _-_, _*_, _≤_, _<_, min}
+use mathlib.Core.Path.{_≡_, refl, ap, subst}
 use mathlib.Core.Bool.{true, false}
 use mathlib.Core.List.{List}
 use mathlib.Core.Logic.{⊎-elim}
@@ -12,7 +12,7 @@ use Rattle.search.specs.Choice.{_when_else_}
 use Rattle.search.proofs.Choice.{when-yes, when-no, true-not-false}
 use Rattle.packing.specs.Packing.{bit, sumTo}
 use Rattle.packing.specs.code.Engine.{nth, Fitting, Packed, HasRoom, Tells, Ceiling, Choices}
-use Rattle.packing.proofs.Sums.{sumTo-ext, sumTo-zero, sumTo-at}
+use Rattle.packing.proofs.Sums.{sumTo-ext, sumTo-mono, sumTo-zero, sumTo-at}
 
 -- no use always has room
 pub none-fit : (kept : List ℕ) (n : ℕ) (room : ℕ → ℕ) → HasRoom kept n room 0
@@ -38,11 +38,38 @@ tells-so p = record { so = λ e. p; not = λ e. absurd (true-not-false refl e) }
 pub tells-not : {P : Type 0} → (P → ⊥) → Tells false P
 tells-not n = record { so = λ e. absurd (true-not-false e refl); not = λ e. n }
 
+-- the first uses of a packing, up to `most` in all
+abbrev firstUses : ℕ → (ℕ → ℕ) → ℕ → ℕ
+firstUses most u j = min (u j) (most - sumTo j u)
+
+first-total : (most : ℕ) (u : ℕ → ℕ) (n : ℕ) → sumTo n (firstUses most u) ≡ min most (sumTo n u)
+unfolding sumTo
+first-total most u zero = omega arith
+first-total most u (suc n) = omega (arith, first-total most u n)
+
+-- so what has room has room with fewer uses
+pub fewer-fit : {kept : List ℕ} {n k : ℕ} {room : ℕ → ℕ} (most : ℕ) → most ≤ k → HasRoom kept n room k → HasRoom kept n room most
+fewer-fit {kept} {n} {k} {room} most l h = record {
+  uses = firstUses most (h .uses);
+  packed = record {
+    within = λ i s. omega (arith, h .packed .within i s, sumTo-mono n (λ j. firstUses most (h .uses) j * bit i (nth kept j)) (λ j. h .uses j * bit i (nth kept j)) (λ j t. mul-le-mul-right (bit i (nth kept j)) (fewer j)));
+  };
+  total = omega (arith, first-total most (h .uses) n, h .total);
+}
+  where
+    fewer : (j : ℕ) → firstUses most (h .uses) j ≤ h .uses j
+    fewer j = omega arith
+
+-- no more than `enough`
+pub ceiling-start : {kept : List ℕ} {n enough : ℕ} {room : ℕ → ℕ} → Ceiling kept n room enough enough
+ceiling-start = record { few = omega arith; bound = λ k l h. l }
+
 -- one use less
-pub ceiling-fewer : {kept : List ℕ} {n r : ℕ} {room : ℕ → ℕ} → Ceiling kept n room r → (HasRoom kept n room r → ⊥) → Ceiling kept n room (r - 1)
-ceiling-fewer {kept} {n} {r} {room} c none = record {
+pub ceiling-fewer : {kept : List ℕ} {n r enough : ℕ} {room : ℕ → ℕ} → Ceiling kept n room enough r → (HasRoom kept n room r → ⊥)
+    → Ceiling kept n room enough (r - 1)
+ceiling-fewer {kept} {n} {r} {enough} {room} c none = record {
   few = omega (arith, c .few);
-  bound = λ k h. ⊎-elim (λ e. absurd (none (rw e at h))) (λ l. omega arith) (eq-or-lt-of-le (c .bound k h));
+  bound = λ k l h. ⊎-elim (λ e. absurd (none (rw e at h))) (λ l. omega arith) (eq-or-lt-of-le (c .bound k l h));
 }
 
 module _ {m : ℕ} {room : ℕ → ℕ} {need : ℕ} where
@@ -120,3 +147,23 @@ module _ {kept : List ℕ} {last : ℕ} {room : ℕ → ℕ} {need : ℕ} where
 
       rest : (i : ℕ) → sumTo last (λ j. uses j * bit i (nth kept j)) ≡ sumTo last (λ j. h .uses j * bit i (nth kept j))
       rest i = sumTo-ext last _ _ (λ j s. ap (λ z. z * bit i (nth kept j)) (before j s))
+
+-- some uses were tried, of the combinations from n on: whatever has room beside them, of the first n in what is left, has room with them
+pub record Tried (kept : List ℕ) (count : ℕ) (room : ℕ → ℕ) (n : ℕ) (left : ℕ → ℕ) (found : ℕ) : Type 0 where
+  pub rest : (more : ℕ) → HasRoom kept n left more → HasRoom kept count room (found + more)
+
+module _ {kept : List ℕ} {count : ℕ} {room : ℕ → ℕ} where
+  pub tried-start : Tried kept count room count room 0
+  tried-start = record { rest = λ more h. subst (HasRoom kept count room) (omega arith) h }
+
+  -- x uses of the one before
+  pub tried-on : {n last found x need : ℕ} {left next : ℕ → ℕ} → n ≡ suc last → Fitting (nth kept last) left need 6 x
+      → ((i : ℕ) → i < 6 → next i ≡ left i - x * bit i (nth kept last)) → Tried kept count room n left found → Tried kept count room last next (found + x)
+  tried-on {n} {last} {found} {x} {need} {left} {next} size fit e t = record {
+    rest = λ more h.
+        let one : HasRoom kept n left (x + more) = choices-found x next size (omega arith) (fit .enough) e (subst (HasRoom kept last next) (omega arith) h) in
+        subst (HasRoom kept count room) (omega arith) (t .rest (x + more) one);
+  }
+
+  pub tried-end : {n found : ℕ} {left : ℕ → ℕ} → Tried kept count room n left found → HasRoom kept count room found
+  tried-end {n} {found} {left} t = subst (HasRoom kept count room) (omega arith) (t .rest 0 (none-fit kept n left))

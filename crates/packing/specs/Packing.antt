@@ -20,7 +20,7 @@ unfoldable pub sumTo : ℕ → (ℕ → ℕ) → ℕ
 sumTo zero f = 0
 sumTo (suc n) f = sumTo n f + f n
 
--- m may be used: it is bad, and not the empty combination; where that one is bad, refusal 20 has answered before
+-- m may be used: it is bad, and not the empty combination; where that one is bad, nothing is packed
 abbrev pub usable : (ℕ → Bool) → ℕ → Bool
 usable bad m = ltb 0 m && bad m
 

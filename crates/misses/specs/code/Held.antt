@@ -1,11 +1,11 @@
 -- The active segments of the overload chains as the code holds them.
 use Prim.Native.Nat.{ℕ, zero, suc, _+_, _-_, _/_, _^_, _≤_, min}
 use mathlib.Core.List.{List, [], _∷_, map}
-use mathlib.Core.Bool.{Bool, true}
-use lib.Dec.{eqb}
+use mathlib.Core.Bool.{Bool, true, false}
+use lib.Dec.{eqb, ltb}
 use lib.ListN.{length, getD, take}
 use Rattle.search.specs.Choice.{_when_else_}
-use Rattle.search.specs.Lists.{every}
+use Rattle.search.specs.Lists.{every, some}
 use Rattle.packing.specs.Packing.{bit}
 use mathlib.Core.Path.{_≡_}
 use Rattle.table.specs.Limits.{maxActivations, maxRun, horizon, maxOverloads, maxCapacity}
@@ -13,11 +13,12 @@ use Rattle.table.specs.Record.{pad}
 use Rattle.table.specs.Find.{rowOf}
 use Rattle.table.specs.declared.Row.{Row}
 use Rattle.table.specs.declared.Table.{Table}
+use Rattle.arrivals.specs.Arrivals.{largest}
 use Rattle.segments.specs.code.Held.{dearest}
 use Rattle.windows.specs.Demand.{viewsOf}
 use Rattle.misses.specs.Overloads.{Overload, Piece, piecesOf, capacitiesOf}
 use Rattle.misses.specs.Sets.{members, agree, allowed, setCost}
-use Rattle.misses.specs.Misses.{overloadsOf, byFigures}
+use Rattle.misses.specs.Misses.{overloadsOf, missedOf, byFigures}
 use Rattle.misses.specs.declared.Answer.{Answer}
 use Rattle.misses.specs.declared.Figures.{Figures}
 use Rattle.misses.specs.declared.Pieces.{Pieces}
@@ -88,3 +89,14 @@ pub record Asked (b : Row) (k : ℕ) (f : Figures) : Type 0 where
 -- what they give, of a chain of a table
 abbrev pub figuresAt : Table → ℕ → ℕ → Figures → Answer
 figuresAt t chain k f = byFigures (rowOf t chain) (viewsOf t chain) (overloadsOf t chain) k (f .close) (f .latency) (f .late) (f .last)
+
+abbrev pub missedAt : Table → ℕ → ℕ → Figures → ℕ
+missedAt t chain k f = missedOf (rowOf t chain) (viewsOf t chain) (overloadsOf t chain) k (f .close) (f .latency) (f .late)
+
+-- nothing is refused: some activation is late, and the active segments held are all that there are beside the chain, six or fewer, none
+-- with a capacity above its limit
+pub record Admitted (t : Table) (chain k : ℕ) (f : Figures) (p : Pieces) : Type 0 where
+  pub late : 1 ≤ f .late
+  pub all : p ≡ gathered (largest (rowOf t chain) k + f .latency) (overloadsOf t chain)
+  pub few : p .count ≤ maxOverloads
+  pub within : some (ltb maxCapacity) (p .capacity) ≡ false

@@ -66,10 +66,15 @@ pub record Tells (b : Bool) (P : Type 0) : Type 0 where
   pub so : b ≡ true → P
   pub not : b ≡ false → P → ⊥
 
--- no packing of kept combinations has more uses than r
-pub record Ceiling (kept : List ℕ) (count : ℕ) (room : ℕ → ℕ) (r : ℕ) : Type 0 where
-  pub few : r ≤ maxRoom
-  pub bound : (need : ℕ) → HasRoom kept count room need → need ≤ r
+-- no packing of kept combinations that has up to `enough` uses has more than r
+pub record Ceiling (kept : List ℕ) (count : ℕ) (room : ℕ → ℕ) (enough r : ℕ) : Type 0 where
+  pub few : r ≤ enough
+  pub bound : (need : ℕ) → need ≤ enough → HasRoom kept count room need → need ≤ r
+
+-- and one of them has r
+pub record MostUpTo (kept : List ℕ) (count : ℕ) (room : ℕ → ℕ) (enough r : ℕ) : Type 0 where
+  pub ceiling : Ceiling kept count room enough r
+  pub fits : HasRoom kept count room r
 
 -- what `amount` of each active segment weighs by the weighting v
 unfoldable pub weight : List ℕ → ℕ → (ℕ → ℕ) → ℕ

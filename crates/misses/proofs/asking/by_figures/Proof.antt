@@ -1,11 +1,12 @@
--- Each test answers its refusal, in 01's order (`Judging`); past them the packing's flags are those of the bad sets.
+-- Each test answers its refusal, in the documents' order (`Judging`).
 use Prim.Native.Nat.{_+_, _*_, _-_, _≤_}
-use mathlib.Core.Path.{_≡_, refl, ap, ap₂, sym, _∙_}
+use mathlib.Core.Path.{_≡_, ap, ap₂, _∙_}
+use mathlib.Core.Bool.{false}
 use native.Mathlib.Omega.{arith}
 use native.Mathlib.Nat.{mul-le-mul}
 use borrow.Author.Needs.{needs}
 use denote.Ref.{now}
-use Rattle.table.specs.Limits.{maxRun, maxGap, maxActivations, maxOverloads, maxCapacity}
+use Rattle.table.specs.Limits.{maxRun, maxGap, maxOverloads}
 use Rattle.table.specs.Find.{rowOf, rows}
 use Rattle.table.specs.Record.{rowAt}
 use Rattle.table.specs.declared.Row.{Row}
@@ -14,11 +15,12 @@ use Rattle.table.specs.code.Good.{GoodTable}
 use Rattle.table.specs.code.Taken.{Stands}
 use Rattle.table.specs.Read.{tableOf}
 use Rattle.table.proofs.Stands.{row-there, stands}
-use Rattle.windows.specs.code.Load.{Load, loadOf}
+use Rattle.search.specs.Lists.{some}
 use Rattle.misses.specs.Overloads.{overloads}
+use Rattle.misses.specs.declared.Answer.the-variants.{Misses}
+use Rattle.misses.proofs.Starts.{starts}
 use Rattle.misses.specs.code.Held.{gathered}
-use Rattle.misses.specs.code.Settling.{Tries}
-use Rattle.misses.proofs.Judging.{judged-late, judged-size, judged-many, judged-few, judged-again, judged-tries, judged-without, judged-roomy, judged-fits, judged-misses}
+use Rattle.misses.proofs.Judging.{judged-late, judged-size, judged-many, judged-again, judged-roomy, judged-admitted, judged-missed}
 use Rattle.misses.proofs.asking.by_figures.Statement.{statement}
 use Rattle.misses.proofs.asking.by_figures.Tie as tie
 
@@ -36,7 +38,7 @@ module _ (s : tie.Start) where
 -- its record
 module _ (c : tie.After-place) where
   abbrev placed : tie.Start
-  placed = c .before .before .before
+  placed = c .before .before .before .before
 
   here : Stands (now (placed .args .s)) (c .place .result)
   here = stands (placed .pre .0) (c .place .ensures) (placed .pre .1)
@@ -72,34 +74,25 @@ module _ (c : tie.After-of) where
       c .of .ensures
       ∙ ap₂ (λ g r. gathered ((start .args .k - 1) * g + start .args .f .latency) (overloads r (rows (t start)))) (gap (c .before .before)) (row (c .before .before .before))
 
--- the load without overload chains: a set's cost can be tried with it
-module _ (c : tie.After-load) where
+-- neither 18 nor 19
+module _ (c : tie.After-above) where
   abbrev pieces : tie.After-of
-  pieces = c .before .before .before .before .before .before
+  pieces = c .before .before .before .before .before .before .before
 
-  abbrev asked : tie.Start
-  asked = start pieces
+  six : pieces .of .result .count ≤ maxOverloads
+  six = c .before .before .before .before .before .if2 .left
 
-  abbrev load : Load
-  load = loadOf (now (asked .args .s)) (c .load .result) (c .load .last .1 .1 .1 .0)
+  again : c .before .before .before .before .any-again .result ≡ some (starts (start pieces .args .f .last)) (overloads (b (start pieces)) (rows (t (start pieces))))
+  again = c .before .before .before .before .any-again .ensures _
 
-  tries : Tries load (asked .args .f .close)
-  tries =
-      judged-tries (good asked) (asked .args .chain) (asked .pre .1) (asked .pre .2) (some-late pieces) (gathers pieces) (c .before .before .before .before .if2 .left) (c .before .before .before .any-again .ensures _)
-      (c .before .before .if3 .left) (c .load .ensures)
-
--- what was called before
-abbrev loaded : tie.After-over → tie.After-load
-loaded c = c .before .before
-
-abbrev tried : tie.After-packed → tie.After-over
-tried c = c .before .before .before .before .before .before .before
+  once : c .before .before .before .before .any-again .result ≡ false
+  once = c .before .before .before .if3 .left
 
 returns : tie.Need-returns
-returns c = let s = c .before .before in judged-late (good s) (s .args .chain) (s .pre .1) (s .pre .2) (c .if1 .taken)
+returns c = let s = c .before .before .before in judged-late (good s) (s .args .chain) (s .pre .1) (s .pre .2) (c .if1 .taken)
 
 place-requires : tie.Need-place-requires
-place-requires c κs = let p = c .before .before .pre in (p .0, omega (arith, p .1))
+place-requires c κs = let p = c .before .before .before .pre in (p .0, omega (arith, p .1))
 
 sub-of : tie.Need-sub-of
 sub-of c = placed c .pre .2 .low
@@ -140,70 +133,34 @@ returns-3 c =
     let s = start p in
     judged-again (good s) (s .args .chain) (s .pre .1) (s .pre .2) (some-late p) (gathers p) (c .before .before .if2 .left) (c .before .any-again .ensures _) (c .if3 .taken)
 
-load-requires : tie.Need-load-requires
-load-requires c κs = let p = start (c .before .before .before .before .before) .pre in (p .0, p .1, refl)
-
-over-requires : tie.Need-over-requires
-over-requires c κs = (tries (c .before), omega arith)
-
-returns-4 : tie.Need-returns-4
-returns-4 c =
-    let l = loaded (c .before) in
-    let p = pieces l in
-    let s = start p in
-    judged-without (good s) (s .args .chain) (s .pre .1) (s .pre .2) (some-late p) (gathers p) (l .before .before .before .before .if2 .left) (l .before .before .before .any-again .ensures _)
-    (l .before .before .if3 .left) (l .load .ensures) (c .before .over .ensures) (c .if4 .taken)
-
 above-requires : tie.Need-above-requires
 above-requires c κs =
-    let p = pieces (loaded (c .before .before .before)) in
+    let p = c .before .before .before .before .before .before in
     let s = start p in
     judged-size (good s) (s .args .chain) (s .pre .1) (s .pre .2) (some-late p) (gathers p)
 
-returns-5 : tie.Need-returns-5
-returns-5 c =
-    let o = c .before .before .before .before .before in
-    let l = loaded o in
-    let p = pieces l in
-    let s = start p in
-    judged-roomy (good s) (s .args .chain) (s .pre .1) (s .pre .2) (some-late p) (gathers p) (l .before .before .before .before .if2 .left) (l .before .before .before .any-again .ensures _)
-    (l .before .before .if3 .left) (l .load .ensures) (o .over .ensures) (c .before .before .before .before .if4 .left) (c .before .above .ensures) (c .if5 .taken)
+returns-4 : tie.Need-returns-4
+returns-4 c =
+    let a = c .before in
+    let s = start (pieces a) in
+    judged-roomy (good s) (s .args .chain) (s .pre .1) (s .pre .2) (some-late (pieces a)) (gathers (pieces a)) (six a) (again a) (once a) (a .above .ensures) (c .if4 .taken)
 
-packed-requires : tie.Need-packed-requires
-packed-requires c κs =
-    let o = c .before .before .before .before .before .before in
-    let l = loaded o in
-    let p = pieces l in
-    let s = start p in (
-      tries l,
-      sym (o .over .ensures) ∙ c .before .before .before .before .before .if4 .left,
-      judged-few (good s) (s .args .chain) (s .pre .1) (s .pre .2) (some-late p) (gathers p) (l .before .before .before .before .if2 .left) (l .before .before .before .any-again .ensures _),
+missed-requires : tie.Need-missed-requires
+missed-requires c κs =
+    let a = c .before in
+    let s = start (pieces a) in (
+      s .pre .0,
+      s .pre .1,
+      s .pre .2,
+      judged-admitted (good s) (s .args .chain) (s .pre .1) (s .pre .2) (some-late (pieces a)) (gathers (pieces a)) (six a) (again a) (once a) (a .above .ensures) (c .if4 .left),
     )
 
--- every test has passed
-module _ (c : tie.After-packed) where
-  abbrev l : tie.After-load
-  l = loaded (tried c)
-
-  abbrev p : tie.After-of
-  p = pieces l
-
-  abbrev s : tie.Start
-  s = start p
-
-  fits : s .args .f .late * c .packed .result ≤ maxActivations * (maxOverloads * maxCapacity)
-  fits =
-      judged-fits (good s) (s .args .chain) (s .pre .1) (s .pre .2) (some-late p) (gathers p) (l .before .before .before .before .if2 .left) (l .before .before .before .any-again .ensures _)
-      (l .before .before .if3 .left) (l .load .ensures) (tried c .over .ensures) (c .before .before .before .before .before .before .if4 .left) (c .before .before .before .above .ensures) (c .before .before .if5 .left) (c .packed .ensures)
-
-mul-t14 : tie.Need-mul-t14
-mul-t14 c = omega (arith, fits c)
-
-returns-6 : tie.Need-returns-6
-returns-6 c =
-    let x = l c in
-    judged-misses (good (s c)) (s c .args .chain) (s c .pre .1) (s c .pre .2) (some-late (p c)) (gathers (p c)) (x .before .before .before .before .if2 .left) (x .before .before .before .any-again .ensures _)
-    (x .before .before .if3 .left) (x .load .ensures) (tried c .over .ensures) (c .before .before .before .before .before .before .if4 .left) (c .before .before .before .above .ensures) (c .before .before .if5 .left) (c .packed .ensures)
+returns-5 : tie.Need-returns-5
+returns-5 c =
+    let a = c .before .before in
+    let s = start (pieces a) in
+    ap Misses (c .missed .ensures)
+    ∙ judged-missed (good s) (s .args .chain) (s .pre .1) (s .pre .2) (some-late (pieces a)) (gathers (pieces a)) (six a) (again a) (once a) (a .above .ensures) (c .before .if4 .left)
 
 pub by-figures-spec : {M : Type 1} → statement M
 by-figures-spec =
@@ -222,11 +179,7 @@ by-figures-spec =
     returns-2
     any-again-requires
     returns-3
-    load-requires
-    over-requires
-    returns-4
     above-requires
-    returns-5
-    packed-requires
-    mul-t14
-    returns-6)
+    returns-4
+    missed-requires
+    returns-5)

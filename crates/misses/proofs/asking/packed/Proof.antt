@@ -1,5 +1,6 @@
 -- The flags are those of the bad sets: each price is what its set costs, and the lowest bad cost tells which are bad.
-use mathlib.Core.Path.{refl, _∙_}
+use Prim.Native.Nat.{min}
+use mathlib.Core.Path.{refl, ap, _∙_}
 use native.Mathlib.Omega.{arith}
 use borrow.Author.Needs.{needs}
 use denote.Ref.{now}
@@ -37,8 +38,8 @@ lowest-bad-requires c κs =
 flags-requires : tie.Need-flags-requires
 flags-requires c κs = search needs
 
-most-uses-requires : tie.Need-most-uses-requires
-most-uses-requires c κs = search needs
+uses-up-to-requires : tie.Need-uses-up-to-requires
+uses-up-to-requires c κs = search needs
 
 returns : tie.Need-returns
 returns c =
@@ -48,12 +49,13 @@ returns c =
     let flags = c .before .before .before .flags in
     let lowest = c .before .before .before .before .before .lowest-bad in
     let prices = c .before .before .before .before .before .before .before .prices in
-    c .most-uses .ensures
-    ∙ most-same (flagged (flags .result)) (bad test (piecesIn (a .p))) (capacity (a .p .capacity)) (capacity (a .p .capacity))
+    c .uses-up-to .ensures
+    ∙ ap (min (a .enough))
+    (most-same (flagged (flags .result)) (bad test (piecesIn (a .p))) (capacity (a .p .capacity)) (capacity (a .p .capacity))
     (λ m some h. flags-bad test (piecesIn (a .p)) (s .pre .1) (prices .result) (flags .result) (lowest .result) (prices .ensures) (lowest .ensures) (flags .ensures) m h)
-    (λ i h. refl)
+    (λ i h. refl))
 
 pub packed-spec : {M : Type 1} → statement M
 packed-spec =
     tie.close
-    (tie.spec sets-of-requires prices-requires lowest-bad-requires flags-requires most-uses-requires returns)
+    (tie.spec sets-of-requires prices-requires lowest-bad-requires flags-requires uses-up-to-requires returns)

@@ -1,0 +1,66 @@
+-- The misses and the run, over stored tables: never more than k, and never fewer in a longer run. Assumes nothing.
+use Prim.Native.Nat.{ℕ, _≤_}
+use mathlib.Core.Path.{_≡_, refl, subst}
+use mathlib.Core.Bool.{Bool, true, false}
+use mathlib.Core.List.{List}
+use lib.Dec.{eqb}
+use Rattle.search.specs.Choice.{_when_else_}
+use Rattle.table.specs.Bytes.{Bytes}
+use Rattle.table.specs.Find.{rowOf, findOf}
+use Rattle.table.specs.Read.{byVerdict, readTable, tableOf}
+use Rattle.table.specs.declared.Row.{Row}
+use Rattle.table.specs.declared.Verdict.{Verdict}
+use Rattle.table.specs.declared.Verdict.the-variants.{Accepted, Refused as Faulty}
+use Rattle.segments.specs.View.{View}
+use Rattle.windows.specs.Demand.{viewsOf, others}
+use Rattle.windows.proofs.Besides.{others-good}
+use Rattle.misses.specs.Overloads.{Overload}
+use Rattle.misses.specs.Misses.{overloadsOf, missesAt, missesIn, missesOf}
+use Rattle.misses.specs.declared.Answer.{Answer}
+use Rattle.misses.specs.declared.Answer.the-variants.{Misses, Refused}
+use Rattle.misses.proofs.Runs.{Within, UpTo, good-lists, beside-within, beside-rises}
+use Rattle.demands.proofs.Chains.{table-good}
+
+-- the asked chain of a table, if there is one, the views of the others, and the overload chains among them
+module _ (s : List ℕ) (id : ℕ) where
+  abbrev chain : ℕ
+  chain = findOf (tableOf s) id
+
+  abbrev b : Row
+  b = rowOf (tableOf s) chain
+
+  abbrev views : List View
+  views = viewsOf (tableOf s) chain
+
+  abbrev os : List Overload
+  os = overloadsOf (tableOf s) chain
+
+  absent : Bool
+  absent = eqb chain (tableOf s .count)
+
+  -- never more than the run
+  answer-within : (k : ℕ) → Within k (missesOf s id k)
+  unfolding missesOf missesIn missesAt _when_else_ absent
+  answer-within k = by (readTable s .verdict) absent
+    where
+      by : (v : Verdict) (t : Bool) → Within k (byVerdict Refused v (Refused 12 when t else missesAt (tableOf s) chain k))
+      by Accepted true = tt
+      by Accepted false = beside-within b views os k
+      by (Faulty n place) t = tt
+
+  -- never fewer in a longer run
+  answer-rises : Bytes s → (k m : ℕ) → k ≤ m → UpTo (missesOf s id k) (missesOf s id m)
+  unfolding missesOf missesIn missesAt _when_else_ absent
+  answer-rises bytes k m longer = by (readTable s .verdict) refl absent
+    where
+      by : (v : Verdict) → readTable s .verdict ≡ v → (t : Bool) → UpTo (byVerdict Refused v (Refused 12 when t else missesAt (tableOf s) chain k)) (byVerdict Refused v (Refused 12 when t else missesAt (tableOf s) chain m))
+      by Accepted e true = tt
+      by Accepted e false =
+          beside-rises b views os (good-lists b (others (tableOf s) chain) (others-good (tableOf s) (table-good (record { bytes = bytes; accepted = e })) chain)) k m longer
+      by (Faulty n place) e t = tt
+
+pub within-run : (s : List ℕ) (id k : ℕ) {n : ℕ} → missesOf s id k ≡ Misses n → n ≤ k
+within-run s id k e = subst (Within k) e (answer-within s id k)
+
+pub longer-run : (s : List ℕ) → Bytes s → (id : ℕ) {k m n r : ℕ} → k ≤ m → missesOf s id k ≡ Misses n → missesOf s id m ≡ Misses r → n ≤ r
+longer-run s bytes id {k} {m} {n} {r} longer e f = subst (UpTo (Misses n)) f (subst (λ a. UpTo a (missesOf s id m)) e (answer-rises s id bytes k m longer))
