@@ -552,8 +552,8 @@ static void spread_overload(struct source *source, struct made_table *table, uin
     }
 }
 
-/* Activations of b that come together, so that one combination makes some of them late or all: as often as before on
-   average. Gives back what the others of them cost. */
+/* Lets activations of b come together, as often as before on average, so that a combination makes several late. Gives back
+   what there is to do at once besides the first of them. */
 static uint64_t bring_together(struct source *source, struct made_chain *b)
 {
     uint32_t apart = b->distance[0];

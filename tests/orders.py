@@ -369,10 +369,10 @@ def lowly(deadline, distance):
     return stored(chain(1, 0, 0, deadline, 100, [100], [(5, 10)]), chain(2, 0, 1, 1000, 0, [distance], [(1, 1)]))
 
 
-def bursts(deadline, distance=TIME):
+def bursts(deadline):
     """Three activations at once, 10 each, against an overload chain of 21: B(1) = 31, B(2) = 41 and B(3) = 51; 10, 20 and 30
     without overload."""
-    return stored(chain(1, 0, 0, deadline, 33, [0, 0, 99], [(5, 10)]), chain(2, 0, 1, 1000, 0, [distance], [(9, 21)]))
+    return stored(chain(1, 0, 0, deadline, 33, [0, 0, 99], [(5, 10)]), chain(2, 0, 1, 1000, 0, [TIME], [(9, 21)]))
 
 
 def apart(deadline, distance=TIME):
