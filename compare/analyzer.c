@@ -760,27 +760,29 @@ static uint32_t latency_of(const struct table *table, uint32_t id, const struct 
     return analyze(table, *b, figures);
 }
 
-/* The miss count of a chain whose late activations are more than none. */
-static uint32_t misses_of_late(const struct table *table, const struct chain *b, uint32_t k,
-                               const struct figures *figures, uint32_t *misses)
+/* Late times the most uses of any packing, for a chain whose late activations are more than none. */
+static uint32_t figure_of_late(const struct table *table, const struct chain *b, uint32_t k,
+                               const struct figures *figures, uint64_t *figure)
 {
     struct overload overload;
     if (gather_overload(table, b, &overload))
         return 18;
     if (overload_starts_again(table, figures->last_window))
         return 19;
-    struct load load = load_of(table, b, false);
-    if (is_bad(load, figures->K, 0))
-        return 20;
     if (!set_capacities(&overload, (uint64_t)(k - 1) * b->gap + figures->latency))
         return 21;
+    struct load load = load_of(table, b, false);
+    *figure = PLAIN_NO_MOST;
+    if (is_bad(load, figures->K, 0))
+        return 0; /* the empty set takes no room, so it can be used without end */
     uint8_t bad[64];
     unsigned count = gather_bad(&load, figures->K, &overload, bad);
-    *misses = (uint32_t)figures->late * most_uses(&overload, bad, count);
+    *figure = figures->late * most_uses(&overload, bad, count);
     return 0;
 }
 
-static uint32_t misses_of(const struct table *table, uint32_t id, uint32_t k, uint32_t *misses)
+/* The packing figure: 0 where nothing is late, no most where the empty set is bad. */
+static uint32_t figure_of(const struct table *table, uint32_t id, uint32_t k, uint64_t *figure)
 {
     const struct chain *b = find_chain(table, id);
     if (!b)
@@ -795,8 +797,19 @@ static uint32_t misses_of(const struct table *table, uint32_t id, uint32_t k, ui
     uint32_t refusal = analyze(table, b, &figures);
     if (refusal)
         return refusal;
-    *misses = 0;
-    return figures.late == 0 ? 0 : misses_of_late(table, b, k, &figures, misses);
+    *figure = 0;
+    return figures.late == 0 ? 0 : figure_of_late(table, b, k, &figures, figure);
+}
+
+/* The smaller of k and the packing figure. */
+static uint32_t misses_of(const struct table *table, uint32_t id, uint32_t k, uint32_t *misses)
+{
+    uint64_t figure;
+    uint32_t refusal = figure_of(table, id, k, &figure);
+    if (refusal)
+        return refusal;
+    *misses = figure < k ? (uint32_t)figure : k;
+    return 0;
 }
 
 static uint32_t segment_of(const struct table *table, uint32_t chain, uint32_t against, uint32_t number,
@@ -1176,6 +1189,13 @@ uint32_t plain_misses(const uint8_t *table, size_t table_len, uint32_t id, uint3
     if (!refusal)
         put32(answer, misses);
     return refusal;
+}
+
+uint32_t plain_figure(const uint8_t *table, size_t table_len, uint32_t id, uint32_t k, uint64_t *figure)
+{
+    struct table read;
+    uint32_t refusal = read_table(table, table_len, &read).number;
+    return refusal ? refusal : figure_of(&read, id, k, figure);
 }
 
 uint32_t plain_segment(const uint8_t *table, size_t table_len, uint32_t chain, uint32_t against, uint32_t number,

@@ -31,4 +31,9 @@ uint32_t plain_record(const uint8_t *table, size_t table_len, uint32_t id, uint8
 uint32_t plain_report(const uint8_t *table, size_t table_len, uint8_t *text, size_t text_len, uint8_t *answer,
                       size_t answer_len);
 
+/* What a miss query answers before k limits it: late times the most uses of any packing, 0 where nothing is late. Where
+   the empty set is bad there is no most. Refused as the query is. */
+#define PLAIN_NO_MOST UINT64_MAX
+uint32_t plain_figure(const uint8_t *table, size_t table_len, uint32_t id, uint32_t k, uint64_t *figure);
+
 #endif

@@ -264,12 +264,21 @@ static void measure_tables(const char *name, unsigned entry, struct stored *firs
     measure(&what);
 }
 
+/* The sample, but for a deadline that its first chain misses without overload. */
+static struct made_table late_sample(void)
+{
+    struct made_table table = sample_table();
+    table.chain[0].deadline = 20;
+    return table;
+}
+
 static void usual_cases(struct source *source)
 {
     struct stored *sample = keep(sample_table());
     struct stored *study = keep(case_study());
     struct stored *full = keep(full_table(source));
     struct stored *miscounted = keep_miscounted(full);
+    struct stored *late = keep(late_sample());
     measure_one("read the sample (140 bytes), refusal 12", LATENCY, sample, 0, 0, 0);
     measure_one("read a full table (1,284 bytes), refusal 12", LATENCY, full, 0, 0, 0);
     measure_one("check, sample", CHECK, sample, 0, 0, 0);
@@ -277,6 +286,7 @@ static void usual_cases(struct source *source)
     measure_one("check, full table, wrong count at its end", CHECK, miscounted, 0, 0, 0);
     measure_one("latency, sample", LATENCY, sample, 1, 0, 0);
     measure_one("misses, sample, k 10", MISSES, sample, 1, 10, 0);
+    measure_one("misses, sample, late without overload, k 10", MISSES, late, 1, 10, 0);
     measure_one("segment, sample", SEGMENT, sample, 3, 1, 2);
     measure_one("latency, case study", LATENCY, study, 2, 0, 0);
     measure_one("misses, case study, k 3", MISSES, study, 2, 3, 0);
@@ -371,20 +381,25 @@ static struct made_table unit_costs(void)
     return table;
 }
 
-/* Six overload chains of one segment, with these costs and capacities for k = 1,000; a set is bad above the threshold. */
+/* Six overload chains of one segment, with these costs and capacities; a set is bad above the threshold. */
 struct shape {
     uint32_t cost[6], capacity[6], threshold;
 };
 
-static struct made_table shaped(const struct shape *shape)
+/* A table of the shape, for a run of k and with so many activations at once. The gap is such that the run takes as long
+   for each k. */
+static struct made_table shaped(const struct shape *shape, uint32_t k, unsigned at_once)
 {
     struct made_table table = {0};
-    uint32_t all = 1;
+    uint32_t all = at_once;
     for (unsigned i = 0; i < 6; i++)
         all += shape->cost[i];
-    struct made_chain *b = add_chain(&table, 1 + shape->threshold, 5 * all, 5 * all);
+    uint32_t gap = 5 * all * 999 / (k - 1);
+    struct made_chain *b = add_chain(&table, at_once + shape->threshold, gap, 0);
+    b->listed = at_once;
+    b->distance[at_once - 1] = gap * at_once; /* those before it are 0 */
     add_task(b, 1, 1);
-    uint32_t reach = 999 * b->gap + all;
+    uint32_t reach = (k - 1) * gap + all;
     for (unsigned i = 0; i < 6; i++) {
         uint32_t arrivals = shape->capacity[i] - 1;
         struct made_chain *chain = add_chain(&table, 1000, 0, (reach + arrivals - 1) / arrivals);
@@ -422,7 +437,7 @@ static void measure_glpk(const struct shape *shape, double query)
 }
 #endif
 
-static void slow_cases(void)
+static void shape_cases(void)
 {
     static const struct shape shapes[] = {
         {{1, 1, 1, 1, 1, 1}, {40, 40, 40, 40, 40, 40}, 2},
@@ -432,6 +447,22 @@ static void slow_cases(void)
         {{4, 5, 3, 4, 4, 4}, {26, 22, 36, 22, 39, 35}, 13},
         {{120, 887, 741, 462, 477, 289}, {35, 39, 31, 39, 39, 36}, 1712},
     };
+    static const unsigned limited[] = {1, 5, 6}; /* shapes that are asked with a k below their most uses too */
+    char name[64];
+    tables_used = 0;
+    for (unsigned i = 0; i < sizeof shapes / sizeof shapes[0]; i++) {
+        snprintf(name, sizeof name, "misses, six segments, shape %u, k 1,000", i + 1);
+        measure_glpk(&shapes[i], measure_one(name, MISSES, keep(shaped(&shapes[i], 1000, 1)), 1, 1000, 0));
+    }
+    for (unsigned i = 0; i < sizeof limited / sizeof limited[0]; i++) {
+        snprintf(name, sizeof name, "misses, six segments, shape %u, k 30", limited[i]);
+        measure_one(name, MISSES, keep(shaped(&shapes[limited[i] - 1], 30, 1)), 1, 30, 0);
+    }
+    measure_one("misses, six segments, shape 5, 8 late, k 10", MISSES, keep(shaped(&shapes[4], 10, 8)), 1, 10, 0);
+}
+
+static void slow_cases(void)
+{
     tables_used = 0;
     struct stored *wide = keep(long_backlog(100000, 0));
     struct stored *narrow = keep(long_backlog(4000, 0));
@@ -443,11 +474,7 @@ static void slow_cases(void)
     measure_one("misses, K near 1,024, six segments, few", MISSES, overloaded, 1, 10, 0);
     measure_one("misses, K near 1,024, six segments, many", MISSES, crowded, 1, 10, 0);
     measure_one("latency, unit costs, load near 1", LATENCY, units, 1, 0, 0);
-    for (unsigned i = 0; i < sizeof shapes / sizeof shapes[0]; i++) {
-        char name[64];
-        snprintf(name, sizeof name, "misses, six segments, shape %u, k 1,000", i + 1);
-        measure_glpk(&shapes[i], measure_one(name, MISSES, keep(shaped(&shapes[i])), 1, 1000, 0));
-    }
+    shape_cases();
 }
 
 /* ---- Growth ---- */

@@ -29,11 +29,23 @@ enum { ANCESTOR, FIRST, SECOND, TOGETHER, DECIDERS };
 static const char *const decided_by[] = {"merge, by the ancestor", "merge, by the first copy",
                                          "merge, by the second copy", "merge, by all three"};
 
-/* How often each entry has returned each number, the check has answered it, and a merge has returned it because of
-   what. */
+/* What the misses that are answered come from; and the capacity that is refused before the answer could be k. */
+enum { NONE_LATE, NONE_BAD, BELOW_K, EXACTLY_K, ABOVE_K, WITHOUT_OVERLOAD, NO_OVERLOAD_CHAIN, CAPACITY_FIRST, GROUNDS };
+static const char *const ground_name[] = {"no activation late",
+                                          "late, no combination bad",
+                                          "packing figure below k",
+                                          "packing figure k",
+                                          "packing figure above k",
+                                          "k, a miss without overload",
+                                          "k, a miss and no overload chain",
+                                          "21 before a miss without overload"};
+
+/* How often each entry has returned each number, the check has answered it, a merge has returned it because of what, and
+   the misses have come from what. */
 static uint64_t met[ENTRIES][NUMBERS];
 static uint64_t answered[NUMBERS];
 static uint64_t decided[DECIDERS][NUMBERS];
+static uint64_t ground_met[GROUNDS];
 
 static void print_hex(const char *what, const uint8_t *bytes, size_t length)
 {
@@ -141,8 +153,8 @@ static void stop_at_query(const struct generated *table, const struct query *que
     exit(1);
 }
 
-/* Asks both, and gives back what they return. */
-static uint32_t ask(const struct generated *table, struct query query)
+/* Asks both, and gives back what they return and answer. */
+static struct outcome ask(const struct generated *table, struct query query)
 {
     static struct generated lent;
     struct outcome proved = nothing_yet(), plain = nothing_yet();
@@ -157,13 +169,74 @@ static uint32_t ask(const struct generated *table, struct query query)
     note(met[query.entry], proved.returned);
     if (query.entry == CHECK && proved.returned == 0)
         note(answered, get32(proved.answer));
-    return proved.returned;
+    return proved;
 }
 
 static uint32_t ask_whole(const struct generated *table, unsigned entry, uint32_t first, uint32_t second,
                           uint32_t third)
 {
-    return ask(table, (struct query){entry, {first, second, third}, answer_bytes[entry]});
+    return ask(table, (struct query){entry, {first, second, third}, answer_bytes[entry]}).returned;
+}
+
+/* ---- Misses ---- */
+
+/* Whether an accepted table has an overload chain. */
+static bool has_overload(const struct generated *table)
+{
+    for (const uint8_t *at = table->bytes; at[0] == 'C'; at += 16 + 4u * at[14] + 8u * at[15])
+        if (at[5] == 1)
+            return true;
+    return false;
+}
+
+static uint32_t late_of(const struct generated *table, uint32_t id)
+{
+    uint8_t answer[16] = {0};
+    plain_latency(table->bytes, table->length, id, answer, sizeof answer);
+    return get32(answer + 8);
+}
+
+static uint64_t figure_of(const struct generated *table, uint32_t id, uint32_t k)
+{
+    uint64_t figure = 0;
+    plain_figure(table->bytes, table->length, id, k, &figure);
+    return figure;
+}
+
+/* What misses for k come from. Only of k itself the packing figure says more. */
+static unsigned ground_of(const struct generated *table, uint32_t id, uint32_t k, uint32_t misses)
+{
+    if (misses == 0)
+        return late_of(table, id) == 0 ? NONE_LATE : NONE_BAD;
+    if (misses < k)
+        return BELOW_K;
+    uint64_t figure = figure_of(table, id, k);
+    if (figure == PLAIN_NO_MOST)
+        return has_overload(table) ? WITHOUT_OVERLOAD : NO_OVERLOAD_CHAIN;
+    return figure == k ? EXACTLY_K : ABOVE_K;
+}
+
+/* The misses of both, 0 where they are refused. Refused with 21, the empty set is bad where there is no most for k = 1:
+   then no capacity is above 2, since 19 comes before. */
+static uint32_t ask_misses(const struct generated *table, uint32_t id, uint32_t k)
+{
+    struct outcome outcome = ask(table, (struct query){MISSES, {id, k, 0}, answer_bytes[MISSES]});
+    uint32_t misses = outcome.returned == 0 ? get32(outcome.answer) : 0;
+    if (outcome.returned == 0)
+        ground_met[ground_of(table, id, k, misses)]++;
+    if (outcome.returned == 21 && figure_of(table, id, 1) == PLAIN_NO_MOST)
+        ground_met[CAPACITY_FIRST]++;
+    return misses;
+}
+
+/* For k, and where that does not limit the misses, for runs that just do not or just do. */
+static void ask_around(const struct generated *table, uint32_t id, uint32_t k)
+{
+    uint32_t misses = ask_misses(table, id, k);
+    if (misses > 0 && misses < k)
+        ask_misses(table, id, misses);
+    if (misses > 1 && misses < k)
+        ask_misses(table, id, misses - 1);
 }
 
 /* ---- The chains of a table ---- */
@@ -195,13 +268,14 @@ static struct places find_places(const struct generated *table)
 
 static const uint32_t runs[] = {0, 1, 2, 3, 10, 11, 999, 1000, 1001};
 
-static void ask_figures(const struct generated *table, const struct places *places)
+static void ask_figures(struct source *source, const struct generated *table, const struct places *places)
 {
     for (unsigned i = 0; i < places->chains; i++) {
         ask_whole(table, LATENCY, places->id[i], 0, 0);
         ask_whole(table, RECORD, places->id[i], 0, 0);
         for (unsigned r = 0; r < sizeof runs / sizeof runs[0]; r++)
-            ask_whole(table, MISSES, places->id[i], runs[r], 0);
+            ask_around(table, places->id[i], runs[r]);
+        ask_around(table, places->id[i], (uint32_t)draw(source, 1, one_in(source, 2) ? 50 : 1000));
     }
 }
 
@@ -929,7 +1003,7 @@ static void ask_spoiled(struct source *source, struct generated *table, const st
 static void compare_table(struct source *source, struct generated *table)
 {
     struct places places = find_places(table);
-    ask_figures(table, &places);
+    ask_figures(source, table, &places);
     ask_segments(table, &places);
     ask_oddly(source, table, &places);
     ask_checks(table);
@@ -976,6 +1050,7 @@ static void print_counts(const char *what, const uint64_t counts[NUMBERS])
     puts(" calls");
 }
 
+static const uint8_t of_misses[] = {0, 12, 13, 14, 15, 16, 17, 18, 19, 21, 27};
 static const uint8_t of_table[] = {1, 2, 3, 4, 5, 6, 7, 9, 10, 11, 28, 29, 30, 31};
 static const uint8_t of_merge[] = {0, 1, 9, 11, 24, 32};
 static const uint8_t of_read[] = {0, 1, 2, 3, 4, 5, 6, 7, 9, 10, 11, 24, 27, 28, 29, 30, 31};
@@ -994,10 +1069,23 @@ static bool lacks(const char *what, const uint64_t counts[NUMBERS], const uint8_
     return missing;
 }
 
-/* Whether a check, a merge, a read, a write or a record has not given a number that it can give. */
-static bool misses_number(void)
+/* Whether the misses have not come from all that they can come from. */
+static bool lacks_ground(void)
 {
-    bool missing = lacks("answered by check", answered, of_table, sizeof of_table);
+    bool missing = false;
+    for (unsigned ground = 0; ground < GROUNDS; ground++)
+        if (ground_met[ground] == 0) {
+            printf("misses: never '%s'\n", ground_name[ground]);
+            missing = true;
+        }
+    return missing;
+}
+
+/* Whether misses, a check, a merge, a read, a write or a record have not given a number that they can give. */
+static bool lacks_number(void)
+{
+    bool missing = lacks("misses", met[MISSES], of_misses, sizeof of_misses);
+    missing |= lacks("answered by check", answered, of_table, sizeof of_table);
     for (unsigned by = ANCESTOR; by <= SECOND; by++)
         missing |= lacks(decided_by[by], decided[by], of_table, sizeof of_table);
     missing |= lacks(decided_by[TOGETHER], decided[TOGETHER], of_merge, sizeof of_merge);
@@ -1013,6 +1101,8 @@ static void print_met(void)
     print_counts("answered by check", answered);
     for (unsigned by = 0; by < DECIDERS; by++)
         print_counts(decided_by[by], decided[by]);
+    for (unsigned ground = 0; ground < GROUNDS; ground++)
+        printf("misses, %s: %" PRIu64 " calls\n", ground_name[ground], ground_met[ground]);
 }
 
 int main(int count, char **words)
@@ -1034,7 +1124,7 @@ int main(int count, char **words)
             compare_table(&source, &under_way);
     }
     print_met();
-    if (!walked && tables >= 1000 && misses_number())
+    if (!walked && tables >= 1000 && (lacks_number() || lacks_ground()))
         return 1;
     printf("%" PRIu64 " tables, no difference\n", tables);
     if (fflush(stdout) != 0 || ferror(stdout)) {

@@ -552,6 +552,19 @@ static void spread_overload(struct source *source, struct made_table *table, uin
     }
 }
 
+/* Lets activations of b come together, as often as before on average, so that a combination makes several late. Gives back
+   what there is to do at once besides the first of them. */
+static uint64_t bring_together(struct source *source, struct made_chain *b)
+{
+    uint32_t apart = b->distance[0];
+    b->listed = (unsigned)draw(source, 2, 8);
+    for (unsigned i = 0; i < b->listed; i++)
+        b->distance[i] = (uint32_t)draw(source, 0, cost_of(b));
+    b->distance[b->listed - 1] = apart * b->listed;
+    sort(b->distance, b->listed);
+    return (b->listed - 1) * cost_of(b);
+}
+
 struct made_table packing_table(struct source *source, unsigned segments)
 {
     static const uint32_t costs[] = {5, 20, 1000};
@@ -572,6 +585,8 @@ struct made_table packing_table(struct source *source, unsigned segments)
     }
     b = &table.chain[0];
     b->distance[0] = b->gap = (uint32_t)draw(source, busy / 3 + 3 * cost_of(b), 2 * busy + 3 * cost_of(b));
+    if (one_in(source, 3))
+        busy += bring_together(source, b);
     spread_overload(source, &table, busy);
     if (one_in(source, 3)) {
         struct made_chain *other = add_chain(&table, 100, 0, 7 * (uint32_t)busy);
@@ -581,8 +596,8 @@ struct made_table packing_table(struct source *source, unsigned segments)
     return table;
 }
 
-/* A chain of cost 10 whose misses are refused for reasons that are drawn each apart, so that some hold together: 14 to
-   17, too many active segments, overload that starts again, a miss without overload, and for long runs the capacity. */
+/* A chain of cost 10 whose misses are refused, or k, for reasons that are drawn each apart, so that some hold together: 14
+   to 17, too many active segments, overload that starts again, for long runs the capacity, and a miss without overload. */
 static struct made_table refused_misses(struct source *source)
 {
     struct made_table table = {0};

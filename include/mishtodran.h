@@ -34,7 +34,7 @@ extern "C" {
 
 /* The version of this header; mishtodran_version gives that of the library. An editor compares them at its start: where
  * they differ, an answer, a refusal or an entry may. CHANGELOG.md says which. */
-#define MISHTODRAN_VERSION 4
+#define MISHTODRAN_VERSION 5
 
 /* The limits. A table beyond one of them is refused, and so is a k. */
 enum {
@@ -135,7 +135,8 @@ MISHTODRAN_LAYOUT(sizeof(struct mishtodran_row) == 160);
 #undef MISHTODRAN_LAYOUT
 
 /* Why an entry refuses. The numbers of the first group, 1 to 7, 9 to 11 and 28 to 31, are what a table is refused with:
- * in what follows, a table's number. Rows that no table can have get the number of their bytes. 8 is no longer given. */
+ * in what follows, a table's number. Rows that no table can have get the number of their bytes. 8 and 20 are no longer
+ * given. */
 enum mishtodran_refusal {
     /* The table */
     MISHTODRAN_TABLE_LENGTH = 1,       /* the table's length is 0, above 1,284 or above its buffer */
@@ -161,7 +162,6 @@ enum mishtodran_refusal {
     MISHTODRAN_NO_CLOSE = 17,          /* the windows do not close by activation 1,024 */
     MISHTODRAN_SEGMENTS = 18,          /* there are over 6 overload active segments */
     MISHTODRAN_STARTS_AGAIN = 19,      /* an overload chain may start more than once in the last window */
-    MISHTODRAN_ALWAYS_LATE = 20,       /* a deadline is missed without any overload */
     MISHTODRAN_CAPACITY = 21,          /* an overload active segment's capacity is above 40 */
     /* A save; 24 in a merge, a write and a report too, and in a read where there are too few rows */
     MISHTODRAN_STALE_RECORD = 22,      /* the old record equals no stored chain record */
@@ -215,9 +215,9 @@ uint32_t mishtodran_check(const uint8_t *table, size_t table_len,
 uint32_t mishtodran_latency(const uint8_t *table, size_t table_len, uint32_t id,
                             uint8_t *answer, size_t answer_len);
 
-/* A bound on the deadline misses of chain `id` among any `k` activations in a row: 4 bytes of answer. The bound may
- * exceed k.
- * Refuses with 27, then a table's number, 12, 13, 14, 15, 16 or 17, 18, 19, 20, 21. */
+/* A bound on the deadline misses of chain `id` among any `k` activations in a row: 4 bytes of answer. The bound never
+ * exceeds k. It is k where a deadline is missed without any overload, and also where overload may come that often.
+ * Refuses with 27, then a table's number, 12, 13, 14, 15, 16 or 17, 18, 19, 21. */
 uint32_t mishtodran_misses(const uint8_t *table, size_t table_len, uint32_t id, uint32_t k,
                            uint8_t *answer, size_t answer_len);
 

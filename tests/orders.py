@@ -10,11 +10,11 @@ Not told apart, since number and place are the same: the two parts of 4, of 6 an
 the parts of 23.
 Never both: a mark that is not whole and its value (2, 3; here one byte that begins no mark), 2 and a length above 1,284 (no
 chain record accepted so far ends past byte 1,280), 30 and 31 where no distance falls (all of them are 0), 7 and 31 where no
-distance is too large, 16 and 17 of one window, no late activation and 20 (windows without overload are never longer), 4, 2
-or 11 in the result of a save (the new record is whole and has the id of the old one), 24 and a new record under 16 bytes
-(the result is shorter than the table), any other number than 1, 9 and 11 in the result of a merge (its records are those of
-accepted tables, each id once), 1, 2 or 3 in the bytes of rows (these are whole, and their length is not judged). In a merge 1
-never stands alone: above 1,284 bytes there are over 16 chains or over 64 tasks.
+distance is too large, 16 and 17 of one window, no late activation and a miss without overload (windows without overload are
+never longer), 4, 2 or 11 in the result of a save (the new record is whole and has the id of the old one), 24 and a new record
+under 16 bytes (the result is shorter than the table), any other number than 1, 9 and 11 in the result of a merge (its records
+are those of accepted tables, each id once), 1, 2 or 3 in the bytes of rows (these are whole, and their length is not judged).
+In a merge 1 never stands alone: above 1,284 bytes there are over 16 chains or over 64 tasks.
 
 Run as a program it lists the pairs.
 """
@@ -26,9 +26,10 @@ from stored import AT, COST_AT, COUNT_AT, LONGEST, NUMBERS, PRIORITY_AT, TIME, V
 from written import row, write
 
 # What is told of the first and of the second, what both are about, the case in which both hold, and the one in which only
-# the second does. Told are number and offset of a table, number and detail of a merge, and the number of any other call; in
-# a query 0 is the answer 0.
+# the second does. Told are number and offset of a table, number and detail of a merge, and the number of any other call; of a
+# miss query that is answered, the misses.
 Pair = namedtuple("Pair", "first second what both later")
+Answer = namedtuple("Answer", "misses")
 
 
 # ---- Reading a table ----
@@ -358,10 +359,33 @@ def crowd(deadline, segments, distance):
                   chain(2, 0, 1, 1000, 0, [distance], [(2, 1)] * segments))
 
 
-def edge(last, gap):
+def alone(deadline, gap, overload=0):
+    """Chain 1 of cost 10, and no other: its window is 10 long."""
+    return stored(chain(1, 0, overload, deadline, gap, [100], [(5, 10)]))
+
+
+def lowly(deadline, distance):
+    """Chain 1 of cost 10 above an overload chain that has no segment against it: its window is 10 long."""
+    return stored(chain(1, 0, 0, deadline, 100, [100], [(5, 10)]), chain(2, 0, 1, 1000, 0, [distance], [(1, 1)]))
+
+
+def bursts(deadline):
+    """Three activations at once, 10 each, against an overload chain of 21: B(1) = 31, B(2) = 41 and B(3) = 51; 10, 20 and 30
+    without overload."""
+    return stored(chain(1, 0, 0, deadline, 33, [0, 0, 99], [(5, 10)]), chain(2, 0, 1, 1000, 0, [TIME], [(9, 21)]))
+
+
+def apart(deadline, distance=TIME):
+    """Chain 1 of cost 10 against an overload chain of two segments, 6 each, that are in no combination together: the window is
+    22 long, 16 with one of them."""
+    return stored(chain(1, 0, 0, deadline, 100, [100], [(5, 10)]),
+                  chain(2, 1, 1, 1000, 0, [distance], [(1, 1), (9, 6), (1, 1), (9, 6), (1, 1)]))
+
+
+def edge(last, gap, deadline=TIME):
     """Nine tasks of 1,000,000 and this one against a deferred synchronous chain whose dearest segment costs 1: the window
     is 9,000,001 + last long."""
-    return stored(chain(1, 0, 0, TIME, gap, [TIME], [(5, 1_000_000)] * 9 + [(5, last)]),
+    return stored(chain(1, 0, 0, deadline, gap, [TIME], [(5, 1_000_000)] * 9 + [(5, last)]),
                   chain(2, 0, 0, 1, 0, [TIME], [(9, 1), (1, 1)]))
 
 
@@ -407,29 +431,46 @@ MISSES = [Pair(a, 12, "the table, an unknown id", (made, UNKNOWN, 10), (PLAIN, U
     Pair(13, 15, "k 0, gap 0", (PLAIN, 2, 0), (PLAIN, 2, 1)),
     Pair(13, 15, "k 1,001, gap 0", (PLAIN, 2, 1001), (PLAIN, 2, 1000)),
     Pair(13, 16, "k 0, no window", (edge(1_000_000, TIME), 1, 0), (edge(1_000_000, TIME), 1, 1)),
-    Pair(13, 0, "k 0, no late activation", (crowd(100, 6, 1000), 1, 0), (crowd(100, 6, 1000), 1, 1)),
+    Pair(13, Answer(0), "k 0, no late activation", (crowd(100, 6, 1000), 1, 0), (crowd(100, 6, 1000), 1, 1)),
+    Pair(13, Answer(1), "k 0, a miss without overload", (alone(9, 100), 1, 0), (alone(9, 100), 1, 1)),
+    Pair(13, Answer(1000), "k 1,001, a miss without overload", (alone(9, 100), 1, 1001), (alone(9, 100), 1, 1000)),
     Pair(14, 15, "an overload chain with gap 0", (PLAIN, 1, 10), (PLAIN, 2, 10)),
     Pair(14, 17, "an overload chain, no close", (backlog(1025, 11, 100, 1), 1, 10), (backlog(1025, 11, 100), 1, 10)),
+    Pair(14, Answer(7), "an overload chain, a miss without overload", (alone(9, 100, 1), 1, 7), (alone(9, 100), 1, 7)),
     Pair(15, 16, "gap 0, no window", (edge(1_000_000, 0), 1, 10), (edge(1_000_000, TIME), 1, 10)),
     Pair(15, 17, "gap 0, no close", (backlog(1025, 0, 100), 1, 10), (backlog(1025, 11, 100), 1, 10)),
-    Pair(15, 0, "gap 0, no late activation", (edge(999_999, 0), 1, 10), (edge(999_999, TIME), 1, 10)),
+    Pair(15, Answer(0), "gap 0, no late activation", (edge(999_999, 0), 1, 10), (edge(999_999, TIME), 1, 10)),
+    Pair(15, Answer(7), "gap 0, a miss without overload", (alone(9, 0), 1, 7), (alone(9, 100), 1, 7)),
     Pair(16, 17, "window 1,024 is longer than the horizon", (open_at_last(641), 1, 10), (open_at_last(640), 1, 10)),
-    Pair(16, 0, "no first window, none late so far", (edge(1_000_000, TIME), 1, 10), (edge(999_999, TIME), 1, 10)),
-    Pair(16, 0, "no second window, the first not late", (edge_of_second(3), 1, 10), (edge_of_second(2), 1, 10)),
-    Pair(17, 0, "no close, no late activation", (backlog(1025, 11, TIME), 1, 10), (backlog(1024, 11, TIME), 1, 10)),
+    Pair(16, Answer(0), "no first window, none late so far", (edge(1_000_000, TIME), 1, 10), (edge(999_999, TIME), 1, 10)),
+    Pair(16, Answer(0), "no second window, the first not late", (edge_of_second(3), 1, 10), (edge_of_second(2), 1, 10)),
+    Pair(16, Answer(10), "no window, a miss without overload", (edge(1_000_000, TIME, 1), 1, 10),
+         (edge(999_999, TIME, 1), 1, 10)),
+    Pair(17, Answer(0), "no close, no late activation", (backlog(1025, 11, TIME), 1, 10), (backlog(1024, 11, TIME), 1, 10)),
+    Pair(17, Answer(10), "no close, a miss without overload", (backlog(1025, 11, 9), 1, 10), (backlog(1024, 11, 9), 1, 10)),
     Pair(16, 18, "no window, seven active segments", (seven([(6, 1_000_000)] * 2, 1, TIME, [(5, 1)]), 1, 10),
          (seven([(6, 1_000_000)], 1, TIME, [(5, 1)]), 1, 10)),
     Pair(17, 18, "no close, seven active segments", (seven([(6, 147)], 100, 11, [(5, 10)]), 1, 10),
          (seven([(6, 146)], 100, 11, [(5, 10)]), 1, 10)),
-    Pair(0, 18, "no late activation, seven active segments", (crowd(17, 7, 1000), 1, 1), (crowd(16, 7, 1000), 1, 1)),
-    Pair(0, 19, "no late activation, overload starts again", (crowd(22, 6, 15), 1, 1), (crowd(21, 6, 15), 1, 1)),
-    Pair(0, 21, "no late activation, a capacity of 101", (crowd(16, 6, 1000), 1, 1000), (crowd(15, 6, 1000), 1, 1000)),
+    Pair(Answer(0), 18, "no late activation, seven active segments", (crowd(17, 7, 1000), 1, 1), (crowd(16, 7, 1000), 1, 1)),
+    Pair(Answer(0), 19, "no late activation, overload starts again", (crowd(22, 6, 15), 1, 1), (crowd(21, 6, 15), 1, 1)),
+    Pair(Answer(0), 21, "no late activation, a capacity of 101", (crowd(16, 6, 1000), 1, 1000), (crowd(15, 6, 1000), 1, 1000)),
     Pair(18, 19, "seven active segments, overload starts again", (crowd(10, 7, 15), 1, 1), (crowd(10, 6, 15), 1, 1)),
-    Pair(18, 20, "seven active segments, a miss without overload", (crowd(9, 7, 1000), 1, 1), (crowd(9, 6, 1000), 1, 1)),
     Pair(18, 21, "seven active segments, a capacity of 101", (crowd(10, 7, 1000), 1, 1000), (crowd(10, 6, 1000), 1, 1000)),
-    Pair(19, 20, "overload starts again, a miss without overload", (crowd(9, 6, 15), 1, 1), (crowd(9, 6, 1000), 1, 1)),
+    Pair(18, Answer(20), "seven active segments, a miss without overload", (crowd(9, 7, 1000), 1, 20),
+         (crowd(9, 6, 1000), 1, 20)),
     Pair(19, 21, "overload starts again, a capacity above 40", (crowd(10, 6, 15), 1, 1000), (crowd(10, 6, 1000), 1, 1000)),
-    Pair(20, 21, "a miss without overload, a capacity of 101", (crowd(9, 6, 1000), 1, 1000), (crowd(10, 6, 1000), 1, 1000)),
+    Pair(19, Answer(20), "overload starts again, a miss without overload", (crowd(9, 6, 15), 1, 20),
+         (crowd(9, 6, 1000), 1, 20)),
+    Pair(19, Answer(7), "overload of no segment starts again, a miss without", (lowly(9, 9), 1, 7), (lowly(9, 10), 1, 7)),
+    Pair(21, Answer(1000), "a capacity of 101, a miss without overload", (crowd(9, 6, 1000), 1, 1000),
+         (crowd(9, 6, TIME), 1, 1000)),
+    Pair(21, Answer(390), "a capacity of 41, a miss without overload", (crowd(9, 6, 1000), 1, 391),
+         (crowd(9, 6, 1000), 1, 390)),
+    Pair(21, Answer(240), "a capacity of 41, 6 times 40 uses", (crowd(10, 6, 1000), 1, 391), (crowd(10, 6, 1000), 1, 390)),
+    Pair(21, Answer(0), "a capacity of 101, no bad combination", (apart(16, 1000), 1, 1000), (apart(16), 1, 1000)),
+    Pair(Answer(20), Answer(18), "a miss without overload, 18 uses", (crowd(9, 6, 1000), 1, 20), (crowd(10, 6, 1000), 1, 20)),
+    Pair(Answer(11), Answer(12), "k 11, 12 uses", (crowd(10, 6, TIME), 1, 11), (crowd(10, 6, TIME), 1, 13)),
 ]
 
 SEGMENT = [Pair(a, 12, "the table, unknown ids", (made, UNKNOWN, UNKNOWN, 1), (PLAIN, UNKNOWN, 1, 1))
@@ -739,7 +780,14 @@ def told_by_reader(call, told):
 
 
 def shown(told):
+    if isinstance(told, Answer):
+        return f"the answer {told.misses}"
     return f"{told.number} at {told.at}" if isinstance(told, Verdict) else str(told)
+
+
+def returned(told):
+    """What a query returns, and the figures that it answers with."""
+    return (0, [told.misses]) if isinstance(told, Answer) else (told, [])
 
 
 def calls(pairs):

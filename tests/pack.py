@@ -19,7 +19,7 @@ import struct
 import sys
 
 import orders
-from orders import backlog, edge, edge_of_second
+from orders import alone, apart, backlog, bursts, crowd, edge, edge_of_second, lowly
 from records import chain, stored
 from stored import ACCEPTED, NUMBERS, TIME, TOP, Verdict, records, verdict
 
@@ -37,6 +37,7 @@ KEYS = {  # of the cases of each file, one set of these; tests/cases/README.md h
     "faults": [REFUSED],
     "merge": [MERGE | {"table", "taken"}, MERGE | {"taken"}, MERGE | {"detail"}, MERGE | {"detail", "taken"}],
     "write": [{"rows", "room", "rc"}, {"rows", "room", "rc", "table"}],
+    "sieve": [{"table", "id", "k", "latency", "misses", "sieve"}],
 }
 
 # The sample table of document 01, and the published case study.
@@ -87,7 +88,7 @@ def told(case):
     if "text" in case:
         words = case["text"].split()
         return Verdict(int(words[1]), int(words[2])) if words[0] == "refused" else ACCEPTED
-    rc = case["rc"]
+    rc = case["misses"]["rc"] if "sieve" in case else case["rc"]
     # a save's number may be that of its result, a merge's that of any of its tables
     if rc == 27 or "buffer" in case and rc in NUMBERS or "ancestor" in case:
         return Verdict(None, None)
@@ -116,6 +117,25 @@ def cases(name):
     return found
 
 
+def answered(form, rc, figures):
+    """Answer buffer, return and answer of a query that answers with figures in this form."""
+    return {"answer": "5a" * struct.calcsize(form), "rc": rc, "after": "=" if rc else struct.pack(form, *figures).hex()}
+
+
+def told_by_sieve(case):
+    """What a case of sieve.jsonl tells of latency and of misses, each as a case of the query's own file."""
+    latency, misses = case["latency"], case["misses"]
+    asked = {"table": case["table"], "id": case["id"]}
+    return {"latency": {"tag": "latency", **asked, **answered("<IIIi", latency["rc"], latency.get("latency"))},
+            "misses": {"tag": "misses", **asked, "k": case["k"], **answered("<I", misses["rc"], [misses.get("misses")])}}
+
+
+def queries(name):
+    """The cases of latency.jsonl, misses.jsonl or segment.jsonl; after the first two, what sieve.jsonl tells of that query."""
+    told = [] if name == "segment" else [told_by_sieve(case)[name] for case in cases("sieve")]
+    return [case for case in cases(name) + told if case["rc"] != 27]
+
+
 def tables_in(case):
     """The tables that a case lends: none where a save's used length is above its buffer, three in a merge."""
     if "ancestor" in case:
@@ -138,7 +158,8 @@ def must_agree(name, case, table, found):
 def of_files():
     """Each different table of any file with its verdict, named after the first case that has it."""
     found = {}
-    for file in ("latency", "misses", "report", "save", "segment", "read", "faults", "merge"):  # the order of the packed cases
+    # the order of the packed cases
+    for file in ("latency", "misses", "report", "save", "segment", "read", "faults", "merge", "sieve"):
         for turn, case in enumerate(cases(file), 1):
             name = f"{file}.jsonl:{turn}"
             for table in tables_in(case):
@@ -166,28 +187,44 @@ def after(case):
 
 def segments():
     return [packed(1, case["rc"], [case["a"], case["b"], case["n"]] + after(case)[:2], bytes.fromhex(case["table"]))
-            for case in cases("segment") if case["rc"] != 27] + [
+            for case in queries("segment")] + [
         packed(1, number, query, table) for _, (table, *query), number in orders.calls(orders.SEGMENT)]
 
 
 def latencies():
     figures = [(bytes.fromhex(case["table"]), case["id"], case["rc"], *struct.unpack("<IIIi", bytes.fromhex(case["after"])[:16]))
                if case["rc"] == 0 else (bytes.fromhex(case["table"]), case["id"], case["rc"], 0, 0, 0, 0)
-               for case in cases("latency") if case["rc"] != 27]
+               for case in queries("latency")]
     figures += [(table, ident, number, 0, 0, 0, 0) for _, (table, ident), number in orders.calls(orders.LATENCY)]
     return [packed(2, number, [ident, k, latency, late, margin + TIME] if number == 0 else [ident], table)
             for table, ident, number, k, latency, late, margin in figures + LATENCIES]
 
 
-# (table, id, k, misses): the sample's and the case study's
-MISSES = [(SAMPLE, 1, 1, 3), (SAMPLE, 1, 10, 3), (SAMPLE, 1, 11, 4), (STUDY, 3, 3, 3)]
+# (table, id, k, misses)
+MISSES = [
+    # the sample's: 3 uses for k up to 10, 4 for 11
+    (SAMPLE, 1, 1, 1), (SAMPLE, 1, 2, 2), (SAMPLE, 1, 3, 3), (SAMPLE, 1, 4, 3), (SAMPLE, 1, 10, 3), (SAMPLE, 1, 11, 4),
+    # the case study's: 2 uses for k = 1, 3 for k = 3
+    (STUDY, 3, 1, 1), (STUDY, 3, 3, 3),
+    # a miss without overload: no other chain, overload without a segment, the third activation alone
+    (alone(9, 100), 1, 1, 1), (alone(9, 100), 1, 7, 7), (alone(9, 100), 1, 1000, 1000), (alone(10, 100), 1, 7, 0),
+    (lowly(9, 10), 1, 1000, 1000), (lowly(10, 10), 1, 1000, 0), (bursts(29), 1, 1, 1), (bursts(29), 1, 7, 7),
+    # 12 uses for every k
+    (crowd(10, 6, TIME), 1, 1, 1), (crowd(10, 6, TIME), 1, 12, 12), (crowd(10, 6, TIME), 1, 1000, 12),
+    # 2 uses, of 3 or 2 late activations each
+    (bursts(30), 1, 1, 1), (bursts(30), 1, 4, 4), (bursts(30), 1, 5, 5), (bursts(30), 1, 6, 6), (bursts(30), 1, 7, 6),
+    (bursts(31), 1, 3, 3), (bursts(31), 1, 4, 4), (bursts(31), 1, 5, 4),
+    # late, and each segment alone is not bad, or is: no use, or 4
+    (apart(16), 1, 10, 0), (apart(15), 1, 3, 3), (apart(15), 1, 10, 4),
+]
 
 
 def misses():
-    return ([packed(3, case["rc"], [case["id"], case["k"]] + after(case)[:1], bytes.fromhex(case["table"]))
-             for case in cases("misses") if case["rc"] != 27]
-            + [packed(3, number, [ident, k], table) for _, (table, ident, k), number in orders.calls(orders.MISSES)]
-            + [packed(3, 0, [ident, k, missed], table) for table, ident, k, missed in MISSES])
+    found = [(*orders.returned(told), *call) for _, call, told in orders.calls(orders.MISSES)]
+    found += [(0, [missed], table, ident, k) for table, ident, k, missed in MISSES]
+    return [packed(3, case["rc"], [case["id"], case["k"]] + after(case)[:1], bytes.fromhex(case["table"]))
+            for case in queries("misses")] + [
+        packed(3, number, [ident, k] + missed, table) for number, missed, table, ident, k in found]
 
 
 HEADER = "chain K latency late margin miss10\n"
@@ -202,6 +239,11 @@ REPORTS = [
     (backlog(1024, 0, 100), HEADER + "1 1024 1034 934 -934 r15\n2 1 1024 1 -924 r14\n"),
     (backlog(1025, 0, 100), HEADER + "1 r17\n2 1 1025 1 -925 r14\n"),
     (STUDY, HEADER + "4 1 175 0 25 0\n3 2 331 1 -131 5\n2 1 111 0 889 r14\n1 1 137 0 863 r14\n"),
+    # every activation of ten: missed without overload, by 12 uses; and a capacity of 41
+    (alone(9, 100), HEADER + "1 1 10 1 -1 10\n"),
+    (crowd(9, 6, 24), HEADER + "1 1 16 1 -7 10\n2 1 11 0 989 r14\n"),
+    (crowd(10, 6, 1000), HEADER + "1 1 16 1 -6 10\n2 1 11 0 989 r14\n"),
+    (crowd(9, 6, 23), HEADER + "1 1 16 1 -7 r21\n2 1 11 0 989 r14\n"),
     (b"", "refused 1 0\n"),
     (SAMPLE[:1], "refused 2 1\n"),
     (SAMPLE[:-1], "refused 2 139\n"),

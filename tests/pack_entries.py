@@ -148,26 +148,25 @@ def documented():
 # ---- Cases that only an order decides ----
 
 def ordered():
-    """Every call of orders.py: its entry, name, numbers, table, old and new record, and what it returns."""
+    """Every call of orders.py: its entry, name, numbers, table, old and new record, what it returns, and its figures."""
     for name, table, told in orders.calls(orders.READING):
-        yield "latency", name, (1,), table, b"", b"", told.number
+        yield "latency", name, (1,), table, b"", b"", told.number, []
     for entry, pairs in (("latency", orders.LATENCY), ("misses", orders.MISSES), ("segment", orders.SEGMENT)):
-        for name, (table, *numbers), rc in orders.calls(pairs):
-            yield entry, name, numbers, table, b"", b"", rc
+        for name, (table, *numbers), told in orders.calls(pairs):
+            yield entry, name, numbers, table, b"", b"", *orders.returned(told)
     for name, (buffer, used, old, new), rc in orders.calls(orders.SAVE):
-        yield "save", name, (used,), buffer, old, new, rc
+        yield "save", name, (used,), buffer, old, new, rc, []
 
 
 def two_refusals():
-    for entry, name, numbers, table, old, new, rc in ordered():
-        answer = lent(ANSWER_BYTES[entry])
-        after = bytes(4) if rc == 0 else None  # misses of 0
-        yield call(entry, name, numbers, rc, table, answer, after, old, new)
+    for entry, name, numbers, table, old, new, rc, figures in ordered():
+        after = struct.pack("<I", *figures) if rc == 0 else None
+        yield call(entry, name, numbers, rc, table, lent(ANSWER_BYTES[entry]), after, old, new)
 
 
 def short_answers():
     """27 before each other number: an answer buffer one byte too short, or none."""
-    for turn, (entry, name, numbers, table, old, new, rc) in enumerate(ordered()):
+    for turn, (entry, name, numbers, table, old, new, rc, _) in enumerate(ordered()):
         if entry != "latency" or rc not in NUMBERS:
             answer = lent(0 if turn % 5 == 0 else ANSWER_BYTES[entry] - 1)
             yield call(entry, f"27 before {name}", numbers, 27, table, answer, old=old, new=new)
@@ -313,6 +312,9 @@ def of_files():
     for name in ("latency", "misses", "segment", "save", "report"):
         for turn, case in enumerate(pack.cases(name), 1):
             yield from of_file(name, turn, case)
+    for turn, case in enumerate(pack.cases("sieve"), 1):
+        for told in pack.told_by_sieve(case).values():
+            yield from of_file("sieve", turn, told)
 
 
 def calls():
