@@ -10,6 +10,7 @@
 #include "packing.h"
 #include "words.h"
 
+#include <inttypes.h>
 #include <stdio.h>
 #include <stdlib.h>
 #include <string.h>
@@ -447,7 +448,12 @@ static void shape_cases(void)
         {{4, 5, 3, 4, 4, 4}, {26, 22, 36, 22, 39, 35}, 13},
         {{120, 887, 741, 462, 477, 289}, {35, 39, 31, 39, 39, 36}, 1712},
     };
-    static const unsigned limited[] = {1, 5, 6}; /* shapes that are asked with a k below their most uses too */
+    /* Shapes that are asked with a k below their most uses too. Of shape 5, 36 uses are found by using each combination in
+       turn as often as it fits, and there are 45. */
+    static const struct limited {
+        unsigned shape;
+        uint32_t k;
+    } limited[] = {{1, 30}, {5, 30}, {6, 30}, {5, 40}};
     char name[64];
     tables_used = 0;
     for (unsigned i = 0; i < sizeof shapes / sizeof shapes[0]; i++) {
@@ -455,8 +461,10 @@ static void shape_cases(void)
         measure_glpk(&shapes[i], measure_one(name, MISSES, keep(shaped(&shapes[i], 1000, 1)), 1, 1000, 0));
     }
     for (unsigned i = 0; i < sizeof limited / sizeof limited[0]; i++) {
-        snprintf(name, sizeof name, "misses, six segments, shape %u, k 30", limited[i]);
-        measure_one(name, MISSES, keep(shaped(&shapes[limited[i] - 1], 30, 1)), 1, 30, 0);
+        unsigned shape = limited[i].shape;
+        uint32_t k = limited[i].k;
+        snprintf(name, sizeof name, "misses, six segments, shape %u, k %" PRIu32, shape, k);
+        measure_one(name, MISSES, keep(shaped(&shapes[shape - 1], k, 1)), 1, k, 0);
     }
     measure_one("misses, six segments, shape 5, 8 late, k 10", MISSES, keep(shaped(&shapes[4], 10, 8)), 1, 10, 0);
 }

@@ -203,7 +203,7 @@ static uint64_t figure_of(const struct generated *table, uint32_t id, uint32_t k
     return figure;
 }
 
-/* What misses for k come from. Only of k itself the packing figure says more. */
+/* What misses for k come from. Where they are k, the packing figure tells. */
 static unsigned ground_of(const struct generated *table, uint32_t id, uint32_t k, uint32_t misses)
 {
     if (misses == 0)
@@ -229,7 +229,7 @@ static uint32_t ask_misses(const struct generated *table, uint32_t id, uint32_t 
     return misses;
 }
 
-/* For k, and where that does not limit the misses, for runs that just do not or just do. */
+/* For k; and where the misses are below it, for a run as long as they are, and for one less. */
 static void ask_around(const struct generated *table, uint32_t id, uint32_t k)
 {
     uint32_t misses = ask_misses(table, id, k);

@@ -216,7 +216,8 @@ uint32_t mishtodran_latency(const uint8_t *table, size_t table_len, uint32_t id,
                             uint8_t *answer, size_t answer_len);
 
 /* A bound on the deadline misses of chain `id` among any `k` activations in a row: 4 bytes of answer. The bound never
- * exceeds k. It is k where a deadline is missed without any overload, and also where overload may come that often.
+ * exceeds k. It is k where a deadline is missed even without overload, and where overload can make k activations or more
+ * late.
  * Refuses with 27, then a table's number, 12, 13, 14, 15, 16 or 17, 18, 19, 21. */
 uint32_t mishtodran_misses(const uint8_t *table, size_t table_len, uint32_t id, uint32_t k,
                            uint8_t *answer, size_t answer_len);

@@ -11,6 +11,7 @@
  *   all    nothing: every family of combinations once, for the choice of weightings alone, as many as are worth it (SEED and RUNS
  *          are not used; it takes a quarter of an hour)
  *
+ * In each run the greatest is looked for, and then the uses up to a number that is drawn too.
  * The greatest of each count is printed, with the smallest bad combinations (in octal) and the capacities where it was found first.
  * Where a packing is small its most uses are found by a plain search too: exit status 1 where the engine's differ. 2: it can't start. */
 #include "../compare/words.h"
@@ -159,11 +160,17 @@ static unsigned floor_of(unsigned n, unsigned v, unsigned most, unsigned idle)
     return d;
 }
 
-static unsigned ceiling(const unsigned *room)
+static unsigned total(const unsigned *room)
 {
-    unsigned r = 0;
+    unsigned all = 0;
     for (unsigned i = 0; i < SEGMENTS; i++)
-        r += room[i];
+        all += room[i];
+    return all;
+}
+
+static unsigned ceiling(const unsigned *room, unsigned limit)
+{
+    unsigned r = limit;
     for (unsigned v = 0; v < used && r > 0; v++) {
         unsigned all = weigh(v, room);
         unsigned d = floor_of(kept_count, v, HEAVIEST, all / r);
@@ -195,13 +202,18 @@ static unsigned lower_choices(unsigned v, unsigned last, const unsigned *room, u
     return y < x ? y : x;
 }
 
-static unsigned choices(unsigned last, const unsigned *room, unsigned need)
+static unsigned fitting(const unsigned *room, unsigned m, unsigned need)
 {
     unsigned x = need;
     for (unsigned i = 0; i < SEGMENTS; i++)
-        if (has(kept[last], i) && room[i] < x)
+        if (has(m, i) && room[i] < x)
             x = room[i];
-    x++;
+    return x;
+}
+
+static unsigned choices(unsigned last, const unsigned *room, unsigned need)
+{
+    unsigned x = fitting(room, kept[last], need) + 1;
     for (unsigned v = 0; v < used; v++)
         x = lower_choices(v, last, room, need, x);
     return x;
@@ -225,17 +237,43 @@ static int has_room(unsigned n, const unsigned *room, unsigned need)
     return 0;
 }
 
-static unsigned most_uses(const uint8_t *bad, const unsigned *room)
+static unsigned fullest(const unsigned *room, unsigned limit)
 {
-    memset(count, 0, sizeof count);
-    minimal(bad);
     choose();
     weighing = SEARCH;
-    unsigned need = ceiling(room);
+    unsigned need = ceiling(room, limit);
     while (!has_room(kept_count, room, need))
         need--;
     count[ALL] = count[SEARCH] + count[CHOICE];
     return need;
+}
+
+static unsigned plain_try(const unsigned *room, unsigned limit)
+{
+    unsigned left[SEGMENTS], found = 0;
+    memcpy(left, room, sizeof left);
+    for (unsigned n = kept_count; n-- > 0;) {
+        unsigned uses = fitting(left, kept[n], limit - found);
+        for (unsigned i = 0; i < SEGMENTS; i++)
+            left[i] -= uses * has(kept[n], i);
+        found += uses;
+    }
+    return found;
+}
+
+static unsigned uses_up_to(const uint8_t *bad, const unsigned *room, unsigned enough)
+{
+    memset(count, 0, sizeof count);
+    minimal(bad);
+    unsigned limit = enough < total(room) ? enough : total(room);
+    return plain_try(room, limit) == limit ? limit : fullest(room, limit);
+}
+
+static unsigned most_uses(const uint8_t *bad, const unsigned *room)
+{
+    memset(count, 0, sizeof count);
+    minimal(bad);
+    return fullest(room, total(room));
 }
 
 /* ---- The most uses by a plain search, for little room ---- */
@@ -347,20 +385,26 @@ static int runs(const char *mode, uint64_t seed, unsigned long number)
 {
     for (unsigned long run = 0; run < number; run++) {
         uint8_t bad[COMBINATIONS] = {0};
-        unsigned room[SEGMENTS] = {0}, all = 0;
+        unsigned room[SEGMENTS] = {0};
         state = (seed << 32 | 1) * 0xd1342543de82ef95 + run * 0x2545f4914f6cdd1d;
         if (!strcmp(mode, "any"))
             draw_any(bad, room);
         else
             draw_table(!strcmp(mode, "wide"), bad, room);
         unsigned most = most_uses(bad, room);
-        for (unsigned i = 0; i < SEGMENTS; i++)
-            all += room[i];
         char label[64];
         snprintf(label, sizeof label, "run %lu:", run);
         note(label, room);
-        if (all <= 2 * SEGMENTS && plain(kept_count, room) != most) {
+        if (total(room) <= 2 * SEGMENTS && plain(kept_count, room) != most) {
             fprintf(stderr, "worst: run %lu: the engine says %u, a plain search %u\n", run, most, plain(kept_count, room));
+            return 1;
+        }
+        unsigned enough = 1 + draw(most + 1);
+        unsigned found = uses_up_to(bad, room, enough);
+        snprintf(label, sizeof label, "run %lu, up to %u:", run, enough);
+        note(label, room);
+        if (found != (enough < most ? enough : most)) {
+            fprintf(stderr, "worst: run %lu: the engine says %u up to %u, and %u in all\n", run, found, enough, most);
             return 1;
         }
     }

@@ -1,8 +1,8 @@
 """Cases of the C entries, packed for tests/entries.c.
 
 A report of tests/cases has a table and its text alone: its buffers are made here, as long as the text, longer, or too short.
-After the cases of the files come those that document 01 tells (pack.py), those that only an order decides (orders.py), and
-answer buffers too short for each of them. Every table of all these is checked too. Then come the merges of pack_merge.py, each
+After the cases of the files come those that the documents tell or that follow from their words (pack.py), those that only an
+order decides (orders.py), and answer buffers too short for each of them. Every table of all these is checked too. Then come the merges of pack_merge.py, each
 with its conflicts one after the other, and the writes of pack_write.py. Last, every table and every result is read into rows, too
 few of them too, its records are found, and the rows that were read are written back.
 
@@ -128,21 +128,22 @@ def reports(name, turn, table, told):
     return found
 
 
-# ---- Cases of document 01 ----
+# ---- Cases by the documents' words ----
 
 def documented():
     for table, ident, rc, k, latency, late, margin in pack.LATENCIES:
         answer = lent(16 + 3)
         after = written(struct.pack("<IIIi", k, latency, late, margin), answer) if rc == 0 else None
-        yield call("latency", f"document 01, chain {ident}", (ident,), rc, table, answer, after)
+        yield call("latency", f"by the words: chain {ident}", (ident,), rc, table, answer, after)
     for table, ident, k, misses in pack.MISSES:
-        yield call("misses", f"document 01, chain {ident}", (ident, k), 0, table, lent(4), struct.pack("<I", misses))
-    for table, told in pack.REPORTS:
+        name = f"by the words: chain {ident}, k {k}, misses {misses}"
+        yield call("misses", name, (ident, k), 0, table, lent(4), struct.pack("<I", misses))
+    for turn, (table, told) in enumerate(pack.REPORTS, 1):
         told = told.encode("ascii")
         for more in (0, 1):
-            yield accepted_report(f"document 01, {more} bytes more", table, told, lent(len(told) + more), lent(4))
+            yield accepted_report(f"by the words: report {turn}, {more} bytes more", table, told, lent(len(told) + more), lent(4))
         for rc, room, answer in ((24, len(told) - 1, 4), (27, len(told) - 1, 3), (27, len(told), 0)):
-            yield call("report", f"document 01, {room} bytes of text", (), rc, table, lent(answer), text=lent(room))
+            yield call("report", f"by the words: report {turn}, {room} bytes of text", (), rc, table, lent(answer), text=lent(room))
 
 
 # ---- Cases that only an order decides ----

@@ -1,7 +1,6 @@
 -- The three demands, each closed by one theorem. Assumes nothing.
 use Rattle.table.proofs.Fields.{blames, refused-placed}
 use Rattle.segments.proofs.Answers.{answer-records}
-use Rattle.report_text.specs.Report.{missRun}
 use Rattle.report_text.proofs.Decimals.{decimal-value, decimal-first}
 use Rattle.demands.specs.Demands.{Demand1, Demand2, Demand3}
 use Rattle.demands.proofs.Entries.{every-entry}
@@ -10,7 +9,7 @@ use Rattle.demands.proofs.Merges.{merge-of-copies}
 use Rattle.demands.proofs.Rows.{rows-and-tables}
 use Rattle.demands.proofs.Figures.{counted, latency-means, latency-only}
 use Rattle.demands.proofs.Misses.{misses-mean, answers-right}
-use Rattle.demands.proofs.Runs.{within-run, longer-run}
+use Rattle.demands.proofs.Runs.{within-run, last-column, longer-run}
 use Rattle.demands.proofs.Others.{same-besides, reordered, ids-deadlines-gaps, regrouped}
 use Rattle.demands.proofs.Saves.{saved-deadline-or-gap}
 use Rattle.demands.proofs.Calls.{same-latency-call, same-misses-call}
@@ -26,7 +25,7 @@ demand-2 = record {
   only = latency-only;
   misses = misses-mean;
   within-run = within-run;
-  within-ten = λ s id e. within-run s id missRun e;
+  last-column = last-column;
   longer-run = longer-run;
   printed = λ n. (decimal-value n, decimal-first n);
   segment = answer-records;

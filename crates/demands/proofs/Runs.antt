@@ -3,6 +3,7 @@ use Prim.Native.Nat.{ℕ, _≤_}
 use mathlib.Core.Path.{_≡_, refl, subst}
 use mathlib.Core.Bool.{Bool, true, false}
 use mathlib.Core.List.{List}
+use mathlib.Core.Logic.{inl, inr}
 use lib.Dec.{eqb}
 use Rattle.search.specs.Choice.{_when_else_}
 use Rattle.table.specs.Bytes.{Bytes}
@@ -19,6 +20,8 @@ use Rattle.misses.specs.Misses.{overloadsOf, missesAt, missesIn, missesOf}
 use Rattle.misses.specs.declared.Answer.{Answer}
 use Rattle.misses.specs.declared.Answer.the-variants.{Misses, Refused}
 use Rattle.misses.proofs.Runs.{Within, UpTo, good-lists, beside-within, beside-rises}
+use Rattle.report_text.specs.Report.{missRun, missedText}
+use Rattle.demands.specs.Misses.{LastColumn}
 use Rattle.demands.proofs.Chains.{table-good}
 
 -- the asked chain of a table, if there is one, the views of the others, and the overload chains among them
@@ -49,18 +52,26 @@ module _ (s : List ℕ) (id : ℕ) where
       by (Faulty n place) t = tt
 
   -- never fewer in a longer run
-  answer-rises : Bytes s → (k m : ℕ) → k ≤ m → UpTo (missesOf s id k) (missesOf s id m)
+  answer-rises : Bytes s → (k long : ℕ) → k ≤ long → UpTo (missesOf s id k) (missesOf s id long)
   unfolding missesOf missesIn missesAt _when_else_ absent
-  answer-rises bytes k m longer = by (readTable s .verdict) refl absent
+  answer-rises bytes k long longer = by (readTable s .verdict) refl absent
     where
-      by : (v : Verdict) → readTable s .verdict ≡ v → (t : Bool) → UpTo (byVerdict Refused v (Refused 12 when t else missesAt (tableOf s) chain k)) (byVerdict Refused v (Refused 12 when t else missesAt (tableOf s) chain m))
+      by : (v : Verdict) → readTable s .verdict ≡ v → (t : Bool) → UpTo (byVerdict Refused v (Refused 12 when t else missesAt (tableOf s) chain k)) (byVerdict Refused v (Refused 12 when t else missesAt (tableOf s) chain long))
       by Accepted e true = tt
       by Accepted e false =
-          beside-rises b views os (good-lists b (others (tableOf s) chain) (others-good (tableOf s) (table-good (record { bytes = bytes; accepted = e })) chain)) k m longer
+          beside-rises b views os (good-lists b (others (tableOf s) chain) (others-good (tableOf s) (table-good (record { bytes = bytes; accepted = e })) chain)) k long longer
       by (Faulty n place) e t = tt
 
 pub within-run : (s : List ℕ) (id k : ℕ) {n : ℕ} → missesOf s id k ≡ Misses n → n ≤ k
 within-run s id k e = subst (Within k) e (answer-within s id k)
 
-pub longer-run : (s : List ℕ) → Bytes s → (id : ℕ) {k m n r : ℕ} → k ≤ m → missesOf s id k ≡ Misses n → missesOf s id m ≡ Misses r → n ≤ r
-longer-run s bytes id {k} {m} {n} {r} longer e f = subst (UpTo (Misses n)) f (subst (λ a. UpTo a (missesOf s id m)) e (answer-rises s id bytes k m longer))
+pub longer-run : (s : List ℕ) → Bytes s → (id : ℕ) {k long n r : ℕ} → k ≤ long → missesOf s id k ≡ Misses n → missesOf s id long ≡ Misses r → n ≤ r
+longer-run s bytes id {k} {long} {n} {r} longer e f = subst (UpTo (Misses n)) f (subst (λ a. UpTo a (missesOf s id long)) e (answer-rises s id bytes k long longer))
+
+-- the report's last column
+pub last-column : (s : List ℕ) (id : ℕ) → LastColumn (missedText (missesOf s id missRun))
+last-column s id = by (missesOf s id missRun) (answer-within s id missRun)
+  where
+    by : (a : Answer) → Within missRun a → LastColumn (missedText a)
+    by (Misses n) h = inl (n, h, refl)
+    by (Refused n) h = inr (n, refl)

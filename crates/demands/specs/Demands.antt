@@ -18,7 +18,7 @@ use Rattle.misses.specs.declared.Answer.{Answer as Missed}
 use Rattle.misses.specs.declared.Answer.the-variants.{Misses}
 use Rattle.saving.specs.Later.{State, stored, Edit, after}
 use Rattle.report_text.specs.Numbers.{decimal, valueFrom}
-use Rattle.report_text.specs.Report.{missRun}
+use Rattle.report_text.specs.Report.{missRun, missedText}
 use Rattle.editor.specs.Entry.{LatencyEntry, MissesEntry}
 use Rattle.demands.specs.Chains.{Has, chainOf, othersOf}
 use Rattle.demands.specs.Entries.{EveryEntry}
@@ -27,7 +27,7 @@ use Rattle.demands.specs.Merges.{MergeOfCopies}
 use Rattle.demands.specs.Rows.{RowsAndTables}
 use Rattle.demands.specs.Arrivals.{ArrivalRules}
 use Rattle.demands.specs.Figures.{Exactly}
-use Rattle.demands.specs.Misses.{MeansOf, Says, Right}
+use Rattle.demands.specs.Misses.{MeansOf, Says, LastColumn, Right}
 use Rattle.demands.specs.Others.{Besides, SameBesides, Unmoved, Reordered, SameWork, RegroupedTasks, DeadlineOrGap, SameCall}
 use Rattle.demands.specs.Starred.{sample}
 use Rattle.demands.specs.Witness.{altered}
@@ -59,10 +59,10 @@ pub record Demand2 : Type 0 where
   -- the miss count is the late activations per window times the greatest feasible packing of bad combinations, or k where that is smaller; and
   -- k where a deadline is missed without any overload (02, request 3)
   pub misses : {s : List ℕ} {id : ℕ} → Has s id → (k : ℕ) (a : Missed) → Exactly (missesOf s id k ≡ a) (Says (chainOf s id) (othersOf s id) k a)
-  -- so it never exceeds the run, nor 10 in the report, and never falls as the run grows
+  -- so it never exceeds the run, nor 10 in the report's last column, and never falls as the run grows
   pub within-run : (s : List ℕ) (id k : ℕ) {n : ℕ} → missesOf s id k ≡ Misses n → n ≤ k
-  pub within-ten : (s : List ℕ) (id : ℕ) {n : ℕ} → missesOf s id missRun ≡ Misses n → n ≤ 10
-  pub longer-run : (s : List ℕ) → Bytes s → (id : ℕ) {k m n r : ℕ} → k ≤ m → missesOf s id k ≡ Misses n → missesOf s id m ≡ Misses r → n ≤ r
+  pub last-column : (s : List ℕ) (id : ℕ) → LastColumn (missedText (missesOf s id missRun))
+  pub longer-run : (s : List ℕ) → Bytes s → (id : ℕ) {k long n r : ℕ} → k ≤ long → missesOf s id k ≡ Misses n → missesOf s id long ≡ Misses r → n ≤ r
   -- the report prints a figure in decimal: the digits read back as the figure, and the first is no 0 but in 0 itself
   pub printed : (n : ℕ) → (valueFrom 0 (decimal n) ≡ n) × (0 < n → 48 < getD (decimal n) 0 0)
   -- an active segment is handed back as the records of its tasks

@@ -23,6 +23,8 @@ use Rattle.misses.specs.Bad.{withCost}
 use Rattle.misses.specs.Misses.{missesOf}
 use Rattle.misses.specs.declared.Answer.{Answer}
 use Rattle.misses.specs.declared.Answer.the-variants.{Misses, Refused}
+use Rattle.report_text.specs.Numbers.{decimal}
+use Rattle.report_text.specs.Report.{refusalText}
 use Rattle.demands.specs.Chains.{chainOf, othersOf}
 use Rattle.demands.specs.Equation.{equation, unmarked}
 use Rattle.demands.specs.Figures.{Exactly, NoWindow, NoClose, Closes, Means}
@@ -131,6 +133,10 @@ module _ (b : Row) (l : List Row) where
     always : (f : Figured k) → 1 ≤ f .late → AtMostSix → Once f → Capped f → IsBad (f .close) 0 → Says k (Misses k)
     -- the smaller of k and the packing figure: late times the most uses that any packing has
     packed : (f : Figured k) (uses : ℕ) → 1 ≤ f .late → AtMostSix → Once f → Capped f → Fine f → Most f uses → Says k (Misses (min k (f .late * uses)))
+
+-- what the report has for the misses: a number up to 10, or `r` and a refusal
+abbrev pub LastColumn : List ℕ → Type 0
+LastColumn text = ((n : ℕ) × (n ≤ 10) × (text ≡ decimal n)) ⊎ ((n : ℕ) × (text ≡ refusalText n))
 
 -- a latency answer is what the words say of the chain with the id
 abbrev pub MeansOf : List ℕ → ℕ → Latency → Type 0

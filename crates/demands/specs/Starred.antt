@@ -1,4 +1,4 @@
--- The starred cases of document 01 in a single list, over the stored tables' bytes.
+-- The starred cases of document 01 in a single list, over the stored tables' bytes; k = 1 as document 02, request 3, has it.
 use Prim.Native.Nat.{ℕ}
 use mathlib.Core.Path.{_≡_}
 use mathlib.Core.Bool.{_||_}

@@ -1,4 +1,4 @@
--- What the miss query answers, case by case, in the order of 01. Assumes nothing.
+-- What the miss query answers, case by case, in the documents' order. Assumes nothing.
 use Prim.Native.Nat.{ℕ, zero, suc, _≤_, _<_, min}
 use mathlib.Core.Path.{_≡_, refl, ap, sym, _∙_}
 use mathlib.Core.Bool.{true, false, not}

@@ -90,9 +90,6 @@ module _ {t : Table} (good : GoodTable t) (chain : ℕ) (there : chain < t .coun
       twice : again ≡ some (starts last) os
       twice = starting ∙ ap (some (starts last)) beside
 
-      pub judged-few : Few p
-      judged-few = held-few (largest b k + latency) b (others t chain) (others-good t good chain) p is few
-
       pub judged-again : again ≡ true → Refused 19 ≡ answer
       judged-again e = sym (starts-again b views os k close latency late last some-late few (sym twice ∙ e))
 

@@ -1,6 +1,5 @@
 -- How the misses go with the run: there are never more than k, and a longer run never has fewer. Assumes nothing.
 use Prim.Native.Nat.{ℕ, zero, suc, _+_, _*_, _-_, _≤_, min}
-use mathlib.Core.Path.{_≡_, subst}
 use mathlib.Core.Bool.{Bool, true, false}
 use mathlib.Core.List.{List, [], _∷_, _++_, map}
 use native.Mathlib.Omega.{arith}
@@ -92,33 +91,33 @@ module _ (b : Row) (views : List View) (os : List Overload) where
   unfolding missesBeside
   beside-within k = number-within k (earlyOf b k) _ (bound-within k (boundOf b views .answer) (boundOf b views .last))
 
-  module _ (lists : All (λ o. GoodDistances (o .list)) os) (k m : ℕ) (longer : k ≤ m) where
-    room-grows : (latency : ℕ) → Below (roomOf b os k latency) (roomOf b os m latency)
+  module _ (lists : All (λ o. GoodDistances (o .list)) os) (k long : ℕ) (longer : k ≤ long) where
+    room-grows : (latency : ℕ) → Below (roomOf b os k latency) (roomOf b os long latency)
     unfolding roomOf largest
     room-grows latency =
-        let less : k - 1 ≤ m - 1 = omega arith in
+        let less : k - 1 ≤ long - 1 = omega arith in
         capacities-grow os lists _ _ (omega (arith, mul-le-mul-right (b .gap) less))
 
-    missed-rises : (close latency late : ℕ) → missedOf b views os k close latency late ≤ missedOf b views os m close latency late
+    missed-rises : (close latency late : ℕ) → missedOf b views os k close latency late ≤ missedOf b views os long close latency late
     unfolding missedOf packingFigure _when_else_
     missed-rises close latency late = go (badOf b views os close 0)
       where
         uses : ℕ → ℕ
         uses k = mostUses (badOf b views os close) (λ i. getD (roomOf b os k latency) i 0)
 
-        more : late * uses k ≤ late * uses m
-        more = mul-le-mul-left late (most-rises (badOf b views os close) (badOf b views os close) (λ i. getD (roomOf b os k latency) i 0) (λ i. getD (roomOf b os m latency) i 0) (λ x s h e. e) (λ i h. room-grows latency i))
+        more : late * uses k ≤ late * uses long
+        more = mul-le-mul-left late (most-rises (badOf b views os close) (badOf b views os close) (λ i. getD (roomOf b os k latency) i 0) (λ i. getD (roomOf b os long latency) i 0) (λ x s h e. e) (λ i h. room-grows latency i))
 
-        go : (t : Bool) → (k when t else min k (late * uses k)) ≤ (m when t else min m (late * uses m))
+        go : (t : Bool) → (k when t else min k (late * uses k)) ≤ (long when t else min long (late * uses long))
         go true = longer
         go false = omega (arith, more)
 
-    figures-rise : (close latency late last : ℕ) → UpTo (byFigures b views os k close latency late last) (byFigures b views os m close latency late last)
+    figures-rise : (close latency late last : ℕ) → UpTo (byFigures b views os k close latency late last) (byFigures b views os long close latency late last)
     unfolding byFigures
     figures-rise close latency late last =
-        let P : Answer → Type 0 = λ a. UpTo a (byFigures b views os m close latency late last) in
+        let P : Answer → Type 0 = λ a. UpTo a (byFigures b views os long close latency late last) in
         let Q : Answer → Type 0 = UpTo (Misses (missedOf b views os k close latency late)) in
-        when-cases P _ (λ e. none-upto (byFigures b views os m close latency late last)) (λ e.
+        when-cases P _ (λ e. none-upto (byFigures b views os long close latency late last)) (λ e.
         when-cases P _ (λ f. tt) (λ f.
         when-cases P _ (λ f. tt) (λ f.
         when-cases P _ (λ f. tt) (λ f.
@@ -127,7 +126,7 @@ module _ (b : Row) (views : List View) (os : List Overload) where
         when-cases Q _ (λ h. tt) (λ h.
         when-cases Q _ (λ h. tt) (λ h. missed-rises close latency late))))))))
 
-    bound-rises : (x : Bound) (last : ℕ) → UpTo (byBound b views os k x last) (byBound b views os m x last)
+    bound-rises : (x : Bound) (last : ℕ) → UpTo (byBound b views os k x last) (byBound b views os long x last)
     bound-rises (Figures close latency late margin) last = figures-rise close latency late last
     bound-rises (Unbounded n) last = tt
 
@@ -138,6 +137,6 @@ module _ (b : Row) (views : List View) (os : List Overload) where
     number-rises (suc n) r a c h = tt
 
     -- never fewer in a longer run
-    pub beside-rises : UpTo (missesBeside b views os k) (missesBeside b views os m)
+    pub beside-rises : UpTo (missesBeside b views os k) (missesBeside b views os long)
     unfolding missesBeside
-    beside-rises = number-rises (earlyOf b k) (earlyOf b m) _ _ (bound-rises (boundOf b views .answer) (boundOf b views .last))
+    beside-rises = number-rises (earlyOf b k) (earlyOf b long) _ _ (bound-rises (boundOf b views .answer) (boundOf b views .last))

@@ -1,4 +1,4 @@
-// Deadline misses (document 01, 'Misses'): combinations of overload active segments, the bad ones, and the miss query.
+// Deadline misses (document 01, 'Misses', and document 02, request 3): combinations of overload active segments, the bad ones, and the miss query.
 mod asking;
 mod gathering;
 mod pricing;

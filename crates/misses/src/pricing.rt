@@ -9,7 +9,7 @@ ghost use mathlib.Core.List.{List};
 ghost use Prim.Native.Nat.{ℕ, _^_, _≤_, _<_};
 ghost use lib.ListN.{getD};
 ghost use Rattle.table.specs.Limits.{maxOverloads};
-ghost use Rattle.packing.specs.Packing.{bit, combinations};
+ghost use Rattle.packing.specs.Packing.{combinations};
 ghost use Rattle.misses.specs.code.Held.{piecesAt, agreesAt, agreesAfter, priceOf, Few, piecesIn};
 ghost use Rattle.segments.specs.code.Held.{dearest};
 

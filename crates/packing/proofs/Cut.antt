@@ -8,7 +8,7 @@ use native.Mathlib.Omega.{arith}
 use native.Mathlib.Nat.{eq-or-lt-of-le, mul-le-mul-left, le-div-iff-mul-le}
 use lib.ListN.{getD}
 use Rattle.packing.specs.Packing.{bit, sumTo}
-use Rattle.packing.specs.code.Engine.{nth, weight, Floor, Packed, Ceiling}
+use Rattle.packing.specs.code.Engine.{nth, weight, Floor, Packed, Lowers}
 use Rattle.packing.proofs.Sums.{sumTo-ext}
 use Rattle.packing.proofs.Linear.{all-weigh, each-weighs}
 
@@ -53,14 +53,16 @@ module _ (kept shares : List ℕ) (n v d : ℕ) (f : Floor kept shares n v d) (r
       omega (arith, a, b)
 
 -- a lower ceiling: d uses for each use weigh no more than the room
-pub ceiling-low : {kept shares : List ℕ} {n v d r s all enough : ℕ} {room : ℕ → ℕ} → Floor kept shares n v d → all ≡ weight shares v room → 0 < d
-    → s ≡ all / d → s ≤ r → Ceiling kept n room enough r → Ceiling kept n room enough s
-ceiling-low {kept} {shares} {n} {v} {d} {r} {s} {all} {enough} {room} f e some q l c = record {
-  few = omega (arith, c .few);
-  bound = λ k m h.
-      let w = weighs-all kept shares n v d f room (h .uses) (h .packed) in
-      let t : k * d ≤ all = omega (arith, ap (λ y. d * y) (h .total)) in
-      rw q (le-div-iff-mul-le some .1 t);
+pub ceiling-low : {kept shares : List ℕ} {n v d r s all : ℕ} {room : ℕ → ℕ} → Floor kept shares n v d → all ≡ weight shares v room → 0 < d
+    → s ≡ all / d → s ≤ r → Lowers kept n room r s
+ceiling-low {kept} {shares} {n} {v} {d} {r} {s} {all} {room} f e some q l = record {
+  lower = λ limit c. record {
+    few = omega (arith, c .few);
+    bound = λ k m h.
+        let w = weighs-all kept shares n v d f room (h .uses) (h .packed) in
+        let t : k * d ≤ all = omega (arith, ap (λ y. d * y) (h .total)) in
+        rw q (le-div-iff-mul-le some .1 t);
+  };
 }
 
 -- uses of the kept combination `last` that the weight of the room rules out, where the first last + 1 have `need` uses in all

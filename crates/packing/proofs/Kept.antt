@@ -13,7 +13,7 @@ use lib.Bits.{bitAnd, and-self}
 use borrow.Author.Tests.{eqb-true, eq-eqb}
 use Rattle.search.proofs.Choice.{true-not-false, lt-or-le}
 use Rattle.search.proofs.Find.{first-miss, first-hit}
-use Rattle.packing.specs.Packing.{bit, sumTo, usable, Reached}
+use Rattle.packing.specs.Packing.{bit, usable, Reached}
 use Rattle.packing.specs.Most.{mostUses, flagged}
 use Rattle.packing.specs.code.Engine.{nth, keptInside, keptPart, Kept, HasRoom, MostUpTo}
 use Rattle.packing.proofs.Bits.{inside-bits}
@@ -45,6 +45,10 @@ kept-start bad kept size = record {
   bads = λ j l. absurd (omega arith);
   parts = λ x l u. absurd (omega (arith, usable-some (flagged bad) x u));
 }
+
+-- they are no more than there are
+pub kept-few : {bad kept : List ℕ} {count m : ℕ} → Kept bad kept count m → count ≤ 64
+kept-few k = omega (arith, k .few, k .below)
 
 module _ {bad kept : List ℕ} {count m : ℕ} (k : Kept bad kept count m) (l : m < 64) where
   -- m is not kept: it is not bad, or it has a kept part
@@ -121,15 +125,15 @@ module _ {bad kept : List ℕ} {count : ℕ} (k : Kept bad kept count 64) {room 
         total = turned-total 64 count p u inside ∙ r .total;
       }
 
--- so the most uses of kept combinations that have room are the most of any packing
-pub kept-up-to : {bad kept : List ℕ} {count enough n : ℕ} {room : ℕ → ℕ} → Kept bad kept count 64 → MostUpTo kept count room enough n
-    → n ≡ min enough (mostUses (flagged bad) room)
-kept-up-to {bad} {kept} {count} {enough} {n} {room} k m =
+-- so the most uses of kept combinations that have room, up to a limit, are the most of any packing up to it
+pub kept-up-to : {bad kept : List ℕ} {count limit n : ℕ} {room : ℕ → ℕ} → Kept bad kept count 64 → MostUpTo kept count room limit n
+    → n ≡ min limit (mostUses (flagged bad) room)
+kept-up-to {bad} {kept} {count} {limit} {n} {room} k m =
     let most = mostUses (flagged bad) room in
     let g = most-greatest (flagged bad) room in
     let all = reached-kept k (g .holds) in
     let above : n ≤ most = g .above n (kept-reached k (m .fits)) in
     ⊎-elim
-    (λ l. omega (arith, above, m .ceiling .few, m .ceiling .bound enough (omega arith) (fewer-fit enough (omega arith) all)))
+    (λ l. omega (arith, above, m .ceiling .few, m .ceiling .bound limit (omega arith) (fewer-fit limit (omega arith) all)))
     (λ l. omega (arith, above, m .ceiling .bound most l all))
-    (lt-or-le enough most)
+    (lt-or-le limit most)

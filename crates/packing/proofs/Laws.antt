@@ -9,9 +9,8 @@ use native.Mathlib.Nat.{mul-le-mul-left}
 use borrow.Author.Tests.{lt-ltb}
 use Rattle.packing.specs.Packing.{bit, sumTo, usable, Packing}
 use Rattle.packing.specs.Most.{mostUses}
-use Rattle.packing.proofs.Sums.{sumTo-mono, sumTo-zero, sumTo-bound}
+use Rattle.packing.proofs.Sums.{sumTo-mono, sumTo-zero}
 use Rattle.packing.proofs.Linear.{usable-some}
-use Rattle.packing.proofs.Most.{most-room}
 use Rattle.packing.proofs.Carry.{carries-most}
 
 pub usable-bad : (bad : ℕ → Bool) (m : ℕ) → usable bad m ≡ true → bad m ≡ true
@@ -49,10 +48,6 @@ most-same bad other room rest h e =
     let a : mostUses bad room ≤ mostUses other rest = most-rises bad other room rest (λ m s l b. sym (h m s l) ∙ b) (λ i l. omega (arith, e i l)) in
     let b : mostUses other rest ≤ mostUses bad room = most-rises other bad rest room (λ m s l b. h m s l ∙ b) (λ i l. omega (arith, e i l)) in
     omega arith
-
--- with capacities up to c
-pub most-bound : (bad : ℕ → Bool) (room : ℕ → ℕ) (c : ℕ) → ((i : ℕ) → i < 6 → room i ≤ c) → mostUses bad room ≤ 6 * c
-most-bound bad room c h = omega (arith, most-room bad room, sumTo-bound 6 c room h)
 
 -- the active segment i after a renumbering: it was the active segment j, whose capacity is no more, or no combination has it
 abbrev pub Renumbered : (bad : ℕ → Bool) (room rest turn : ℕ → ℕ) → ℕ → Type 0

@@ -29,11 +29,6 @@ unfolding sumTo
 sumTo-zero zero f z = refl
 sumTo-zero (suc n) f z = omega (arith, sumTo-zero n f (λ i l. z i (omega arith)), z n (omega arith))
 
-pub sumTo-bound : (n b : ℕ) (f : ℕ → ℕ) → ((i : ℕ) → i < n → f i ≤ b) → sumTo n f ≤ n * b
-unfolding sumTo
-sumTo-bound zero b f h = omega arith
-sumTo-bound (suc n) b f h = omega (arith, sumTo-bound n b f (λ i l. h i (omega arith)), h n (omega arith))
-
 pub sumTo-add : (n : ℕ) (f g : ℕ → ℕ) → sumTo n (λ i. f i + g i) ≡ sumTo n f + sumTo n g
 unfolding sumTo
 sumTo-add zero f g = refl

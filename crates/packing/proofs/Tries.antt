@@ -60,14 +60,14 @@ fewer-fit {kept} {n} {k} {room} most l h = record {
     fewer : (j : ℕ) → firstUses most (h .uses) j ≤ h .uses j
     fewer j = omega arith
 
--- no more than `enough`
-pub ceiling-start : {kept : List ℕ} {n enough : ℕ} {room : ℕ → ℕ} → Ceiling kept n room enough enough
+-- no more than `limit`
+pub ceiling-start : {kept : List ℕ} {n limit : ℕ} {room : ℕ → ℕ} → Ceiling kept n room limit limit
 ceiling-start = record { few = omega arith; bound = λ k l h. l }
 
 -- one use less
-pub ceiling-fewer : {kept : List ℕ} {n r enough : ℕ} {room : ℕ → ℕ} → Ceiling kept n room enough r → (HasRoom kept n room r → ⊥)
-    → Ceiling kept n room enough (r - 1)
-ceiling-fewer {kept} {n} {r} {enough} {room} c none = record {
+pub ceiling-fewer : {kept : List ℕ} {n r limit : ℕ} {room : ℕ → ℕ} → Ceiling kept n room limit r → (HasRoom kept n room r → ⊥)
+    → Ceiling kept n room limit (r - 1)
+ceiling-fewer {kept} {n} {r} {limit} {room} c none = record {
   few = omega (arith, c .few);
   bound = λ k l h. ⊎-elim (λ e. absurd (none (rw e at h))) (λ l. omega arith) (eq-or-lt-of-le (c .bound k l h));
 }

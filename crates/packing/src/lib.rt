@@ -10,17 +10,17 @@
 // 4. Whether so many uses have room: the last kept combination is used as often as nothing rules out, then once less, and so on, and
 //    the rest of the uses is left to the combinations before it. Its own room and the weights rule uses out.
 // 5. Where no more than some number of uses is asked for, no more are looked for. One plain try comes first then: where each
-//    combination in turn, used as often as it fits, has so many, no weights are needed.
+//    combination in turn, used as often as it fits, has so many uses, no weights are needed.
 // Weights are sound whatever they are: a wrong digit in the table, or a bad choice, costs time and never changes the answer.
 mod masks;
 mod weights;
 
 pub use masks::has;
 ghost use mathlib.Core.Path.{_≡_};
-ghost use Prim.Native.Nat.{ℕ, _≤_, _<_, min};
+ghost use Prim.Native.Nat.{_≤_, _<_, min};
 ghost use Rattle.packing.specs.Packing.{sumTo, combinations};
 ghost use Rattle.packing.specs.Most.{mostUses, flagged, capacity};
-ghost use Rattle.packing.specs.code.Engine.{HasRoom, Tells, Ceiling, MostUpTo, Choices, maxRoom, maxChosen, maxWeight};
+ghost use Rattle.packing.specs.code.Engine.{HasRoom, Tells, Ceiling, Lowers, MostUpTo, Choices, maxRoom, maxChosen, maxWeight};
 ghost use Rattle.table.specs.Limits.{maxOverloads};
 use table::Table;
 use table::u32_from_u8;
@@ -57,7 +57,7 @@ fn lower_ceiling(
     r: u32,
 ) -> u32
     requires { ⌜ (count ≤ combinations) × (v < maxChosen) ⌝ }
-    ensures { λ s. ⌜ ((enough : ℕ) → Ceiling (now (kept .entry)) count (capacity (now (room .entry))) enough r → Ceiling (now (kept .entry)) count (capacity (now (room .entry))) enough s) ⌝ }
+    ensures { λ s. ⌜ Lowers (now (kept .entry)) count (capacity (now (room .entry))) r s ⌝ }
 {
     if r == 0 {
         return r;
@@ -71,19 +71,19 @@ fn lower_ceiling(
     if most < r { most } else { r }
 }
 
-// The linear bound: no packing of the kept combinations that has up to `enough` uses has more.
+// The linear bound: no packing of the kept combinations that has up to `limit` uses has more.
 fn ceiling(
     kept: &[usize; COMBINATIONS],
     count: usize,
     shares: &[u8; weights::SHARES],
     used: usize,
     room: &[u8; Table::OVERLOADS],
-    enough: u32,
+    limit: u32,
 ) -> u32
     requires { ⌜ (count ≤ combinations) × (used ≤ maxChosen) ⌝ }
-    ensures { λ r. ⌜ Ceiling (now (kept .entry)) count (capacity (now (room .entry))) enough r ⌝ }
+    ensures { λ r. ⌜ Ceiling (now (kept .entry)) count (capacity (now (room .entry))) limit r ⌝ }
 {
-    let mut r = enough;
+    let mut r = limit;
     let mut v: usize = 0;
     while v < used {
         r = lower_ceiling(kept, count, shares, v, room, r);
@@ -210,35 +210,35 @@ fn has_room(
     false
 }
 
-// The most uses of the kept combinations, up to `enough`. From the linear bound downwards, the first number of uses that have room.
+// The most uses of the kept combinations, up to `limit`. From the linear bound downwards, the first number of uses that have room.
 fn fullest(
     kept: &[usize; COMBINATIONS],
     count: usize,
     room: &[u8; Table::OVERLOADS],
-    enough: u32,
+    limit: u32,
 ) -> u32
-    requires { ⌜ (count ≤ combinations) × (enough ≤ maxRoom) ⌝ }
-    ensures { λ r. ⌜ MostUpTo (now (kept .entry)) count (capacity (now (room .entry))) enough r ⌝ }
+    requires { ⌜ (count ≤ combinations) × (limit ≤ maxRoom) ⌝ }
+    ensures { λ r. ⌜ MostUpTo (now (kept .entry)) count (capacity (now (room .entry))) limit r ⌝ }
 {
     let mut shares = [0u8; weights::SHARES];
     let used = weights::choose(kept, count, &mut shares);
-    let mut need = ceiling(kept, count, &shares, used, room, enough);
+    let mut need = ceiling(kept, count, &shares, used, room, limit);
     while !has_room(kept, &shares, used, count, *room, need) {
         need -= 1;
     }
     need
 }
 
-// How many uses one plain try packs, up to `enough`: from the last kept combination on, each as often as it fits in the room that is
+// How many uses one plain try packs, up to `limit`: from the last kept combination on, each as often as it fits in the room that is
 // left. There may be room for more.
 fn plain_try(
     kept: &[usize; COMBINATIONS],
     count: usize,
     room: &[u8; Table::OVERLOADS],
-    enough: u32,
+    limit: u32,
 ) -> u32
-    requires { ⌜ (count ≤ combinations) × (enough ≤ maxRoom) ⌝ }
-    ensures { λ r. ⌜ (r ≤ enough) × HasRoom (now (kept .entry)) count (capacity (now (room .entry))) r ⌝ }
+    requires { ⌜ (count ≤ combinations) × (limit ≤ maxRoom) ⌝ }
+    ensures { λ r. ⌜ HasRoom (now (kept .entry)) count (capacity (now (room .entry))) r ⌝ }
 {
     let mut left = *room;
     let mut found: u32 = 0;
@@ -246,13 +246,14 @@ fn plain_try(
     while 0 < n {
         n -= 1;
         let m = kept[n];
-        let uses = masks::fitting(&left, m, enough - found);
+        let uses = masks::fitting(&left, m, limit - found);
         left = masks::spend(&left, m, uses);
         found += uses;
     }
     found
 }
 
+// The smaller of two numbers.
 fn smaller(a: u32, b: u32) -> u32
     ensures { λ r. ⌜ r ≡ min a b ⌝ }
 {
@@ -266,16 +267,18 @@ pub fn uses_up_to(bad: &[u8; COMBINATIONS], room: &[u8; Table::OVERLOADS], enoug
 {
     let mut kept = [0usize; COMBINATIONS];
     let count = masks::minimal(bad, &mut kept);
-    let most = smaller(enough, total(room));
-    if plain_try(&kept, count, room, most) == most {
-        return most;
+    let limit = smaller(enough, total(room));
+    if plain_try(&kept, count, room, limit) == limit {
+        return limit;
     }
-    fullest(&kept, count, room, most)
+    fullest(&kept, count, room, limit)
 }
 
-// The most uses any packing has: there are never more than all the room there is.
+// The most uses any packing has: the same without such a number, since there are never more than all the room there is.
 pub fn most_uses(bad: &[u8; COMBINATIONS], room: &[u8; Table::OVERLOADS]) -> u32
     ensures { λ r. ⌜ r ≡ mostUses (flagged (now (bad .entry))) (capacity (now (room .entry))) ⌝ }
 {
-    uses_up_to(bad, room, total(room))
+    let mut kept = [0usize; COMBINATIONS];
+    let count = masks::minimal(bad, &mut kept);
+    fullest(&kept, count, room, total(room))
 }

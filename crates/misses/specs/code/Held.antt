@@ -90,11 +90,12 @@ pub record Asked (b : Row) (k : ℕ) (f : Figures) : Type 0 where
 abbrev pub figuresAt : Table → ℕ → ℕ → Figures → Answer
 figuresAt t chain k f = byFigures (rowOf t chain) (viewsOf t chain) (overloadsOf t chain) k (f .close) (f .latency) (f .late) (f .last)
 
+-- and how many are missed of it, where nothing is refused
 abbrev pub missedAt : Table → ℕ → ℕ → Figures → ℕ
 missedAt t chain k f = missedOf (rowOf t chain) (viewsOf t chain) (overloadsOf t chain) k (f .close) (f .latency) (f .late)
 
--- nothing is refused: some activation is late, and the active segments held are all that there are beside the chain, six or fewer, none
--- with a capacity above its limit
+-- what the count of these goes by, all of it known where nothing is refused: some activation is late, and the active segments held are
+-- all that there are beside the chain, six or fewer, none with a capacity above its limit
 pub record Admitted (t : Table) (chain k : ℕ) (f : Figures) (p : Pieces) : Type 0 where
   pub late : 1 ≤ f .late
   pub all : p ≡ gathered (largest (rowOf t chain) k + f .latency) (overloadsOf t chain)

@@ -8,10 +8,10 @@ use Rattle.packing.proofs.ceiling.Statement.{statement}
 use Rattle.packing.proofs.ceiling.Tie as tie
 
 abbrev Inv-loop : tie.InvT-loop
-Inv-loop kept count shares used room enough r₀ v₀ r v = (v ≤ used) × Ceiling kept count (capacity room) enough r
+Inv-loop kept count shares used room limit r₀ v₀ r v = (v ≤ used) × Ceiling kept count (capacity room) limit r
 
 abbrev μ-loop : tie.MeasureT-loop
-μ-loop kept count shares used room enough r₀ v₀ r v = used - v
+μ-loop kept count shares used room limit r₀ v₀ r v = used - v
 
 loop-holds : tie.Need-loop-holds Inv-loop μ-loop
 loop-holds c = (search needs, ceiling-start)
@@ -26,7 +26,7 @@ loop-less : tie.Need-loop-less Inv-loop μ-loop
 loop-less c = search needs
 
 loop-again : tie.Need-loop-again Inv-loop μ-loop
-loop-again c = (search needs, c .lower-ceiling .ensures _ (c .before .before .loop .inv .1))
+loop-again c = (search needs, c .lower-ceiling .ensures .lower _ (c .before .before .loop .inv .1))
 
 returns : tie.Need-returns Inv-loop μ-loop
 returns c = c .before .loop .inv .1

@@ -1,4 +1,4 @@
--- No packing has more than `need` uses, of those up to `enough`: first by the linear bound, then since `need` uses have no room.
+-- No packing has more than `need` uses, of those up to `limit`: first by the linear bound, then since `need` uses have no room.
 use borrow.Author.Needs.{needs}
 use native.Mathlib.Omega.{arith}
 use borrow.Author.Tests.{not-true, not-false}
@@ -9,10 +9,10 @@ use Rattle.packing.proofs.fullest.Statement.{statement}
 use Rattle.packing.proofs.fullest.Tie as tie
 
 abbrev Inv-loop : tie.InvT-loop
-Inv-loop kept count room enough shares used need₀ need = Ceiling kept count (capacity room) enough need
+Inv-loop kept count room limit shares used need₀ need = Ceiling kept count (capacity room) limit need
 
 abbrev μ-loop : tie.MeasureT-loop
-μ-loop kept count room enough shares used need₀ need = need
+μ-loop kept count room limit shares used need₀ need = need
 
 -- the loop, from a turn of it
 abbrev turn-at : tie.After-has-room Inv-loop μ-loop → tie.At-loop Inv-loop μ-loop

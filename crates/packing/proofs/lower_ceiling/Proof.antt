@@ -7,7 +7,7 @@ use Rattle.packing.proofs.lower_ceiling.Statement.{statement}
 use Rattle.packing.proofs.lower_ceiling.Tie as tie
 
 returns : tie.Need-returns
-returns c = λ enough h. h
+returns c = record { lower = λ limit h. h }
 
 weigh-requires : tie.Need-weigh-requires
 weigh-requires c κs = search needs
@@ -19,16 +19,16 @@ floor-requires : tie.Need-floor-requires
 floor-requires c κs = search needs
 
 returns-2 : tie.Need-returns-2
-returns-2 c = λ enough h. h
+returns-2 c = record { lower = λ limit h. h }
 
 div-most : tie.Need-div-most
 div-most c = search needs
 
 returns-3 : tie.Need-returns-3
-returns-3 c = λ enough h. ceiling-low (c .before .before .floor .ensures .0) (c .before .before .before .weigh .ensures .0) (omega (arith, c .before .if2 .left)) refl (omega arith) h
+returns-3 c = ceiling-low (c .before .before .floor .ensures .0) (c .before .before .before .weigh .ensures .0) (omega (arith, c .before .if2 .left)) refl (omega arith)
 
 returns-4 : tie.Need-returns-4
-returns-4 c = λ enough h. h
+returns-4 c = record { lower = λ limit h. h }
 
 pub lower-ceiling-spec : {M : Type 1} → statement M
 lower-ceiling-spec =

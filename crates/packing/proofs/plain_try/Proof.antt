@@ -8,10 +8,10 @@ use Rattle.packing.proofs.plain_try.Statement.{statement}
 use Rattle.packing.proofs.plain_try.Tie as tie
 
 abbrev Inv-loop : tie.InvT-loop
-Inv-loop kept count room enough left₀ found₀ n₀ left found n = (n ≤ count) × (found ≤ enough) × Tried kept count (capacity room) n (capacity left) found
+Inv-loop kept count room limit left₀ found₀ n₀ left found n = (n ≤ count) × (found ≤ limit) × Tried kept count (capacity room) n (capacity left) found
 
 abbrev μ-loop : tie.MeasureT-loop
-μ-loop kept count room enough left₀ found₀ n₀ left found n = n
+μ-loop kept count room limit left₀ found₀ n₀ left found n = n
 
 loop-holds : tie.Need-loop-holds Inv-loop μ-loop
 loop-holds c = (search needs, search needs, tried-start)
@@ -47,7 +47,7 @@ loop-again c =
     (omega (arith, l .loop .inv .0), omega (arith, f .few, l .loop .inv .1), tried-on (omega arith) f (c .spend .ensures) (l .loop .inv .2))
 
 returns : tie.Need-returns Inv-loop μ-loop
-returns c = let i = c .before .loop .inv in (i .1, tried-end (i .2))
+returns c = tried-end (c .before .loop .inv .2)
 
 pub plain-try-spec : {M : Type 1} → statement M
 plain-try-spec =

@@ -4,22 +4,18 @@ use Prim.Native.Nat.{ℕ, _≤_, min}
 use mathlib.Core.Path.{_≡_}
 use denote.Ref.{now}
 use native.Mathlib.Omega.{arith}
-use Rattle.packing.specs.Packing.{combinations}
 use Rattle.packing.specs.Most.{mostUses, flagged, capacity}
 use Rattle.packing.specs.code.Engine.{MostUpTo, maxRoom}
 use Rattle.packing.proofs.Tries.{ceiling-start}
-use Rattle.packing.proofs.Kept.{kept-up-to}
+use Rattle.packing.proofs.Kept.{kept-few, kept-up-to}
 use Rattle.packing.proofs.Most.{most-room}
 use Rattle.packing.proofs.uses_up_to.Statement.{statement}
 use Rattle.packing.proofs.uses_up_to.Tie as tie
 
--- what is kept, and up to how many uses are looked for
+-- up to how many uses are looked for
 module _ (c : tie.After-smaller) where
   abbrev s : tie.Start
   s = c .before .before .before .before
-
-  few : c .before .before .minimal .result ≤ combinations
-  few = let k = c .before .before .minimal .ensures in omega (arith, k .few, k .below)
 
   near : c .smaller .result ≤ maxRoom
   near = omega (arith, c .smaller .ensures, c .before .total .ensures .1)
@@ -40,15 +36,15 @@ smaller-requires : tie.Need-smaller-requires
 smaller-requires c κs = search needs
 
 plain-try-requires : tie.Need-plain-try-requires
-plain-try-requires c κs = (few (c .before), near (c .before))
+plain-try-requires c κs = (kept-few (c .before .before .before .minimal .ensures), near (c .before))
 
 returns : tie.Need-returns
 returns c =
     let k = c .before .before .before in
-    counted k record { ceiling = ceiling-start; fits = rw (c .if1 .taken) at (c .before .plain-try .ensures .1) }
+    counted k record { ceiling = ceiling-start; fits = rw (c .if1 .taken) at (c .before .plain-try .ensures) }
 
 fullest-requires : tie.Need-fullest-requires
-fullest-requires c κs = let k = c .before .before .before .before in (few k, near k)
+fullest-requires c κs = let k = c .before .before .before .before in (kept-few (k .before .before .minimal .ensures), near k)
 
 returns-2 : tie.Need-returns-2
 returns-2 c = counted (c .before .before .before .before .before) (c .fullest .ensures)

@@ -1,4 +1,4 @@
--- What the parts of the engine (src/) say of their results. The contract of `most_uses` needs none of it.
+-- What the parts of the engine (src/) say of their results. The contracts of `most_uses` and `uses_up_to` need none of it.
 use Prim.Native.Nat.{ℕ, suc, _+_, _*_, _≤_, _<_}
 use mathlib.Core.Path.{_≡_}
 use mathlib.Core.Bool.{Bool, true, false}
@@ -66,14 +66,18 @@ pub record Tells (b : Bool) (P : Type 0) : Type 0 where
   pub so : b ≡ true → P
   pub not : b ≡ false → P → ⊥
 
--- no packing of kept combinations that has up to `enough` uses has more than r
-pub record Ceiling (kept : List ℕ) (count : ℕ) (room : ℕ → ℕ) (enough r : ℕ) : Type 0 where
-  pub few : r ≤ enough
-  pub bound : (need : ℕ) → need ≤ enough → HasRoom kept count room need → need ≤ r
+-- of the packings of kept combinations that have up to `limit` uses, none has more than r, which is no more than the limit
+pub record Ceiling (kept : List ℕ) (count : ℕ) (room : ℕ → ℕ) (limit r : ℕ) : Type 0 where
+  pub few : r ≤ limit
+  pub bound : (need : ℕ) → need ≤ limit → HasRoom kept count room need → need ≤ r
 
--- and one of them has r
-pub record MostUpTo (kept : List ℕ) (count : ℕ) (room : ℕ → ℕ) (enough r : ℕ) : Type 0 where
-  pub ceiling : Ceiling kept count room enough r
+-- s is a ceiling too wherever r is one
+pub record Lowers (kept : List ℕ) (count : ℕ) (room : ℕ → ℕ) (r s : ℕ) : Type 0 where
+  pub lower : (limit : ℕ) → Ceiling kept count room limit r → Ceiling kept count room limit s
+
+-- r is the most uses, up to `limit`, that kept combinations have room for
+pub record MostUpTo (kept : List ℕ) (count : ℕ) (room : ℕ → ℕ) (limit r : ℕ) : Type 0 where
+  pub ceiling : Ceiling kept count room limit r
   pub fits : HasRoom kept count room r
 
 -- what `amount` of each active segment weighs by the weighting v

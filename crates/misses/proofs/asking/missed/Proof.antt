@@ -1,6 +1,6 @@
 -- All k where the empty set is bad; else the packing's flags are those of the bad sets, and so many uses reach k.
 use Prim.Native.Nat.{_*_, _≤_, min}
-use mathlib.Core.Path.{_≡_, refl, sym, _∙_}
+use mathlib.Core.Path.{_≡_, sym, _∙_}
 use native.Mathlib.Omega.{arith}
 use borrow.Author.Needs.{needs}
 use denote.Ref.{now}
