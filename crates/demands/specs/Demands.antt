@@ -56,7 +56,7 @@ pub record Demand2 : Type 0 where
   pub windows : {s : List ℕ} {id : ℕ} → Has s id → MeansOf s id (latencyOf s id)
   -- and no other answer is
   pub only : {s : List ℕ} {id : ℕ} → Has s id → (a : Latency) → MeansOf s id a → a ≡ latencyOf s id
-  -- the miss count is the late activations per window times the greatest feasible packing of bad combinations, or k where that is smaller; and
+  -- the miss count is the smaller of k and the late activations per window times the greatest feasible packing of bad combinations; it is
   -- k where a deadline is missed without any overload (02, request 3)
   pub misses : {s : List ℕ} {id : ℕ} → Has s id → (k : ℕ) (a : Missed) → Exactly (missesOf s id k ≡ a) (Says (chainOf s id) (othersOf s id) k a)
   -- so it never exceeds the run, nor 10 in the report's last column, and never falls as the run grows

@@ -146,7 +146,8 @@ fn packed(s: &[u8], own: Own, held: &[u64; Own::HELD], close: u32, p: Pieces, en
     uses_up_to(&bad, &capacity, enough)
 }
 
-// How many deadlines are missed in a run of k activations, where nothing is refused. No more uses are looked for than reach k.
+// How many deadlines are missed in a run of k activations, where nothing is refused. No more uses are looked for than the fewest that
+// reach k.
 fn missed(s: &[u8], chain: usize, k: u32, f: Figures, p: Pieces) -> u32
     requires { ⌜ Taken (now s) × (chain < tableOf (now s) .count) × Asked (rowOf (tableOf (now s)) chain) k f × Admitted (tableOf (now s)) chain k f p ⌝ }
     ensures { λ r. ⌜ r ≡ missedAt (tableOf (now (s .entry))) chain k f ⌝ }
