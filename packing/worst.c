@@ -248,7 +248,7 @@ static unsigned fullest(const unsigned *room, unsigned limit)
     return need;
 }
 
-static unsigned plain_try(const unsigned *room, unsigned limit)
+static unsigned first_try(const unsigned *room, unsigned limit)
 {
     unsigned left[SEGMENTS], found = 0;
     memcpy(left, room, sizeof left);
@@ -266,7 +266,7 @@ static unsigned uses_up_to(const uint8_t *bad, const unsigned *room, unsigned en
     memset(count, 0, sizeof count);
     minimal(bad);
     unsigned limit = enough < total(room) ? enough : total(room);
-    return plain_try(room, limit) == limit ? limit : fullest(room, limit);
+    return first_try(room, limit) == limit ? limit : fullest(room, limit);
 }
 
 static unsigned most_uses(const uint8_t *bad, const unsigned *room)

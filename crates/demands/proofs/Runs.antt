@@ -19,7 +19,7 @@ use Rattle.misses.specs.Overloads.{Overload}
 use Rattle.misses.specs.Misses.{overloadsOf, missesAt, missesIn, missesOf}
 use Rattle.misses.specs.declared.Answer.{Answer}
 use Rattle.misses.specs.declared.Answer.the-variants.{Misses, Refused}
-use Rattle.misses.proofs.Runs.{Within, UpTo, good-lists, beside-within, beside-rises}
+use Rattle.misses.proofs.Runs.{Within, NoMore, good-lists, beside-within, beside-rises}
 use Rattle.report_text.specs.Report.{missRun, missedText}
 use Rattle.demands.specs.Misses.{LastColumn}
 use Rattle.demands.proofs.Chains.{table-good}
@@ -52,11 +52,11 @@ module _ (s : List ℕ) (id : ℕ) where
       by (Faulty n place) t = tt
 
   -- never fewer in a longer run
-  answer-rises : Bytes s → (k long : ℕ) → k ≤ long → UpTo (missesOf s id k) (missesOf s id long)
+  answer-rises : Bytes s → (k long : ℕ) → k ≤ long → NoMore (missesOf s id k) (missesOf s id long)
   unfolding missesOf missesIn missesAt _when_else_ absent
   answer-rises bytes k long longer = by (readTable s .verdict) refl absent
     where
-      by : (v : Verdict) → readTable s .verdict ≡ v → (t : Bool) → UpTo (byVerdict Refused v (Refused 12 when t else missesAt (tableOf s) chain k)) (byVerdict Refused v (Refused 12 when t else missesAt (tableOf s) chain long))
+      by : (v : Verdict) → readTable s .verdict ≡ v → (t : Bool) → NoMore (byVerdict Refused v (Refused 12 when t else missesAt (tableOf s) chain k)) (byVerdict Refused v (Refused 12 when t else missesAt (tableOf s) chain long))
       by Accepted e true = tt
       by Accepted e false =
           beside-rises b views os (good-lists b (others (tableOf s) chain) (others-good (tableOf s) (table-good (record { bytes = bytes; accepted = e })) chain)) k long longer
@@ -66,7 +66,7 @@ pub within-run : (s : List ℕ) (id k : ℕ) {n : ℕ} → missesOf s id k ≡ M
 within-run s id k e = subst (Within k) e (answer-within s id k)
 
 pub longer-run : (s : List ℕ) → Bytes s → (id : ℕ) {k long n r : ℕ} → k ≤ long → missesOf s id k ≡ Misses n → missesOf s id long ≡ Misses r → n ≤ r
-longer-run s bytes id {k} {long} {n} {r} longer e f = subst (UpTo (Misses n)) f (subst (λ a. UpTo a (missesOf s id long)) e (answer-rises s id bytes k long longer))
+longer-run s bytes id {k} {long} {n} {r} longer e f = subst (NoMore (Misses n)) f (subst (λ a. NoMore a (missesOf s id long)) e (answer-rises s id bytes k long longer))
 
 -- the report's last column
 pub last-column : (s : List ℕ) (id : ℕ) → LastColumn (missedText (missesOf s id missRun))

@@ -30,20 +30,20 @@ good-lists b [] h = tt
 good-lists b (a ∷ l) h = when-cases (All (λ o. GoodDistances (o .list))) _ (λ e. good-lists b l (h .1)) (λ e. (h .0 .list, good-lists b l (h .1)))
 
 -- no number of the one list is above the other's in its place
-abbrev Below : List ℕ → List ℕ → Type 0
-Below l r = (i : ℕ) → getD l i 0 ≤ getD r i 0
+abbrev NoneAbove : List ℕ → List ℕ → Type 0
+NoneAbove l r = (i : ℕ) → getD l i 0 ≤ getD r i 0
 
-below-map : {A : Type 0} (x y : ℕ) (actives : List A) (l r : List ℕ) → x ≤ y → Below l r → Below (map (λ a. x) actives ++ l) (map (λ a. y) actives ++ r)
-below-map x y [] l r h e i = e i
-below-map x y (a ∷ actives) l r h e zero = h
-below-map x y (a ∷ actives) l r h e (suc i) = below-map x y actives l r h e i
+none-above-map : {A : Type 0} (x y : ℕ) (actives : List A) (l r : List ℕ) → x ≤ y → NoneAbove l r → NoneAbove (map (λ a. x) actives ++ l) (map (λ a. y) actives ++ r)
+none-above-map x y [] l r h e i = e i
+none-above-map x y (a ∷ actives) l r h e zero = h
+none-above-map x y (a ∷ actives) l r h e (suc i) = none-above-map x y actives l r h e i
 
 -- capacities grow with the time that is looked at
-pub capacities-grow : (os : List Overload) → All (λ o. GoodDistances (o .list)) os → (s t : ℕ) → s ≤ t → Below (capacitiesOf s os) (capacitiesOf t os)
+pub capacities-grow : (os : List Overload) → All (λ o. GoodDistances (o .list)) os → (s t : ℕ) → s ≤ t → NoneAbove (capacitiesOf s os) (capacitiesOf t os)
 unfolding capacitiesOf
 capacities-grow [] h s t l = λ i. omega arith
 capacities-grow (o ∷ os) h s t l =
-    below-map (η (o .list) s + 1) (η (o .list) t + 1) (o .actives) (capacitiesOf s os) (capacitiesOf t os) (omega (arith, η-mono (h .0) s t l)) (capacities-grow os (h .1) s t l)
+    none-above-map (η (o .list) s + 1) (η (o .list) t + 1) (o .actives) (capacitiesOf s os) (capacitiesOf t os) (omega (arith, η-mono (h .0) s t l)) (capacities-grow os (h .1) s t l)
 
 -- an answer has no more misses than k
 abbrev pub Within : ℕ → Answer → Type 0
@@ -51,18 +51,18 @@ Within k (Misses n) = n ≤ k
 Within k (Refused n) = Unit {0}
 
 -- an answer has no more misses than another, where both have a number of them
-abbrev pub UpTo : Answer → Answer → Type 0
-UpTo (Misses n) (Misses r) = n ≤ r
-UpTo (Misses n) (Refused r) = Unit {0}
-UpTo (Refused n) a = Unit {0}
+abbrev pub NoMore : Answer → Answer → Type 0
+NoMore (Misses n) (Misses r) = n ≤ r
+NoMore (Misses n) (Refused r) = Unit {0}
+NoMore (Refused n) a = Unit {0}
 
-none-upto : (a : Answer) → UpTo (Misses 0) a
-none-upto (Misses r) = omega arith
-none-upto (Refused r) = tt
+none-no-more : (a : Answer) → NoMore (Misses 0) a
+none-no-more (Misses r) = omega arith
+none-no-more (Refused r) = tt
 
-upto-refused : (a : Answer) (n : ℕ) → UpTo a (Refused n)
-upto-refused (Misses m) n = tt
-upto-refused (Refused m) n = tt
+no-more-refused : (a : Answer) (n : ℕ) → NoMore a (Refused n)
+no-more-refused (Misses m) n = tt
+no-more-refused (Refused m) n = tt
 
 module _ (b : Row) (views : List View) (os : List Overload) where
   missed-within : (k close latency late : ℕ) → missedOf b views os k close latency late ≤ k
@@ -92,7 +92,7 @@ module _ (b : Row) (views : List View) (os : List Overload) where
   beside-within k = number-within k (earlyOf b k) _ (bound-within k (boundOf b views .answer) (boundOf b views .last))
 
   module _ (lists : All (λ o. GoodDistances (o .list)) os) (k long : ℕ) (longer : k ≤ long) where
-    room-grows : (latency : ℕ) → Below (roomOf b os k latency) (roomOf b os long latency)
+    room-grows : (latency : ℕ) → NoneAbove (roomOf b os k latency) (roomOf b os long latency)
     unfolding roomOf largest
     room-grows latency =
         let less : k - 1 ≤ long - 1 = omega arith in
@@ -112,12 +112,12 @@ module _ (b : Row) (views : List View) (os : List Overload) where
         go true = longer
         go false = omega (arith, more)
 
-    figures-rise : (close latency late last : ℕ) → UpTo (byFigures b views os k close latency late last) (byFigures b views os long close latency late last)
+    figures-rise : (close latency late last : ℕ) → NoMore (byFigures b views os k close latency late last) (byFigures b views os long close latency late last)
     unfolding byFigures
     figures-rise close latency late last =
-        let P : Answer → Type 0 = λ a. UpTo a (byFigures b views os long close latency late last) in
-        let Q : Answer → Type 0 = UpTo (Misses (missedOf b views os k close latency late)) in
-        when-cases P _ (λ e. none-upto (byFigures b views os long close latency late last)) (λ e.
+        let P : Answer → Type 0 = λ a. NoMore a (byFigures b views os long close latency late last) in
+        let Q : Answer → Type 0 = NoMore (Misses (missedOf b views os k close latency late)) in
+        when-cases P _ (λ e. none-no-more (byFigures b views os long close latency late last)) (λ e.
         when-cases P _ (λ f. tt) (λ f.
         when-cases P _ (λ f. tt) (λ f.
         when-cases P _ (λ f. tt) (λ f.
@@ -126,17 +126,17 @@ module _ (b : Row) (views : List View) (os : List Overload) where
         when-cases Q _ (λ h. tt) (λ h.
         when-cases Q _ (λ h. tt) (λ h. missed-rises close latency late))))))))
 
-    bound-rises : (x : Bound) (last : ℕ) → UpTo (byBound b views os k x last) (byBound b views os long x last)
+    bound-rises : (x : Bound) (last : ℕ) → NoMore (byBound b views os k x last) (byBound b views os long x last)
     bound-rises (Figures close latency late margin) last = figures-rise close latency late last
     bound-rises (Unbounded n) last = tt
 
-    number-rises : (n r : ℕ) (a c : Answer) → UpTo a c → UpTo (byNumber Refused n a) (byNumber Refused r c)
+    number-rises : (n r : ℕ) (a c : Answer) → NoMore a c → NoMore (byNumber Refused n a) (byNumber Refused r c)
     unfolding byNumber
     number-rises zero zero a c h = h
-    number-rises zero (suc r) a c h = upto-refused a (suc r)
+    number-rises zero (suc r) a c h = no-more-refused a (suc r)
     number-rises (suc n) r a c h = tt
 
     -- never fewer in a longer run
-    pub beside-rises : UpTo (missesBeside b views os k) (missesBeside b views os long)
+    pub beside-rises : NoMore (missesBeside b views os k) (missesBeside b views os long)
     unfolding missesBeside
     beside-rises = number-rises (earlyOf b k) (earlyOf b long) _ _ (bound-rises (boundOf b views .answer) (boundOf b views .last))

@@ -9,8 +9,8 @@
 // 3. The least of these bounds is tried first, then one use less, and so on: the first number of uses that have room is the answer.
 // 4. Whether so many uses have room: the last kept combination is used as often as nothing rules out, then once less, and so on, and
 //    the rest of the uses is left to the combinations before it. Its own room and the weights rule uses out.
-// 5. Where no more than some number of uses is asked for, no more are looked for. One plain try comes first then: where each
-//    combination in turn, used as often as it fits, has so many uses, no weights are needed.
+// 5. Where no more than some number of uses is asked for, no more are looked for. A first try goes without weights then: where each
+//    combination in turn, used as often as it fits, has so many uses, none are needed.
 // Weights are sound whatever they are: a wrong digit in the table, or a bad choice, costs time and never changes the answer.
 mod masks;
 mod weights;
@@ -229,9 +229,9 @@ fn fullest(
     need
 }
 
-// How many uses one plain try packs, up to `limit`: from the last kept combination on, each as often as it fits in the room that is
+// How many uses a first try packs, up to `limit`: from the last kept combination on, each as often as it fits in the room that is
 // left. There may be room for more.
-fn plain_try(
+fn first_try(
     kept: &[usize; COMBINATIONS],
     count: usize,
     room: &[u8; Table::OVERLOADS],
@@ -268,7 +268,7 @@ pub fn uses_up_to(bad: &[u8; COMBINATIONS], room: &[u8; Table::OVERLOADS], enoug
     let mut kept = [0usize; COMBINATIONS];
     let count = masks::minimal(bad, &mut kept);
     let limit = smaller(enough, total(room));
-    if plain_try(&kept, count, room, limit) == limit {
+    if first_try(&kept, count, room, limit) == limit {
         return limit;
     }
     fullest(&kept, count, room, limit)

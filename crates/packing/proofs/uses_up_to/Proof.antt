@@ -35,13 +35,13 @@ total-requires c κs = search needs
 smaller-requires : tie.Need-smaller-requires
 smaller-requires c κs = search needs
 
-plain-try-requires : tie.Need-plain-try-requires
-plain-try-requires c κs = (kept-few (c .before .before .before .minimal .ensures), near (c .before))
+first-try-requires : tie.Need-first-try-requires
+first-try-requires c κs = (kept-few (c .before .before .before .minimal .ensures), near (c .before))
 
 returns : tie.Need-returns
 returns c =
     let k = c .before .before .before in
-    counted k record { ceiling = ceiling-start; fits = rw (c .if1 .taken) at (c .before .plain-try .ensures) }
+    counted k record { ceiling = ceiling-start; fits = rw (c .if1 .taken) at (c .before .first-try .ensures) }
 
 fullest-requires : tie.Need-fullest-requires
 fullest-requires c κs = let k = c .before .before .before .before in (kept-few (k .before .before .minimal .ensures), near k)
@@ -56,7 +56,7 @@ uses-up-to-spec =
     minimal-requires
     total-requires
     smaller-requires
-    plain-try-requires
+    first-try-requires
     returns
     fullest-requires
     returns-2)

@@ -4,8 +4,8 @@ use Prim.Native.Nat.{_≤_}
 use native.Mathlib.Omega.{arith}
 use Rattle.packing.specs.Most.{capacity}
 use Rattle.packing.proofs.Tries.{Tried, tried-start, tried-on, tried-end}
-use Rattle.packing.proofs.plain_try.Statement.{statement}
-use Rattle.packing.proofs.plain_try.Tie as tie
+use Rattle.packing.proofs.first_try.Statement.{statement}
+use Rattle.packing.proofs.first_try.Tie as tie
 
 abbrev Inv-loop : tie.InvT-loop
 Inv-loop kept count room limit left₀ found₀ n₀ left found n = (n ≤ count) × (found ≤ limit) × Tried kept count (capacity room) n (capacity left) found
@@ -49,8 +49,8 @@ loop-again c =
 returns : tie.Need-returns Inv-loop μ-loop
 returns c = tried-end (c .before .loop .inv .2)
 
-pub plain-try-spec : {M : Type 1} → statement M
-plain-try-spec =
+pub first-try-spec : {M : Type 1} → statement M
+first-try-spec =
     tie.close
     (tie.spec
     Inv-loop
