@@ -13,6 +13,7 @@ use Rattle.search.proofs.Choice.{lt-or-le}
 use Rattle.search.proofs.Find.{last-le, last-hit, last-max}
 use Rattle.table.specs.Limits.{maxDistances}
 use Rattle.arrivals.specs.Arrivals.{δ, η}
+use Rattle.arrivals.specs.code.Bounds.{longestSpan, farthest}
 use Rattle.table.specs.code.Good.{GoodDistances}
 use Rattle.arrivals.proofs.Distances.{δ-one, δ-mono, δ-reach}
 
@@ -54,6 +55,10 @@ module _ {ds : List ℕ} (good : GoodDistances ds) where
 
   pub η-near : (t : ℕ) → η ds t ≤ maxDistances * t
   η-near t = le-trans (η-reach t) (mul-le-mul-right t (good .few))
+
+  -- and in a time that is asked for it is below what `delta` takes
+  pub η-farthest : (t : ℕ) → t ≤ longestSpan → η ds t < farthest
+  η-farthest t h = omega (arith, η-near t)
 
   pub η-zero : η ds 0 ≡ 0
   η-zero = omega (arith, η-reach 0)

@@ -9,7 +9,7 @@ use lib.ListN.{length, getD}
 use Rattle.table.specs.Limits.{maxDistance}
 use Rattle.arrivals.specs.Arrivals.{asListed, δ}
 use Rattle.table.specs.code.Good.{GoodDistances}
-use Rattle.arrivals.proofs.Turns.{listed-rises, listed-near, last-above, δ-turns, δ-first, δ-step}
+use Rattle.arrivals.proofs.Lists.{listed-rises, listed-near, last-above, δ-lists, δ-first, δ-step}
 
 module _ {ds : List ℕ} (good : GoodDistances ds) where
   -- δ(1) = 0
@@ -27,7 +27,7 @@ module _ {ds : List ℕ} (good : GoodDistances ds) where
   δ-rule i j h =
       let last : δ ds (length ds + 1) ≡ asListed ds (length ds) = ap (δ ds) (omega arith) ∙ δ-first good (length ds) (le-refl _) in
       let part : δ ds (1 + j) ≡ asListed ds j = ap (δ ds) (omega arith) ∙ δ-first good j (omega arith) in
-      rw (last, part) (ap (δ ds) (omega arith) ∙ δ-turns good i j (omega arith))
+      rw (last, part) (ap (δ ds) (omega arith) ∙ δ-lists good i j (omega arith))
 
   -- δ never falls
   δ-rises : (n : ℕ) → δ ds n ≤ δ ds (suc n)

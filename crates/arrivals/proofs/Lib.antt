@@ -1,5 +1,5 @@
-pub mod Turns
+pub mod Lists
 pub mod Distances
 pub mod Counts
-pub mod Walk
+pub mod Remainders
 pub mod Rows

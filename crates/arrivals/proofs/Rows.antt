@@ -1,8 +1,9 @@
 -- What a row and a record that stands give of their distances. Assumes nothing.
-use Prim.Native.Nat.{ℕ}
+use Prim.Native.Nat.{ℕ, _<_}
 use mathlib.Core.Path.{_≡_, sym, _∙_}
 use mathlib.Core.List.{List}
 use mathlib.Core.Logic.{⊎-elim}
+use native.Mathlib.Omega.{arith}
 use lib.ListN.{length, getD, List·getD-eq-default}
 use lib.Seq.{getD-take}
 use Rattle.search.proofs.Choice.{lt-or-le}
@@ -20,3 +21,6 @@ distances-at {r} good j =
 pub stands-length : {s : List ℕ} {at : ℕ} → Stands s at → length (distances (rowAt s at)) ≡ listedAt s at
 unfolding rowAt
 stands-length there = there .good .listed
+
+pub stands-some : {s : List ℕ} {at : ℕ} → Stands s at → 0 < listedAt s at
+stands-some there = omega (arith, stands-length there, there .good .list .some)

@@ -2,11 +2,20 @@
 use table::distance_at;
 use table::listed_at;
 ghost use mathlib.Core.Path.{_≡_};
-ghost use Prim.Native.Nat.{_≤_, min};
+ghost use Prim.Native.Nat.{_+_, _*_, _/_, _%_, _≤_, _<_, min};
+ghost use lib.Dec.{ltb};
+ghost use Rattle.search.specs.Choice.{_when_else_};
 ghost use Rattle.table.specs.Record.{listedAt, rowAt, distances};
 ghost use Rattle.table.specs.code.Taken.{Stands};
 ghost use Rattle.arrivals.specs.Arrivals.{asListed, δ, η};
 ghost use Rattle.arrivals.specs.code.Bounds.{longestSpan, farthest};
+ghost use Rattle.arrivals.specs.code.WithinList.{withinList};
+
+// Steps along a list that goes on: so many whole lists, and the rest in the next.
+struct Steps {
+    lists: u64,
+    rest: usize,
+}
 
 // The distance of 1 + j activations as listed.
 fn as_listed(s: &[u8], at: usize, j: usize) -> u64
@@ -19,55 +28,92 @@ fn as_listed(s: &[u8], at: usize, j: usize) -> u64
     distance_at(s, at, j - 1) as u64
 }
 
-// δ(n): whole turns of the list, and a place in it. A list of one distance needs no division.
+// δ(1 + iL + j): i whole lists, and j steps into the next, at most to its end.
+fn delta_at(s: &[u8], at: usize, i: u64, j: usize) -> u64
+    requires { ⌜ Stands (now s) at × (j ≤ listedAt (now s) at) × (i * listedAt (now s) at + j < farthest) ⌝ }
+    ensures { λ r. ⌜ r ≡ δ (distances (rowAt (now (s .entry)) at)) (i * listedAt (now (s .entry)) at + j + 1) ⌝ }
+{
+    i * as_listed(s, at, listed_at(s, at)) + as_listed(s, at, j)
+}
+
+// n steps, split. A list of one distance needs no division.
+fn split(n: u64, listed: u64) -> Steps
+    requires { ⌜ 0 < listed ⌝ }
+    ensures { λ r. ⌜ (r .lists ≡ n / listed) × (r .rest ≡ n % listed) ⌝ }
+{
+    if listed == 1 {
+        return Steps { lists: n, rest: 0 };
+    }
+    Steps {
+        lists: n / listed,
+        rest: (n % listed) as usize,
+    }
+}
+
+// δ(n).
 pub fn delta(s: &[u8], at: usize, n: u64) -> u64
     requires { ⌜ Stands (now s) at × (1 ≤ n) × (n ≤ farthest) ⌝ }
     ensures { λ r. ⌜ r ≡ δ (distances (rowAt (now (s .entry)) at)) n ⌝ }
 {
-    let listed = listed_at(s, at);
-    if listed == 1 {
-        return (n - 1) * as_listed(s, at, 1);
-    }
-    let steps = (n - 1) as usize;
-    let turns = (steps / listed) as u64;
-    turns * as_listed(s, at, listed) + as_listed(s, at, steps % listed)
+    let before = split(n - 1, listed_at(s, at) as u64);
+    delta_at(s, at, before.lists, before.rest)
 }
 
-// The smaller of η(t) and `most`. It counts activation by activation and goes no further than `most`.
-pub fn eta_up_to(s: &[u8], at: usize, t: u64, most: u64) -> u64
-    requires { ⌜ Stands (now s) at × (t ≤ longestSpan) ⌝ }
-    ensures { λ r. ⌜ r ≡ min (η (distances (rowAt (now (s .entry)) at)) t) most ⌝ }
+// 1 where a distance lies below x.
+fn below(distance: u64, x: u64) -> u64
+    ensures { λ r. ⌜ r ≡ (1 when ltb distance x else 0) ⌝ }
+{
+    if distance < x { 1 } else { 0 }
+}
+
+// How many of a list's own activations lie within x. Every distance is looked at: where a loop could stop is not foreseen by a
+// processor, and a wrong guess takes longer than the rest of the list.
+fn within_list(s: &[u8], at: usize, x: u64) -> u64
+    requires { ⌜ Stands (now s) at × (0 < x) ⌝ }
+    ensures { λ r. ⌜ r ≡ withinList (distances (rowAt (now (s .entry)) at)) x (listedAt (now (s .entry)) at) ⌝ }
 {
     let listed = listed_at(s, at);
-    let mut n: u64 = 0;
-    // δ(n + 1) is `next`: the distance of the whole turns so far, and of `place` steps into the list.
-    let mut next: u64 = 0;
-    let mut turns: u64 = 0;
-    let mut place: usize = 0;
-    while n < most && next < t {
-        n += 1;
-        next = turns + distance_at(s, at, place) as u64;
-        place += 1;
-        if place == listed {
-            turns = next;
-            place = 0;
-        }
+    let mut n: u64 = 1;
+    let mut j: usize = 1;
+    while j < listed {
+        n = n + below(as_listed(s, at, j), x);
+        j += 1;
     }
     n
 }
 
-// η(t) where it is known to be no less than `from`: counted on from there.
+// η(t): whole lists, and what lies inside the remainder, which is at least 1 and at most the last distance.
+fn eta(s: &[u8], at: usize, t: u64) -> u64
+    requires { ⌜ Stands (now s) at × (0 < t) × (t ≤ longestSpan) ⌝ }
+    ensures { λ r. ⌜ r ≡ η (distances (rowAt (now (s .entry)) at)) t ⌝ }
+{
+    let listed = listed_at(s, at);
+    let last = as_listed(s, at, listed);
+    let lists = (t - 1) / last;
+    lists * (listed as u64) + within_list(s, at, t - lists * last)
+}
+
+// η(t) where it is known to be no less than `from`. Mostly it is that or one more, which is told by the two distances that come next,
+// without a division by a distance.
 pub fn eta_from(s: &[u8], at: usize, t: u64, from: u64) -> u64
     requires { ⌜ Stands (now s) at × (t ≤ longestSpan) × (from ≤ η (distances (rowAt (now s) at)) t) ⌝ }
     ensures { λ r. ⌜ r ≡ η (distances (rowAt (now (s .entry)) at)) t ⌝ }
 {
-    let most = listed_at(s, at) as u64 * t;
-    let mut n = from;
-    while n < most {
-        if t <= delta(s, at, n + 1) {
-            return n;
-        }
-        n += 1;
+    let known = split(from, listed_at(s, at) as u64);
+    if t <= delta_at(s, at, known.lists, known.rest) {
+        return from;
     }
-    n
+    if t <= delta_at(s, at, known.lists, known.rest + 1) {
+        return from + 1;
+    }
+    eta(s, at, t)
+}
+
+// The smaller of η(t) and `most`.
+pub fn eta_up_to(s: &[u8], at: usize, t: u64, most: u64) -> u64
+    requires { ⌜ Stands (now s) at × (t ≤ longestSpan) ⌝ }
+    ensures { λ r. ⌜ r ≡ min (η (distances (rowAt (now (s .entry)) at)) t) most ⌝ }
+{
+    let n = eta_from(s, at, t, 0);
+    if n < most { n } else { most }
 }

@@ -4,7 +4,7 @@ use mathlib.Core.Path.{ap, sym, _∙_}
 use native.Mathlib.Omega.{arith}
 use borrow.Author.Needs.{needs}
 use Rattle.arrivals.specs.Arrivals.{asListed}
-use Rattle.arrivals.proofs.Turns.{listed-at}
+use Rattle.arrivals.proofs.Lists.{listed-at}
 use Rattle.arrivals.proofs.Rows.{distances-at}
 use Rattle.arrivals.proofs.as_listed.Statement.{statement}
 use Rattle.arrivals.proofs.as_listed.Tie as tie

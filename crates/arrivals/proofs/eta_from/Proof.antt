@@ -1,90 +1,105 @@
--- `eta_from` meets its contract. The loop's invariant: n is no more than η(t). The measure is what is left up to L·t.
-use Prim.Native.Nat.{ℕ, _*_, _-_, _≤_}
-use mathlib.Core.Path.{_≡_, ap, sym, _∙_}
+-- `eta_from` meets its contract: the two distances that come next tell whether η(t) is `from`, or one more.
+use Prim.Native.Nat.{ℕ, _+_, _*_, _<_}
+use mathlib.Core.Path.{_≡_, ap, _∙_}
 use mathlib.Core.List.{List}
 use native.Mathlib.Omega.{arith}
-use native.Mathlib.Nat.{mul-le-mul}
 use denote.Ref.{now}
-use lib.ListN.{length}
-use Rattle.table.specs.Limits.{maxDistances}
-use Rattle.table.specs.Record.{rowAt, distances}
-use Rattle.arrivals.specs.Arrivals.{η}
-use Rattle.table.specs.code.Good.{GoodDistances}
-use Rattle.arrivals.specs.code.Bounds.{longestSpan}
-use Rattle.arrivals.proofs.Counts.{η-reach, η-stops, η-counts}
-use Rattle.arrivals.proofs.Rows.{stands-length}
+use Rattle.table.specs.Record.{listedAt, rowAt, distances}
+use Rattle.arrivals.specs.Arrivals.{δ, η}
+use Rattle.arrivals.specs.code.Bounds.{farthest}
+use Rattle.arrivals.proofs.Counts.{η-counts, η-farthest, η-stops}
+use Rattle.arrivals.proofs.Remainders.{split-whole}
+use Rattle.arrivals.proofs.Rows.{stands-length, stands-some}
 use Rattle.arrivals.proofs.eta_from.Statement.{statement}
 use Rattle.arrivals.proofs.eta_from.Tie as tie
 
-abbrev Inv-loop : tie.InvT-loop
-Inv-loop s at t from most n₀ n = n ≤ η (distances (rowAt s at)) t
-
-abbrev μ-loop : tie.MeasureT-loop
-μ-loop s at t from most n₀ n = most - n
-
--- the chain's distances
-abbrev ds : tie.Start Inv-loop μ-loop → List ℕ
+-- the chain's distances, and how many there are
+abbrev ds : tie.Start → List ℕ
 ds s = distances (rowAt (now (s .args .s)) (s .args .at))
 
-good : (s : tie.Start Inv-loop μ-loop) → GoodDistances (ds s)
-good s = (s .pre .0 .good .list)
+abbrev listed : tie.Start → ℕ
+listed s = listedAt (now (s .args .s)) (s .args .at)
 
--- L·t, as it was read, and that it fits
-most : (c : tie.After-listed-at Inv-loop μ-loop) → c .listed-at .result * c .before .before .args .t ≡ length (ds (c .before .before)) * c .before .before .args .t
-most c = ap (λ l. l * c .before .before .args .t) (c .listed-at .ensures .0 ∙ sym (stands-length (c .before .before .pre .0)))
+-- no count is beyond what `delta_at` is asked for
+near : (s : tie.Start) → η (ds s) (s .args .t) < farthest
+near s = η-farthest (s .pre .0 .good .list) (s .args .t) (s .pre .1)
 
-near : (s : tie.Start Inv-loop μ-loop) → length (ds s) * s .args .t ≤ maxDistances * longestSpan
-near s = mul-le-mul (good s .few) (s .pre .1)
+-- `from` is the whole lists and the rest into which it is split
+module _ (c : tie.After-split) where
+  abbrev s : tie.Start
+  s = c .before .before .before
 
-listed-at-requires : tie.Need-listed-at-requires Inv-loop μ-loop
+  whole : (c .split .result .lists * listed s + c .split .result .rest ≡ s .args .from) × (c .split .result .rest < listed s)
+  whole = split-whole (s .args .from) (stands-some (s .pre .0)) (c .before .listed-at .ensures .0) (c .split .ensures .0) (c .split .ensures .1)
+
+-- the distance that comes next, and that after it
+next : (c : tie.After-delta-at) → c .delta-at .result ≡ δ (ds (s (c .before))) (s (c .before) .args .from + 1)
+next c = c .delta-at .ensures ∙ ap (δ (ds (s (c .before)))) (omega (arith, whole (c .before) .0))
+
+after : (c : tie.After-delta-at2) → c .delta-at2 .result ≡ δ (ds (s (c .before .before .before .before))) (s (c .before .before .before .before) .args .from + 1 + 1)
+after c = let p = c .before .before .before .before in c .delta-at2 .ensures ∙ ap (δ (ds (s p))) (omega (arith, whole p .0))
+
+-- where the next lies below t, one more is counted
+one-more : (c : tie.Else1) → s (c .before .before) .args .from < η (ds (s (c .before .before))) (s (c .before .before) .args .t)
+one-more c =
+    let b = s (c .before .before) in
+    η-counts (b .pre .0 .good .list) (b .args .from) (b .args .t) (omega (arith, next (c .before), c .if1 .left))
+
+listed-at-requires : tie.Need-listed-at-requires
 listed-at-requires c κs = omega (arith, c .before .pre .0 .there)
 
-mul-most : tie.Need-mul-most Inv-loop μ-loop
-mul-most c = omega (arith, most c, near (c .before .before))
+split-requires : tie.Need-split-requires
+split-requires c κs = omega (arith, c .listed-at .ensures .0, stands-some (c .before .before .pre .0))
 
-loop-holds : tie.Need-loop-holds Inv-loop μ-loop
-loop-holds c = c .before .before .pre .2
+delta-at-requires : tie.Need-delta-at-requires
+delta-at-requires c κs = (s c .pre .0, omega (arith, whole c .1), omega (arith, whole c .0, near (s c), s c .pre .2))
 
-add-delta : tie.Need-add-delta Inv-loop μ-loop
-add-delta c = omega (arith, most (c .before .before), near (c .before .before .before .before))
-
-delta-requires : tie.Need-delta-requires Inv-loop μ-loop
-delta-requires c κs = let s = c .before .before .before .before in (s .pre .0, omega arith, omega (arith, most (c .before .before), near s))
-
-returns : tie.Need-returns Inv-loop μ-loop
+returns : tie.Need-returns
 returns c =
-    let s = c .before .before .before .before .before .before in
-    let l = c .before .before .before .loop in
-    omega (arith, l .inv, η-stops (good s) (l .n) (s .args .t) (omega (arith, c .before .delta .ensures, c .if1 .taken)))
+    let b = s (c .before .before) in
+    omega (arith, b .pre .2, η-stops (b .pre .0 .good .list) (b .args .from) (b .args .t) (omega (arith, next (c .before), c .if1 .taken)))
 
-add-n : tie.Need-add-n Inv-loop μ-loop
-add-n c = omega (arith, most (c .before .before .before .before), near (c .before .before .before .before .before .before))
+add-delta-at : tie.Need-add-delta-at
+add-delta-at c =
+    let p = c .before .before .before in
+    omega (arith, whole p .1, stands-length (s p .pre .0), s p .pre .0 .good .list .few)
 
-loop-less : tie.Need-loop-less Inv-loop μ-loop
-loop-less c = omega arith
+delta-at-requires-2 : tie.Need-delta-at-requires-2
+delta-at-requires-2 c κs =
+    let p = c .before .before .before in
+    (s p .pre .0, omega (arith, whole p .1), omega (arith, whole p .0, near (s p), one-more (c .before)))
 
-loop-again : tie.Need-loop-again Inv-loop μ-loop
-loop-again c =
-    let s = c .before .before .before .before .before .before in
-    let l = c .before .before .before .loop in
-    omega (arith, η-counts (good s) (l .n) (s .args .t) (omega (arith, c .before .delta .ensures, c .if1 .left)))
+add-result : tie.Need-add-result
+add-result c = omega (arith, one-more (c .before .before .before), near (s (c .before .before .before .before .before)))
 
-returns-2 : tie.Need-returns-2 Inv-loop μ-loop
-returns-2 c = let s = c .before .before .before .before in omega (arith, c .before .loop .inv, η-reach (good s) (s .args .t), most (c .before .before))
+returns-2 : tie.Need-returns-2
+returns-2 c =
+    let b = s (c .before .before .before .before .before) in
+    omega (
+      arith,
+      one-more (c .before .before .before),
+      η-stops (b .pre .0 .good .list) (b .args .from + 1) (b .args .t) (omega (arith, after (c .before), c .if2 .taken)),
+    )
+
+eta-requires : tie.Need-eta-requires
+eta-requires c κs =
+    let b = s (c .before .before .before .before .before) in
+    (b .pre .0, omega (arith, c .if2 .left), b .pre .1)
+
+returns-3 : tie.Need-returns-3
+returns-3 c = c .eta .ensures
 
 pub eta-from-spec : {M : Type 1} → statement M
 eta-from-spec =
     tie.close
     (tie.spec
-    Inv-loop
-    μ-loop
     listed-at-requires
-    mul-most
-    loop-holds
-    add-delta
-    delta-requires
+    split-requires
+    delta-at-requires
     returns
-    add-n
-    loop-less
-    loop-again
-    returns-2)
+    add-delta-at
+    delta-at-requires-2
+    add-result
+    returns-2
+    eta-requires
+    returns-3)

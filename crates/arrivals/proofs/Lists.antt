@@ -1,4 +1,4 @@
--- δ by whole turns of the list and a place in it: what the proofs of this crate see of δ's text, and no other crate's. Assumes nothing.
+-- δ by whole lists and steps into the next: what the proofs of this crate see of δ's text, and no other crate's. Assumes nothing.
 use Prim.Native.Nat.{ℕ, zero, suc, zero-le, _+_, _*_, _/_, _%_, _-_, _≤_, _<_}
 use mathlib.Core.Path.{_≡_, ap, sym, subst₂, _∙_}
 use mathlib.Core.List.{List}
@@ -12,15 +12,10 @@ use Rattle.table.specs.Limits.{maxDistance}
 use Rattle.arrivals.specs.Arrivals.{asListed, δ}
 use Rattle.table.specs.code.Good.{GoodDistances}
 
--- the definitions in the code's shape
+-- the definition in the code's shape
 pub listed-at : (ds : List ℕ) (j : ℕ) → 0 < j → asListed ds j ≡ getD ds (j - 1) 0
 unfolding asListed
 listed-at ds j h = let e : j ≡ suc (j - 1) = omega arith in ap (asListed ds) e
-
-pub δ-at : (ds : List ℕ) (n : ℕ) → 0 < n
-    → δ ds n ≡ (n - 1) / length ds * asListed ds (length ds) + asListed ds ((n - 1) % length ds)
-unfolding δ
-δ-at ds n h = let e : n ≡ suc (n - 1) = omega arith in ap (δ ds) e
 
 module _ {ds : List ℕ} (good : GoodDistances ds) where
   pub listed-rises : (j : ℕ) → j < length ds → asListed ds j ≤ asListed ds (suc j)
@@ -36,10 +31,10 @@ module _ {ds : List ℕ} (good : GoodDistances ds) where
   pub last-above : 0 < asListed ds (length ds)
   last-above = rw (listed-at ds (length ds) (good .some)) (good .ends)
 
-  -- i whole turns and j steps more, j up to another whole turn
-  pub δ-turns : (i j : ℕ) → j ≤ length ds → δ ds (suc (i * length ds + j)) ≡ i * asListed ds (length ds) + asListed ds j
+  -- i whole lists and j steps more, j up to another whole list
+  pub δ-lists : (i j : ℕ) → j ≤ length ds → δ ds (suc (i * length ds + j)) ≡ i * asListed ds (length ds) + asListed ds j
   unfolding δ asListed
-  δ-turns i j h =
+  δ-lists i j h =
       ⊎-elim
       (λ e. ap (λ (n : ℕ). δ ds (suc n)) (omega arith) ∙ inside (suc i) 0 (good .some) ∙ omega (arith, ap (asListed ds) e))
       (inside i j) (eq-or-lt-of-le h)
@@ -47,11 +42,14 @@ module _ {ds : List ℕ} (good : GoodDistances ds) where
       inside : (i j : ℕ) → j < length ds → δ ds (suc (i * length ds + j)) ≡ i * asListed ds (length ds) + asListed ds j
       inside i j h = rw (digits-div i h, digits-mod i h)
 
-  -- in the first turn δ is as listed
-  pub δ-first : (j : ℕ) → j ≤ length ds → δ ds (suc j) ≡ asListed ds j
-  δ-first j h = ap (δ ds) (omega arith) ∙ δ-turns 0 j h ∙ omega arith
+  pub δ-after : (i j : ℕ) → j ≤ length ds → δ ds (i * length ds + j + 1) ≡ i * asListed ds (length ds) + asListed ds j
+  δ-after i j h = rw add-one (δ-lists i j h)
 
-  -- one activation more is one step within the list, after whole turns: what holds of each such step holds of δ's
+  -- in the first list δ is as listed
+  pub δ-first : (j : ℕ) → j ≤ length ds → δ ds (suc j) ≡ asListed ds j
+  δ-first j h = ap (δ ds) (omega arith) ∙ δ-lists 0 j h ∙ omega arith
+
+  -- one activation more is one step within the list, after whole lists: what holds of each such step holds of δ's
   pub δ-step : (P : ℕ → ℕ → Type 0) → ((x j : ℕ) → j < length ds → P (x + asListed ds j) (x + asListed ds (suc j)))
       → (n : ℕ) → P (δ ds (suc n)) (δ ds (suc (suc n)))
   δ-step P f n =
@@ -59,10 +57,5 @@ module _ {ds : List ℕ} (good : GoodDistances ds) where
       let j : ℕ = n % length ds in
       let e : i * length ds + j ≡ n = div-add-mod' n (length ds) in
       let u : j < length ds = mod-lt n (good .some) in
-      subst₂ P (sym (δ-turns i j (omega arith)) ∙ ap (δ ds) (omega arith)) (sym (δ-turns i (suc j) u) ∙ ap (δ ds) (omega arith))
+      subst₂ P (sym (δ-lists i j (omega arith)) ∙ ap (δ ds) (omega arith)) (sym (δ-lists i (suc j) u) ∙ ap (δ ds) (omega arith))
       (f (i * asListed ds (length ds)) j u)
-
-  -- a list of one distance: each activation after the first is a turn
-  pub δ-single : length ds ≡ 1 → (n : ℕ) → 0 < n → δ ds n ≡ (n - 1) * asListed ds 1
-  unfolding asListed
-  δ-single e n h = ap (δ ds) (omega (arith, ap (λ l. (n - 1) * l) e)) ∙ δ-turns (n - 1) 0 zero-le ∙ omega (arith, ap (λ l. (n - 1) * asListed ds l) e)

@@ -1,0 +1,105 @@
+-- η by whole lists and a remainder: what lies within a part of one list, distance after distance, and after whole ones. Assumes nothing.
+use Prim.Native.Nat.{ℕ, suc, _+_, _*_, _/_, _%_, _-_, _≤_, _<_}
+use mathlib.Core.Path.{_≡_, ap, ap₂, _∙_}
+use mathlib.Core.Bool.{Bool}
+use mathlib.Core.List.{List}
+use mathlib.Core.Logic.{⊎-elim}
+use native.Mathlib.Omega.{arith}
+use native.Mathlib.Numerals.{add-one}
+use native.Mathlib.Nat.{eq-or-lt-of-le, div-add-mod', mod-lt}
+use lib.ListN.{length}
+use lib.Dec.{ltb}
+use borrow.Author.Tests.{ltb-true, lt-ltb}
+use Rattle.search.specs.Choice.{_when_else_}
+use Rattle.search.specs.Find.{last}
+use Rattle.search.proofs.Choice.{when-cases, when-yes, when-no, lt-or-le}
+use Rattle.search.proofs.Find.{last-le, last-hit, last-max}
+use Rattle.arrivals.specs.Arrivals.{asListed, η}
+use Rattle.arrivals.specs.code.WithinList.{withinList}
+use Rattle.table.specs.code.Good.{GoodDistances}
+use Rattle.arrivals.proofs.Lists.{last-above, listed-rises, δ-after}
+use Rattle.arrivals.proofs.Counts.{η-counts, η-stops}
+
+-- n steps are the whole lists and the rest into which they are split, by a list's length as it was read
+pub split-whole : (n : ℕ) {read l lists rest : ℕ} → 0 < l → read ≡ l → lists ≡ n / read → rest ≡ n % read → (lists * l + rest ≡ n) × (rest < l)
+split-whole n {l = l} some e q r =
+    (ap₂ (λ i j. i * l + j) (q ∙ ap (λ x. n / x) e) (r ∙ ap (λ x. n % x) e) ∙ div-add-mod' n l, omega (arith, r, ap (λ x. n % x) e, mod-lt n some))
+
+pub within-le : (ds : List ℕ) (x j : ℕ) → withinList ds x j ≤ j
+unfolding withinList
+within-le ds x j = last-le _ j
+
+module _ {ds : List ℕ} (good : GoodDistances ds) {x : ℕ} (some : 0 < x) where
+  -- a test: whether activation m + 1 of the list lies within x
+  abbrev lies : ℕ → Bool
+  lies m = ltb (asListed ds m) x
+
+  -- the first lies within every x
+  pub within-first : withinList ds x 1 ≡ 1
+  unfolding withinList asListed
+  within-first = omega (arith, last-le lies 1, last-max lies 1 0 (omega arith) (lt-ltb 0 x some))
+
+  -- where one does, all before it do
+  within-all : (j : ℕ) → 0 < j → j < length ds → asListed ds j < x → withinList ds x j ≡ j
+  unfolding withinList
+  within-all j h g e =
+      let m : ℕ = j - 1 in
+      let f : suc m ≡ j = omega arith in
+      let r : asListed ds m ≤ asListed ds j = rw f at (listed-rises good m (omega arith)) in
+      let b : asListed ds m < x = omega (arith, r, e) in
+      omega (arith, last-le lies j, last-max lies j m (omega arith) (lt-ltb _ _ b))
+
+  pub within-on : (j : ℕ) → 0 < j → j < length ds → withinList ds x (j + 1) ≡ withinList ds x j + (1 when lies j else 0)
+  unfolding withinList last
+  within-on j h g =
+      rw add-one
+      (when-cases (λ r. r ≡ withinList ds x j + (1 when lies j else 0)) (lies j)
+      (λ e. omega (arith, when-yes {A = ℕ} 1 0 e, within-all j h g (ltb-true _ _ e)))
+      (λ e. omega (arith, when-no {A = ℕ} 1 0 e)))
+
+  -- after i whole lists there are i times as many activations, and those within the next
+  module _ (i : ℕ) (short : x ≤ asListed ds (length ds)) where
+    pub η-lists : η ds (i * asListed ds (length ds) + x) ≡ i * length ds + withinList ds x (length ds)
+    unfolding withinList asListed
+    η-lists = omega (arith, none-more, all-there)
+      where
+        n : ℕ
+        n = withinList ds x (length ds)
+
+        t : ℕ
+        t = i * asListed ds (length ds) + x
+
+        few : n ≤ length ds
+        few = last-le lies (length ds)
+
+        some-there : 0 < n
+        some-there = last-max lies (length ds) 0 (good .some) (lt-ltb 0 x some)
+
+        beyond : x ≤ asListed ds n
+        beyond =
+            ⊎-elim (λ e. omega (arith, short, ap (asListed ds) e))
+            (λ g. ⊎-elim (λ b. absurd (omega (arith, last-max lies (length ds) n g (lt-ltb _ _ b)))) (λ b. b) (lt-or-le (asListed ds n) x))
+            (eq-or-lt-of-le few)
+
+        none-more : η ds t ≤ i * length ds + n
+        none-more = η-stops good (i * length ds + n) t (omega (arith, δ-after good i n few, beyond))
+
+        last-in : asListed ds (n - 1) < x
+        last-in = ltb-true _ _ (last-hit lies (length ds) (n - 1) (omega (arith, some-there)))
+
+        all-there : i * length ds + n ≤ η ds t
+        all-there = omega (arith, some-there, η-counts good (i * length ds + (n - 1)) t (omega (arith, δ-after good i (n - 1) (omega (arith, few)), last-in)))
+
+-- t is so many whole lists and a remainder, of at least 1 and at most the last distance
+module _ {ds : List ℕ} (good : GoodDistances ds) (t : ℕ) (some : 0 < t) where
+  abbrev whole : ℕ
+  whole = (t - 1) / asListed ds (length ds) * asListed ds (length ds)
+
+  pub lists-below : whole < t
+  lists-below = omega (arith, div-add-mod' (t - 1) (asListed ds (length ds)))
+
+  pub rest-short : t - whole ≤ asListed ds (length ds)
+  rest-short = omega (arith, div-add-mod' (t - 1) (asListed ds (length ds)), mod-lt (t - 1) (last-above good))
+
+  pub η-whole : η ds t ≡ (t - 1) / asListed ds (length ds) * length ds + withinList ds (t - whole) (length ds)
+  η-whole = ap (η ds) (omega (arith, lists-below)) ∙ η-lists good (omega (arith, lists-below)) ((t - 1) / asListed ds (length ds)) rest-short

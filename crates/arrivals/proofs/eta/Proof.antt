@@ -1,0 +1,99 @@
+-- `eta` meets its contract: its whole lists and its remainder are those of η.
+use Prim.Native.Nat.{ℕ, _+_, _*_, _-_, _/_, _<_}
+use mathlib.Core.Path.{_≡_, ap, ap₂, sym, _∙_}
+use mathlib.Core.List.{List}
+use native.Mathlib.Omega.{arith}
+use denote.Ref.{now}
+use lib.ListN.{length}
+use Rattle.table.specs.Record.{rowAt, distances}
+use Rattle.arrivals.specs.Arrivals.{asListed, η}
+use Rattle.arrivals.specs.code.WithinList.{withinList}
+use Rattle.arrivals.proofs.Lists.{last-above}
+use Rattle.arrivals.proofs.Counts.{η-near}
+use Rattle.arrivals.proofs.Remainders.{lists-below, η-whole}
+use Rattle.arrivals.proofs.Rows.{stands-length}
+use Rattle.arrivals.proofs.eta.Statement.{statement}
+use Rattle.arrivals.proofs.eta.Tie as tie
+
+-- the chain's distances
+abbrev ds : tie.Start → List ℕ
+ds s = distances (rowAt (now (s .args .s)) (s .args .at))
+
+-- the numbers of lists, of activations in them, and of ticks, as they were read
+module _ (c : tie.After-as-listed) where
+  abbrev s : tie.Start
+  s = c .before .before .before
+
+  abbrev last : ℕ
+  last = asListed (ds s) (length (ds s))
+
+  listed-is : c .before .listed-at .result ≡ length (ds s)
+  listed-is = c .before .listed-at .ensures .0 ∙ sym (stands-length (s .pre .0))
+
+  last-is : c .as-listed .result ≡ last
+  last-is = c .as-listed .ensures ∙ ap (asListed (ds s)) listed-is
+
+  activations : (s .args .t - 1) / c .as-listed .result * c .before .listed-at .result ≡ (s .args .t - 1) / last * length (ds s)
+  activations = ap₂ (λ p l. (s .args .t - 1) / p * l) last-is listed-is
+
+  ticks : (s .args .t - 1) / c .as-listed .result * c .as-listed .result ≡ (s .args .t - 1) / last * last
+  ticks = ap (λ p. (s .args .t - 1) / p * p) last-is
+
+  ticks-below : (s .args .t - 1) / c .as-listed .result * c .as-listed .result < s .args .t
+  ticks-below = omega (arith, ticks, lists-below (s .pre .0 .good .list) (s .args .t) (s .pre .1))
+
+-- η(t) in the code's shape
+all : (c : tie.After-within-list)
+    → (s (c .before) .args .t - 1) / c .before .as-listed .result * c .before .before .listed-at .result + c .within-list .result ≡ η (ds (s (c .before))) (s (c .before) .args .t)
+all c =
+    let b = s (c .before) in
+    ap₂ (λ x y. x + y) (activations (c .before))
+    (c .within-list .ensures ∙ ap₂ (λ w l. withinList (ds b) (b .args .t - w) l) (ticks (c .before)) (sym (stands-length (b .pre .0))))
+    ∙ sym (η-whole (b .pre .0 .good .list) (b .args .t) (b .pre .1))
+
+listed-at-requires : tie.Need-listed-at-requires
+listed-at-requires c κs = omega (arith, c .before .pre .0 .there)
+
+as-listed-requires : tie.Need-as-listed-requires
+as-listed-requires c κs = (c .before .before .pre .0, omega (arith, c .listed-at .ensures .0))
+
+sub-lists : tie.Need-sub-lists
+sub-lists c = omega (arith, c .before .before .before .pre .1)
+
+div-lists : tie.Need-div-lists
+div-lists c = omega (arith, last-is c, last-above (s c .pre .0 .good .list))
+
+mul-result : tie.Need-mul-result
+mul-result c =
+    let b = s c in
+    omega (arith, activations c, η-whole (b .pre .0 .good .list) (b .args .t) (b .pre .1), η-near (b .pre .0 .good .list) (b .args .t), b .pre .2)
+
+mul-within-list : tie.Need-mul-within-list
+mul-within-list c = omega (arith, ticks-below c, s c .pre .2)
+
+sub-within-list : tie.Need-sub-within-list
+sub-within-list c = omega (arith, ticks-below c)
+
+within-list-requires : tie.Need-within-list-requires
+within-list-requires c κs = (s c .pre .0, omega (arith, ticks-below c))
+
+add-result : tie.Need-add-result
+add-result c = let b = s (c .before) in omega (arith, all c, η-near (b .pre .0 .good .list) (b .args .t), b .pre .2)
+
+returns : tie.Need-returns
+returns c = all c
+
+pub eta-spec : {M : Type 1} → statement M
+eta-spec =
+    tie.close
+    (tie.spec
+    listed-at-requires
+    as-listed-requires
+    sub-lists
+    div-lists
+    mul-result
+    mul-within-list
+    sub-within-list
+    within-list-requires
+    add-result
+    returns)
