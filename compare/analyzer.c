@@ -264,8 +264,11 @@ static uint64_t smallest_distance(const struct chain *chain, uint64_t n)
     return whole_lists * last + (rest == 0 ? 0 : chain->distance[rest - 1]);
 }
 
+enum counting plain_counting = BISECTING;
+uint64_t plain_most_arrivals = 0;
+
 /* η(t), or `most` where it is larger: the greatest n with δ(n) < t, found by walking. */
-static uint64_t arrivals_up_to(const struct chain *chain, uint64_t t, uint64_t most)
+static uint64_t walk_up_to(const struct chain *chain, uint64_t t, uint64_t most)
 {
     if (t == 0)
         return 0;
@@ -275,8 +278,46 @@ static uint64_t arrivals_up_to(const struct chain *chain, uint64_t t, uint64_t m
     return n;
 }
 
-/* η(t). */
-static uint64_t arrivals(const struct chain *chain, uint64_t t) { return arrivals_up_to(chain, t, UINT64_MAX); }
+/* The first of 2, 4, 8, .. with δ(n) ≥ t. Its δ is not much above twice that of its half, so it does not overflow. */
+static uint64_t first_beyond(const struct chain *chain, uint64_t t)
+{
+    uint64_t n = 2;
+    while (smallest_distance(chain, n) < t)
+        n *= 2;
+    return n;
+}
+
+/* η(t), for t from 1: the greatest n with δ(n) < t, found by bisection, since δ never falls. */
+static uint64_t bisect(const struct chain *chain, uint64_t t)
+{
+    uint64_t beyond = first_beyond(chain, t), within = beyond / 2;
+    while (beyond - within > 1) {
+        uint64_t middle = within + (beyond - within) / 2;
+        if (smallest_distance(chain, middle) < t)
+            within = middle;
+        else
+            beyond = middle;
+    }
+    return within;
+}
+
+/* η(t), or `most` where it is larger. */
+static uint64_t arrivals_up_to(const struct chain *chain, uint64_t t, uint64_t most)
+{
+    if (plain_counting == WALKING)
+        return walk_up_to(chain, t, most);
+    uint64_t n = t == 0 ? 0 : bisect(chain, t);
+    return n < most ? n : most;
+}
+
+/* η(t) of a window. */
+static uint64_t arrivals(const struct chain *chain, uint64_t t)
+{
+    uint64_t n = arrivals_up_to(chain, t, UINT64_MAX);
+    if (n > plain_most_arrivals)
+        plain_most_arrivals = n;
+    return n;
+}
 
 /* ---- Segments against chain b ---- */
 
@@ -462,12 +503,16 @@ static uint64_t demand(const struct load *load, uint64_t q, uint64_t t)
     return sum;
 }
 
-/* The least t in 1..horizon equal to its demand, or 0 where there is none. Demand never falls as t grows,
-   so climbing from 1 meets the least one first. */
+/* The steps that climbs may take still; without end, unless they are counted. */
+static uint64_t steps_left = UINT64_MAX;
+
+/* The least t in 1..horizon equal to its demand, or 0 where there is none, or no step is left. Demand never falls as t
+   grows, so climbing from 1 meets the least one first. */
 static uint64_t window(const struct load *load, uint64_t q)
 {
     uint64_t t = 1;
-    while (t <= HORIZON) {
+    while (t <= HORIZON && steps_left > 0) {
+        steps_left--;
         uint64_t needed = demand(load, q, t);
         if (needed == t)
             return t;
@@ -501,6 +546,26 @@ static uint32_t analyze(const struct table *table, const struct chain *b, struct
             return 0;
     }
     return 17;
+}
+
+/* Takes the steps that the windows of all chains need from those that are left. */
+static void climb_all(const struct table *table)
+{
+    struct figures figures;
+    for (unsigned i = 0; i < table->chains; i++)
+        analyze(table, &table->chain[i], &figures);
+}
+
+bool plain_climbs_over(const uint8_t *table, size_t table_len, uint64_t steps)
+{
+    struct table read;
+    if (read_table(table, table_len, &read).number)
+        return false;
+    steps_left = steps + 1;
+    climb_all(&read);
+    bool over = steps_left == 0;
+    steps_left = UINT64_MAX;
+    return over;
 }
 
 /* ---- Misses ---- */

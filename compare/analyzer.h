@@ -6,6 +6,7 @@
 
 #include "../include/mishtodran.h"
 
+#include <stdbool.h>
 #include <stddef.h>
 #include <stdint.h>
 
@@ -30,6 +31,17 @@ uint32_t plain_write(const struct mishtodran_row *rows, size_t row_count, uint8_
 uint32_t plain_record(const uint8_t *table, size_t table_len, uint32_t id, uint8_t *answer, size_t answer_len);
 uint32_t plain_report(const uint8_t *table, size_t table_len, uint8_t *text, size_t text_len, uint8_t *answer,
                       size_t answer_len);
+
+/* How arrivals are counted: by bisection unless this is set otherwise. Walking is there to be measured against. */
+enum counting { BISECTING, WALKING };
+extern enum counting plain_counting;
+
+/* The most arrivals of one chain that a window held, of all that were tried since this was last set. */
+extern uint64_t plain_most_arrivals;
+
+/* Whether climbing to the windows of all chains of a table takes more than so many steps, demands worked out. A refused
+   table has no windows. */
+bool plain_climbs_over(const uint8_t *table, size_t table_len, uint64_t steps);
 
 /* What a miss query answers before k limits it: late times the most uses of any packing, 0 where nothing is late. Where
    the empty set is bad there is no most. Refused as the query is. */

@@ -1,9 +1,8 @@
 /* Holds the entries of mishtodran.h against the plain analyzer, on generated tables.
-   Usage: compare SEED N [walked]
+   Usage: compare SEED N
 
    Makes N tables from SEED, and for each some to be merged and some rows to be written, asks both every question about
-   them, and stops at the first difference, with the tables or the rows and the call. With `walked` the tables are those
-   on which counting arrivals one by one takes seconds, and nothing is merged or written. */
+   them, and stops at the first difference, with the tables or the rows and the call. */
 #include "../include/mishtodran.h"
 #include "analyzer.h"
 #include "generate.h"
@@ -19,10 +18,12 @@ enum { LATENCY, MISSES, SEGMENT, RECORD, CHECK, SAVE, MERGE, CONFLICT, READ, WRI
 enum { LONGEST_RECORD = 4096, ANSWER_ROOM = 32, TEXT_ROOM = MISHTODRAN_LONGEST_REPORT + 32, NUMBERS = 33 };
 enum { MERGE_ROOM = 2 * MISHTODRAN_MOST_TABLE_BYTES + 64 }; /* more than any merge takes */
 enum { WRITE_ROOM = MISHTODRAN_MOST_TABLE_BYTES + 64, READ_ROOM = MISHTODRAN_MOST_CHAINS + 4 };
+enum { MANY_ARRIVALS = 1000000 }; /* of one chain in a window: too many to be counted one by one */
 
 static const char *const entry_name[] = {"latency",  "misses", "segment", "record", "check", "save", "merge",
                                          "conflict", "read",   "write",   "report"};
 static const size_t answer_bytes[] = {16, 4, 8, 8, 8};
+static const char *const with_many[] = {"latency, over a million arrivals", "misses, over a million arrivals"};
 
 /* What decides a merge: one of its tables, or all of them together where each is accepted. */
 enum { ANCESTOR, FIRST, SECOND, TOGETHER, DECIDERS };
@@ -40,9 +41,10 @@ static const char *const ground_name[] = {"no activation late",
                                           "k, a miss and no overload chain",
                                           "21 before a miss without overload"};
 
-/* How often each entry has returned each number, the check has answered it, a merge has returned it because of what, and
-   the misses have come from what. */
+/* How often each entry has returned each number, with many arrivals in a window too, the check has answered it, a merge has
+   returned it because of what, and the misses have come from what. */
 static uint64_t met[ENTRIES][NUMBERS];
+static uint64_t met_with_many[ENTRIES][NUMBERS];
 static uint64_t answered[NUMBERS];
 static uint64_t decided[DECIDERS][NUMBERS];
 static uint64_t ground_met[GROUNDS];
@@ -160,6 +162,7 @@ static struct outcome ask(const struct generated *table, struct query query)
     struct outcome proved = nothing_yet(), plain = nothing_yet();
     lent = *table;
     proved.returned = ask_proved(&lent, &query, proved.answer);
+    plain_most_arrivals = 0;
     plain.returned = ask_plain(table, &query, plain.answer);
     bool changed = memcmp(lent.bytes, table->bytes, sizeof lent.bytes) != 0;
     if (changed || !same(&proved, &plain)) {
@@ -167,6 +170,8 @@ static struct outcome ask(const struct generated *table, struct query query)
         stop_at_query(table, &query, &proved, &plain, changed);
     }
     note(met[query.entry], proved.returned);
+    if (plain_most_arrivals > MANY_ARRIVALS)
+        note(met_with_many[query.entry], proved.returned);
     if (query.entry == CHECK && proved.returned == 0)
         note(answered, get32(proved.answer));
     return proved;
@@ -1019,14 +1024,6 @@ static void compare_table(struct source *source, struct generated *table)
         ask_spoiled(source, table, &places);
 }
 
-/* The first chain alone, and once. */
-static void compare_walked(const struct generated *table)
-{
-    struct places places = find_places(table);
-    ask_whole(table, LATENCY, places.id[0], 0, 0);
-    ask_whole(table, MISSES, places.id[0], 10, 0);
-}
-
 /* The table under way, to be shown where a library crashes on it. */
 static struct generated under_way;
 
@@ -1051,6 +1048,7 @@ static void print_counts(const char *what, const uint64_t counts[NUMBERS])
 }
 
 static const uint8_t of_misses[] = {0, 12, 13, 14, 15, 16, 17, 18, 19, 21, 27};
+static const uint8_t of_many[] = {0, 16};
 static const uint8_t of_table[] = {1, 2, 3, 4, 5, 6, 7, 9, 10, 11, 28, 29, 30, 31};
 static const uint8_t of_merge[] = {0, 1, 9, 11, 24, 32};
 static const uint8_t of_read[] = {0, 1, 2, 3, 4, 5, 6, 7, 9, 10, 11, 24, 27, 28, 29, 30, 31};
@@ -1081,6 +1079,13 @@ static bool lacks_ground(void)
     return missing;
 }
 
+/* Whether no latency or no misses with many arrivals were answered, or none refused. */
+static bool lacks_many(void)
+{
+    bool missing = lacks(with_many[LATENCY], met_with_many[LATENCY], of_many, sizeof of_many);
+    return lacks(with_many[MISSES], met_with_many[MISSES], of_many, sizeof of_many) || missing;
+}
+
 /* Whether misses, a check, a merge, a read, a write or a record have not given a number that they can give. */
 static bool lacks_number(void)
 {
@@ -1098,6 +1103,8 @@ static void print_met(void)
 {
     for (unsigned entry = 0; entry < ENTRIES; entry++)
         print_counts(entry_name[entry], met[entry]);
+    for (unsigned entry = LATENCY; entry <= MISSES; entry++)
+        print_counts(with_many[entry], met_with_many[entry]);
     print_counts("answered by check", answered);
     for (unsigned by = 0; by < DECIDERS; by++)
         print_counts(decided_by[by], decided[by]);
@@ -1107,9 +1114,8 @@ static void print_met(void)
 
 int main(int count, char **words)
 {
-    bool walked = count == 4 && strcmp(words[3], "walked") == 0;
-    if (count != 3 && !walked) {
-        fputs("compare: usage: compare SEED N [walked]\n", stderr);
+    if (count != 3) {
+        fputs("compare: usage: compare SEED N\n", stderr);
         return 2;
     }
     struct source source = {number_given("compare", "SEED", words[1], 0, MOST_SEED)};
@@ -1117,14 +1123,11 @@ int main(int count, char **words)
     signal(SIGSEGV, on_crash);
     signal(SIGBUS, on_crash);
     for (uint64_t i = 0; i < tables; i++) {
-        under_way = walked ? generate_walked(&source) : generate(&source);
-        if (walked)
-            compare_walked(&under_way);
-        else
-            compare_table(&source, &under_way);
+        under_way = generate(&source);
+        compare_table(&source, &under_way);
     }
     print_met();
-    if (!walked && tables >= 1000 && (lacks_number() || lacks_ground()))
+    if (tables >= 1000 && (lacks_number() || lacks_many() || lacks_ground()))
         return 1;
     printf("%" PRIu64 " tables, no difference\n", tables);
     if (fflush(stdout) != 0 || ferror(stdout)) {

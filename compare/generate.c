@@ -1,5 +1,5 @@
 /* The generator. What makes a table quick to work out is its families' own doing: either the processor is idle often
-   enough for windows to stay short, or distances are wide enough for the horizon to hold few arrivals. */
+   enough for climbs to their windows to be short, or costs are high enough for the horizon to be few steps away. */
 #include "generate.h"
 
 #include "analyzer.h"
@@ -10,7 +10,8 @@ enum {
     LATEST = 10000000, /* of deadlines, gaps, distances and windows */
     DEAREST = 1000000,
     HIGHEST = 65535,
-    MOST_IN_ALL = 64
+    MOST_IN_ALL = 64,
+    MOST_STEPS = 20000 /* of the climbs to all windows of a damaged table */
 };
 
 /* ---- Numbers ---- */
@@ -619,6 +620,145 @@ static struct made_table refused_misses(struct source *source)
     return table;
 }
 
+/* ---- Chains that come millions of times in a window ---- */
+
+/* So many distances up to this last one: the others are 0, all alike, or any. */
+static void fill_short_list(struct source *source, struct made_chain *chain, unsigned listed, uint32_t last)
+{
+    bool alike = one_in(source, 2);
+    uint32_t each = one_in(source, 2) ? 0 : (uint32_t)draw(source, 0, last);
+    chain->listed = listed;
+    for (unsigned i = 0; i < listed; i++)
+        chain->distance[i] = alike ? each : (uint32_t)draw(source, 0, last);
+    chain->distance[listed - 1] = last;
+    sort(chain->distance, listed);
+}
+
+/* The last of so many distances with which so many chains of cost 1 leave at least a tenth of the time. */
+static uint32_t leaving_time(struct source *source, unsigned chains, unsigned listed)
+{
+    uint32_t low = chains * listed * 10 / 9 + 1;
+    return low + (uint32_t)draw(source, 0, one_in(source, 2) ? 2 : 30);
+}
+
+/* A chain of one task of cost 1 that interferes freely. */
+static struct made_chain *add_frequent(struct source *source, struct made_table *table, unsigned listed, uint32_t last)
+{
+    struct made_chain *chain = add_chain(table, (uint32_t)draw(source, 1, 1000), 0, last);
+    add_task(chain, 7, 1);
+    chain->asynchronous = one_in(source, 2);
+    fill_short_list(source, chain, listed, last);
+    return chain;
+}
+
+/* Defers a chain below a floor of 4; against a tail of 5 it has so many active segments, of cost 1. Its low tasks cost so
+   much that its own second window is past the horizon. */
+static void defer(struct made_chain *chain, unsigned segments)
+{
+    chain->tasks = 0;
+    for (unsigned i = 0; i < segments; i++)
+        add_task(chain, 4, 1);
+    split_cost(chain, 1, LATEST * 8 / 10);
+}
+
+/* An overload chain of this cost that comes once in a window. */
+static void add_rare(struct made_table *table, uint64_t cost)
+{
+    struct made_chain *rare = add_chain(table, 1000, 0, LATEST);
+    rare->overload = true;
+    split_cost(rare, 9, cost);
+}
+
+/* A dear chain with a floor of 4 and a tail of 5. Some of its activations may come together; now and then they are frequent
+   too, and each brings a first part. */
+static void add_dear(struct source *source, struct made_table *table)
+{
+    struct made_chain *b = add_chain(table, (uint32_t)draw(source, 1, LATEST), LATEST, LATEST);
+    bool frequent = one_in(source, 6);
+    unsigned listed = one_in(source, 2) ? 1 : (unsigned)draw(source, 1, 8);
+    fill_short_list(source, b, listed, frequent && one_in(source, 2) ? 1 : leaving_time(source, 2, listed));
+    b->asynchronous = frequent || one_in(source, 2);
+    if (frequent)
+        add_task(b, 6, 1);
+    else
+        b->distance[listed - 1] = LATEST;
+    split_cost(b, 4, draw(source, 400000, 4000000) / listed);
+    add_task(b, 5, 1);
+}
+
+/* A dear chain below others that leave it some of the time; or below one whose list ends in 1, 2 or 3, which mostly leaves
+   none. No climb takes many steps: only what is dear is below a load of about 1. */
+static struct made_table frequent(struct source *source)
+{
+    struct made_table table = {0};
+    bool dense = one_in(source, 4);
+    unsigned others = (unsigned)draw(source, 1, 3);
+    add_dear(source, &table);
+    if (dense)
+        add_frequent(source, &table, (unsigned)draw(source, 1, 8), (uint32_t)draw(source, 1, 3));
+    for (unsigned i = dense; i < others; i++) {
+        unsigned listed = (unsigned)draw(source, 1, 8), cost = one_in(source, 2) ? 7 : (unsigned)draw(source, 1, 6);
+        bool deferred = dense || one_in(source, 2);
+        uint32_t last = leaving_time(source, others * (deferred ? cost : 1), listed);
+        struct made_chain *chain = add_frequent(source, &table, listed, last);
+        if (deferred)
+            defer(chain, cost);
+        chain->overload = one_in(source, 3);
+    }
+    if (one_in(source, 2))
+        add_rare(&table, draw(source, 1, 1000000));
+    if (!one_in(source, 4))
+        make_late(source, &table, 0);
+    return table;
+}
+
+/* δ(n). */
+static uint64_t distance_of(const struct made_chain *chain, uint64_t n)
+{
+    uint64_t lists = (n - 1) / chain->listed, rest = (n - 1) % chain->listed;
+    return lists * chain->distance[chain->listed - 1] + (rest == 0 ? 0 : chain->distance[rest - 1]);
+}
+
+/* How many activations come before the n-th, and not with it. */
+static uint64_t earlier(const struct made_chain *chain, uint64_t n)
+{
+    uint64_t at = distance_of(chain, n);
+    while (n > 1 && distance_of(chain, n - 1) == at)
+        n--;
+    return n - 1;
+}
+
+/* What some chains of cost 1 that come together leave of the time before an activation, or a tick more or less: with so much
+   to do besides, a window ends there, and would not if one arrival more or less were counted. The activation is the first
+   after a whole list, or any, now and then near the horizon. */
+static uint64_t left_before(struct source *source, const struct made_chain *chain, unsigned chains)
+{
+    uint64_t about = one_in(source, 4) ? LATEST : draw(source, LATEST / 100, LATEST);
+    uint64_t n = 1 + about / chain->distance[chain->listed - 1] * chain->listed;
+    if (one_in(source, 2))
+        n += draw(source, 0, chain->listed - 1);
+    return distance_of(chain, n) - earlier(chain, n) * chains + draw(source, 0, 2) - 1;
+}
+
+/* A window that ends where other chains come. */
+static struct made_table at_arrivals(struct source *source)
+{
+    struct made_table table = {0};
+    unsigned others = (unsigned)draw(source, 1, 3), listed = (unsigned)draw(source, 1, 8);
+    struct made_chain *b = add_chain(&table, (uint32_t)draw(source, 1, LATEST), LATEST, LATEST);
+    struct made_chain *other = add_frequent(source, &table, listed, leaving_time(source, others, listed));
+    for (unsigned i = 1; i < others; i++)
+        memcpy(add_frequent(source, &table, listed, 1)->distance, other->distance, sizeof other->distance);
+    uint64_t left = left_before(source, other, others), rare = one_in(source, 2) ? draw(source, 1, left / 2) : 0;
+    b->asynchronous = one_in(source, 2);
+    split_cost(b, 5, left - rare);
+    if (rare > 0) {
+        add_rare(&table, rare);
+        make_late(source, &table, 0);
+    }
+    return table;
+}
+
 /* ---- Damage ---- */
 
 static void flip_bit(struct source *source, struct generated *table)
@@ -1035,30 +1175,6 @@ void spoil_together(struct source *source, struct generated *table, unsigned cha
 
 /* ---- Any table ---- */
 
-/* Whether damage has left an accepted table in which a window may hold thousands of arrivals. No window is much wider
-   than what every chain asks for with its whole list at once, in the part of the time that is left. */
-static bool takes_long(const struct generated *table)
-{
-    uint8_t answer[16];
-    uint64_t at_once = 0, closest = LATEST, window = LATEST;
-    uint64_t busy = 0; /* of a million */
-    if (plain_latency(table->bytes, table->length, 0, answer, sizeof answer) != 12)
-        return false;
-    for (const uint8_t *at = table->bytes; at[0] == 'C';) {
-        unsigned listed = at[14], tasks = at[15];
-        uint64_t last = get(at + 12 + 4 * listed, 4), cost = 0;
-        for (unsigned i = 0; i < tasks; i++)
-            cost += get(at + 16 + 4 * listed + 8 * i + 4, 4);
-        at_once += cost * listed;
-        busy += cost * listed * 1000000 / last;
-        closest = least(closest, last / listed);
-        at += 16 + 4 * listed + 8 * tasks;
-    }
-    if (busy < 999000)
-        window = least(at_once * 1000000 / (1000000 - busy), LATEST);
-    return window > 2000 * closest;
-}
-
 static struct made_table documented(struct source *source)
 {
     switch (draw(source, 0, 2)) {
@@ -1088,12 +1204,13 @@ struct family {
 };
 
 static const struct family families[] = {
-    {"of the documents", 2, documented}, {"light", 31, some_light},
+    {"of the documents", 2, documented}, {"light", 25, some_light},
     {"full", 4, full_table},             {"heavy", 5, heavy_table},
     {"close to one", 5, close_to_one},   {"backlog", 7, backlog},
     {"horizon", 6, horizon},             {"exact horizon", 3, exact_horizon},
     {"limits", 6, at_limits},            {"wrong count", 4, wrong_count},
-    {"packing", 22, some_packing},       {"refused misses", 5, refused_misses},
+    {"packing", 18, some_packing},       {"refused misses", 5, refused_misses},
+    {"frequent", 6, frequent},           {"at arrivals", 4, at_arrivals},
 };
 
 static const struct family *any_family(struct source *source)
@@ -1120,36 +1237,10 @@ struct generated generate(struct source *source)
         spoil_together(source, &found, table.chains);
     } else if (one_in(source, 3)) {
         damage(source, &found, table.chains);
-        if (takes_long(&found))
+        if (plain_climbs_over(found.bytes, found.length, MOST_STEPS))
             cut(source, &found);
     }
     return found;
-}
-
-/* A chain with a last distance of 1 to 3, or eight in a burst, before a wide window of another. */
-struct generated generate_walked(struct source *source)
-{
-    struct made_table table = {0};
-    struct made_chain *b = add_chain(&table, (uint32_t)draw(source, 1, LATEST), LATEST, LATEST);
-    b->asynchronous = one_in(source, 2);
-    split_cost(b, 5, draw(source, 500000, 3000000));
-    struct made_chain *other = add_chain(&table, 1000, 0, (uint32_t)draw(source, 1, 3));
-    add_task(other, 7, 1);
-    if (one_in(source, 3))
-        add_task(other, 1, 1);
-    other->asynchronous = one_in(source, 2);
-    if (one_in(source, 2)) {
-        other->listed = 8;
-        other->distance[7] = (uint32_t)draw(source, 8, 16);
-        for (unsigned i = 0; i < 7; i++)
-            other->distance[i] = i;
-    }
-    struct made_chain *rare = add_chain(&table, 1000, 0, LATEST);
-    rare->overload = true;
-    split_cost(rare, 6, draw(source, 1, 3000000));
-    if (one_in(source, 2))
-        make_late(source, &table, 0);
-    return stored(&table, "walked");
 }
 
 /* ---- Tables to be merged ---- */

@@ -71,8 +71,6 @@ struct generated generate(struct source *source);
 /* Spoils a table of so many whole chain records and an end record: a fault, or some that are close together in the
    order of reading, so that only their order decides. */
 void spoil_together(struct source *source, struct generated *table, unsigned chains);
-/* A table on which counting arrivals one by one takes seconds. */
-struct generated generate_walked(struct source *source);
 
 /* ---- Tables to be merged ---- */
 

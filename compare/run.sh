@@ -1,6 +1,6 @@
 #!/usr/bin/env bash
 # Holds a library with the entries of mishtodran.h against the plain analyzer, or measures both.
-# Usage: compare/run.sh LIBRARY compare SEED N [walked]
+# Usage: compare/run.sh LIBRARY compare SEED N
 #        compare/run.sh LIBRARY bench [SEED]
 # LIBRARY is an x86-64 archive (target/staticlib/libeditor.a). bench measures GLPK too where compare/glpk.sh has fetched it.
 set -u
@@ -8,13 +8,13 @@ name=compare
 # shellcheck source=scripts/shell.sh
 . "$(dirname "$(readlink -f "${BASH_SOURCE[0]}")")/../scripts/shell.sh" || exit 2
 
-case $#:${2-}:${5-walked} in
-    [45]:compare:walked)
+case $#:${2-} in
+    4:compare)
         check_seed "$3"
         check_tables "$4"
         ;;
-    [23]:bench:*) check_seed "${3-1}" ;;
-    *) fail "usage: compare/run.sh LIBRARY compare SEED N [walked], or compare/run.sh LIBRARY bench [SEED]" ;;
+    [23]:bench) check_seed "${3-1}" ;;
+    *) fail "usage: compare/run.sh LIBRARY compare SEED N, or compare/run.sh LIBRARY bench [SEED]" ;;
 esac
 [ -f "$1" ] || fail "there is no library $1"
 library=$(readlink -f "$1")

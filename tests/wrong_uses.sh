@@ -113,14 +113,13 @@ wrong 2 "$seed '4294967296'" ./mishtodran compare 10 4294967296
 wrong 2 "$seed 'one'" ./mishtodran bench one
 wrong 2 "mishtodran: usage: ./mishtodran bench [SEED]" ./mishtodran bench 1 2
 
-usage="compare: usage: compare/run.sh LIBRARY compare SEED N [walked], or compare/run.sh LIBRARY bench [SEED]"
+usage="compare: usage: compare/run.sh LIBRARY compare SEED N, or compare/run.sh LIBRARY bench [SEED]"
 touch "$copy/lib.a"
 wrong 2 "$usage" compare/run.sh
 wrong 2 "$usage" compare/run.sh lib.a
 wrong 2 "$usage" compare/run.sh lib.a reports 1 2
 wrong 2 "$usage" compare/run.sh lib.a compare 1
-wrong 2 "$usage" compare/run.sh lib.a compare 1 2 walks
-wrong 2 "$usage" compare/run.sh lib.a compare 1 2 walked 3
+wrong 2 "$usage" compare/run.sh lib.a compare 1 2 3
 wrong 2 "$usage" compare/run.sh lib.a bench 1 2
 wrong 2 "compare: SEED is a whole number from 0 to 4294967295, not 'x'" compare/run.sh lib.a compare x 1
 wrong 2 "compare: N is a whole number from 1 to 1000000000, not '-3'" compare/run.sh lib.a compare 1 -3
@@ -153,8 +152,8 @@ done
 "$c_compiler" -std=c11 -o "$copy/built/worst" "$top/packing/worst.c" "$top/compare/words.c" || fail "worst was not built"
 n='N is a whole number from 1 to'
 seed='SEED is a whole number from 0 to 4294967295, not'
-wrong 2 "compare: usage: compare SEED N [walked]" built/compare 1
-wrong 2 "compare: usage: compare SEED N [walked]" built/compare 1 1 walks
+wrong 2 "compare: usage: compare SEED N" built/compare 1
+wrong 2 "compare: usage: compare SEED N" built/compare 1 1 1
 wrong 2 "compare: $seed '-1'" built/compare -1 1
 wrong 2 "compare: $seed ''" built/compare "" 1
 wrong 2 "compare: $n 1000000000, not '1e3'" built/compare 1 1e3
