@@ -1,7 +1,8 @@
 /* How long the entries of mishtodran.h and the plain analyzer take on the same calls, in one process.
    Usage: bench [SEED]
 
-   A line for each case: microseconds a call, the best of several runs, and how many times as long the plain one takes.
+   A line for each case: microseconds a call, the best of several runs, and how many times as long the plain one takes. The
+   plain one counts arrivals by walking; where that takes seconds, by bisection, and the line says so.
    Built with WITH_GLPK and packing_glpk.c, also what GLPK takes for the packing of the six-segment cases. */
 #define _POSIX_C_SOURCE 200809L
 #include "../include/mishtodran.h"
@@ -532,6 +533,43 @@ static void growth_cases(void)
         measure_growth("K:", activations[n], closing_at(activations[n]));
 }
 
+/* ---- Millions of arrivals ---- */
+
+/* So many chains of cost 1 that come eight at once, and again after so long; below them a chain of two tasks of this cost, and
+   above them an overload chain. The deadline is what the first chain needs without overload where it costs 1,900,000 and four
+   chains come every 40. */
+static struct made_table in_eights(unsigned chains, uint32_t last, uint32_t cost)
+{
+    struct made_table table = {0};
+    struct made_chain *b = add_chain(&table, 9500000, 10000000, 10000000);
+    add_task(b, 1, cost);
+    add_task(b, 1, cost);
+    for (unsigned i = 0; i < chains; i++) {
+        struct made_chain *chain = add_chain(&table, 1000, 0, 0);
+        chain->listed = 8;
+        chain->distance[7] = last; /* those before it are 0 */
+        add_task(chain, 2 + i, 1);
+    }
+    struct made_chain *overload = add_chain(&table, 1000, 0, 10000000);
+    overload->overload = true;
+    add_task(overload, 2 + chains, 8);
+    return table;
+}
+
+static void bisected_cases(void)
+{
+    tables_used = 0;
+    plain_counting = BISECTING;
+    struct stored *ending_in_1 = keep(in_eights(14, 1, 1));
+    struct stored *many = keep(in_eights(4, 40, 950000));
+    measure_one("latency, lists that end in 1, plain bisects", LATENCY, ending_in_1, 1, 0, 0);
+    measure_one("misses, lists that end in 1, plain bisects", MISSES, ending_in_1, 1, 10, 0);
+    measure_one("report, lists that end in 1, plain bisects", REPORT, ending_in_1, 0, 0, 0);
+    measure_one("latency, millions of arrivals, plain bisects", LATENCY, many, 1, 0, 0);
+    measure_one("misses, millions of arrivals, plain bisects", MISSES, many, 1, 10, 0);
+    measure_one("report, millions of arrivals, plain bisects", REPORT, many, 0, 0, 0);
+}
+
 int main(int count, char **words)
 {
     if (count > 2) {
@@ -539,11 +577,13 @@ int main(int count, char **words)
         return 2;
     }
     struct source source = {count == 2 ? number_given("bench", "SEED", words[1], 0, MOST_SEED) : 1};
+    plain_counting = WALKING;
     printf("%-44s %14s %14s %10s\n", "microseconds a call", "mishtodran", "plain", "ratio");
     usual_cases(&source);
     merge_cases(&source);
     row_cases(&source);
     slow_cases();
     growth_cases();
+    bisected_cases();
     return 0;
 }
