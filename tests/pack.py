@@ -58,6 +58,38 @@ BURSTS = stored(
     chain(1, 0, 0, 15, 0, [0, 0, 100], [(5, 10)]),
     chain(2, 0, 0, 40, 0, [100], [(1, 5)]))
 
+
+def below(cost, distances, kind=0, tasks=((9, 1),)):
+    """Chain 1 of this cost below chain 2, of cost 1 and with these distances: the window is the least t = cost + η(t)."""
+    whole, rest = divmod(cost, 1_000_000)
+    return stored(chain(1, 0, 0, TIME, TIME, [TIME], [(5, 1_000_000)] * whole + [(5, rest)] * (rest > 0)),
+                  chain(2, kind, 0, 1000, 0, distances, tasks))
+
+
+def first_part(cost, distances, deadline):
+    """An asynchronous chain of this cost, with a first part of 1: B(q) is the least t = q cost + max(0, η(t) - q)."""
+    return stored(chain(1, 1, 0, deadline, 0, distances, [(9, 1), (5, cost - 1)]))
+
+
+def reaching(gap, cost):
+    """Chain 1 of this cost, as rare as its gap, which misses its deadline with overload alone, of cost 1: a run reaches over
+    k gap - gap + cost + 1, and the misses are one more than the overload's arrivals in that, or k."""
+    return stored(chain(1, 0, 0, cost, gap, [gap], [(5, cost)]), chain(2, 0, 1, 1000, 0, [10, 15], [(9, 1)]))
+
+
+# Lists 10, 15: η(10) = 1, η(11) = η(15) = 2, η(16) = η(25) = 3, η(26) = η(30) = 4, η(31) = η(40) = 5. Lists 0, 0, 10, which are
+# three at once: η(10) = 3, η(11) = η(20) = 6, η(21) = 9. Lists 0, 5, 5: two at first, and three every 5 from there on.
+# (distances, cost, window): a window that ends where the next ones come, and with a cost of 1 more, past them
+COUNTED = [
+    ([10, 15], 9, 10), ([10, 15], 10, 12), ([10, 15], 13, 15), ([10, 15], 14, 17), ([10, 15], 22, 25), ([10, 15], 23, 27),
+    ([10, 15], 26, 30), ([10, 15], 27, 32),
+    ([0, 0, 10], 7, 10), ([0, 0, 10], 8, 14), ([0, 0, 10], 14, 20), ([0, 0, 10], 15, 24),
+    ([0, 5, 5], 3, 5), ([0, 5, 5], 4, 9), ([0, 5, 5], 5, 10), ([0, 5, 5], 6, 14),
+    # millions: one every 2, two every 3, eight every 9
+    ([2], 4_999_999, 9_999_998), ([2], 5_000_000, 10_000_000), ([0, 3], 3_333_333, 9_999_999),
+    ([0] * 7 + [9], 1_111_111, 9_999_999),
+]
+
 # (table, id, number, K, latency, late, margin)
 LATENCIES = [
     (SAMPLE, 1, 0, 1, 64, 1, -24),
@@ -80,6 +112,23 @@ LATENCIES = [
     (backlog(1025, 0, 100), 1, 17, 0, 0, 0, 0),
     (BURSTS, 1, 0, 3, 30, 2, -15),
     (BURSTS, 2, 0, 1, 35, 0, 5),
+    *((below(cost, distances), 1, 0, 1, window, 0, TIME - window) for distances, cost, window in COUNTED),
+    # millions that leave too little of the time, or none
+    (below(5_000_001, [2]), 1, 16, 0, 0, 0, 0),
+    (below(3_333_334, [0, 3]), 1, 16, 0, 0, 0, 0),
+    (below(1_111_112, [0] * 7 + [9]), 1, 16, 0, 0, 0, 0),
+    (below(1_000_000, [1]), 1, 16, 0, 0, 0, 0),
+    (below(1, [0] * 7 + [1]), 1, 16, 0, 0, 0, 0),
+    (below(1, [1] * 8), 1, 16, 0, 0, 0, 0),
+    # deferred, synchronous: once; asynchronous: once, and with each arrival
+    (below(1_000_000, [1], 0, [(9, 1), (1, 1)]), 1, 0, 1, 1_000_001, 0, TIME - 1_000_001),
+    (below(4_999_999, [2], 1, [(9, 1), (1, 1)]), 1, 0, 1, 10_000_000, 0, 0),
+    (below(1_000_000, [1], 1, [(9, 1), (1, 1)]), 1, 16, 0, 0, 0, 0),
+    # a chain's own arrivals: B(1) = 10; B(1) = 6 and B(2) = 10; B(1) = 4, B(2) = 5 and B(3) = 6; no window
+    (first_part(10, [10, 15], 10), 1, 0, 1, 10, 0, 0),
+    (first_part(5, [0, 10], 9), 1, 0, 2, 10, 1, -1),
+    (first_part(2, [0, 0, 10], 4), 1, 0, 3, 6, 2, -2),
+    (first_part(1_000_000, [1], TIME), 1, 16, 0, 0, 0, 0),
 ]
 
 
@@ -216,6 +265,10 @@ MISSES = [
     (bursts(31), 1, 3, 3), (bursts(31), 1, 4, 4), (bursts(31), 1, 5, 4),
     # late, and each segment alone is not bad, or is: no use, or 4
     (apart(16), 1, 10, 0), (apart(15), 1, 3, 3), (apart(15), 1, 10, 4),
+    # runs that reach over 10, 12, 16, 26, 30 and 32; over 15, 27 and 31; over 25 and 40
+    (reaching(2, 1), 1, 5, 2), (reaching(2, 1), 1, 6, 3), (reaching(2, 1), 1, 8, 4), (reaching(2, 1), 1, 13, 5),
+    (reaching(2, 1), 1, 15, 5), (reaching(2, 1), 1, 16, 6), (reaching(4, 2), 1, 4, 3), (reaching(4, 2), 1, 7, 5),
+    (reaching(4, 2), 1, 8, 6), (reaching(5, 4), 1, 5, 4), (reaching(5, 4), 1, 8, 6),
 ]
 
 
@@ -244,6 +297,10 @@ REPORTS = [
     (crowd(9, 6, 24), HEADER + "1 1 16 1 -7 10\n2 1 11 0 989 r14\n"),
     (crowd(10, 6, 1000), HEADER + "1 1 16 1 -6 10\n2 1 11 0 989 r14\n"),
     (crowd(9, 6, 23), HEADER + "1 1 16 1 -7 r21\n2 1 11 0 989 r14\n"),
+    # millions of arrivals: eight every 9, one a tick, eight a tick
+    (below(1_111_111, [0] * 7 + [9]), HEADER + "1 1 9999999 0 1 0\n2 8 8 0 992 r15\n"),
+    (below(1_000_000, [1]), HEADER + "1 r16\n2 1 1 0 999 r15\n"),
+    (below(1, [0] * 7 + [1]), HEADER + "1 r16\n2 r17\n"),
     (b"", "refused 1 0\n"),
     (SAMPLE[:1], "refused 2 1\n"),
     (SAMPLE[:-1], "refused 2 139\n"),
