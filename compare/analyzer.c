@@ -301,23 +301,25 @@ static uint64_t bisect(const struct chain *chain, uint64_t t)
     return within;
 }
 
-/* η(t), or `most` where it is larger. */
-static uint64_t arrivals_up_to(const struct chain *chain, uint64_t t, uint64_t most)
+/* The same by bisection. */
+static uint64_t bisect_up_to(const struct chain *chain, uint64_t t, uint64_t most)
 {
-    if (plain_counting == WALKING)
-        return walk_up_to(chain, t, most);
     uint64_t n = t == 0 ? 0 : bisect(chain, t);
-    return n < most ? n : most;
-}
-
-/* η(t) of a window. */
-static uint64_t arrivals(const struct chain *chain, uint64_t t)
-{
-    uint64_t n = arrivals_up_to(chain, t, UINT64_MAX);
+    if (n > most)
+        n = most;
     if (n > plain_most_arrivals)
         plain_most_arrivals = n;
     return n;
 }
+
+/* Either. Like `climb` it is inline, so that a choice costs what is measured nothing. */
+static inline uint64_t arrivals_up_to(const struct chain *chain, uint64_t t, uint64_t most)
+{
+    return plain_counting == WALKING ? walk_up_to(chain, t, most) : bisect_up_to(chain, t, most);
+}
+
+/* η(t). */
+static uint64_t arrivals(const struct chain *chain, uint64_t t) { return arrivals_up_to(chain, t, UINT64_MAX); }
 
 /* ---- Segments against chain b ---- */
 
@@ -503,22 +505,25 @@ static uint64_t demand(const struct load *load, uint64_t q, uint64_t t)
     return sum;
 }
 
-/* The steps that climbs may take still; without end, unless they are counted. */
-static uint64_t steps_left = UINT64_MAX;
-
-/* The least t in 1..horizon equal to its demand, or 0 where there is none, or no step is left. Demand never falls as t
-   grows, so climbing from 1 meets the least one first. */
-static uint64_t window(const struct load *load, uint64_t q)
+/* The least t in 1..horizon equal to its demand, or 0 where there is none, or it takes more steps than are left. Demand never
+   falls as t grows, so climbing from 1 meets the least one first. */
+static inline uint64_t climb(const struct load *load, uint64_t q, uint64_t *steps_left)
 {
     uint64_t t = 1;
-    while (t <= HORIZON && steps_left > 0) {
-        steps_left--;
+    for (; t <= HORIZON && *steps_left > 0; --*steps_left) {
         uint64_t needed = demand(load, q, t);
         if (needed == t)
             return t;
         t = needed;
     }
     return 0;
+}
+
+/* B(q), or 0 where there is none. */
+static uint64_t window(const struct load *load, uint64_t q)
+{
+    uint64_t without_end = UINT64_MAX;
+    return climb(load, q, &without_end);
 }
 
 static void count_window(struct figures *figures, const struct chain *b, uint64_t q, uint64_t length)
@@ -548,24 +553,26 @@ static uint32_t analyze(const struct table *table, const struct chain *b, struct
     return 17;
 }
 
-/* Takes the steps that the windows of all chains need from those that are left. */
-static void climb_all(const struct table *table)
+/* Takes from the steps that are left those of the climbs to b's windows. */
+static void climb_all(const struct table *table, const struct chain *b, uint64_t *steps_left)
 {
-    struct figures figures;
-    for (unsigned i = 0; i < table->chains; i++)
-        analyze(table, &table->chain[i], &figures);
+    struct load load = load_of(table, b, true);
+    for (uint64_t q = 1; q <= MOST_ACTIVATIONS; q++) {
+        uint64_t length = climb(&load, q, steps_left);
+        if (length <= smallest_distance(b, q + 1))
+            return;
+    }
 }
 
 bool plain_climbs_over(const uint8_t *table, size_t table_len, uint64_t steps)
 {
     struct table read;
+    uint64_t steps_left = steps;
     if (read_table(table, table_len, &read).number)
         return false;
-    steps_left = steps + 1;
-    climb_all(&read);
-    bool over = steps_left == 0;
-    steps_left = UINT64_MAX;
-    return over;
+    for (unsigned i = 0; i < read.chains; i++)
+        climb_all(&read, &read.chain[i], &steps_left);
+    return steps_left == 0;
 }
 
 /* ---- Misses ---- */

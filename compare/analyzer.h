@@ -36,11 +36,12 @@ uint32_t plain_report(const uint8_t *table, size_t table_len, uint8_t *text, siz
 enum counting { BISECTING, WALKING };
 extern enum counting plain_counting;
 
-/* The most arrivals of one chain that a window held, of all that were tried since this was last set. */
+/* The most arrivals of one chain that were counted by bisection since this was last set. More than a capacity, 40, are
+   counted in windows alone. */
 extern uint64_t plain_most_arrivals;
 
-/* Whether climbing to the windows of all chains of a table takes more than so many steps, demands worked out. A refused
-   table has no windows. */
+/* Whether climbing to the windows of all chains of a table takes so many steps, each of which works out a demand, or more.
+   A refused table has no windows. */
 bool plain_climbs_over(const uint8_t *table, size_t table_len, uint64_t steps);
 
 /* What a miss query answers before k limits it: late times the most uses of any packing, 0 where nothing is late. Where
