@@ -560,7 +560,7 @@ static void bisected_cases(void)
 {
     tables_used = 0;
     plain_counting = BISECTING;
-    struct stored *ending_in_1 = keep(in_eights(14, 1, 1));
+    struct stored *ending_in_1 = keep(in_eights(14, 1, 44000)); /* the last demand that is worked out is that of 9,957,448 */
     struct stored *many = keep(in_eights(4, 40, 950000));
     measure_one("latency, lists that end in 1, plain bisects", LATENCY, ending_in_1, 1, 0, 0);
     measure_one("misses, lists that end in 1, plain bisects", MISSES, ending_in_1, 1, 10, 0);

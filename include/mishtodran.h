@@ -18,9 +18,10 @@
  *
  * Duration: every call ends; how soon is measured, not proved. On an x86-64 machine of 2 GHz, a check, a segment, a
  * record or a save takes about a microsecond at most, a read, a write, a merge or its conflicts a few, and any call on
- * an ordinary table less than a millisecond. The slowest tables that we know have full lists whose last distance is 1,
- * before windows of almost 10,000,000 ticks: there a latency or misses take 3 seconds, and a report 50. An editor that
- * must not stand still makes these calls in a thread of its own.
+ * an ordinary table less than a millisecond. The slowest tables that we know have chains that take nearly all of the
+ * time, so that a window is climbed to in millions of steps: there a latency or misses take some tenths of a second, and
+ * a report, which asks for both of every chain, may take seconds. An editor that must not stand still makes these calls
+ * in a thread of its own.
  */
 #ifndef MISHTODRAN_H
 #define MISHTODRAN_H
