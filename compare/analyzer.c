@@ -278,7 +278,8 @@ static uint64_t walk_up_to(const struct chain *chain, uint64_t t, uint64_t most)
     return n;
 }
 
-/* The first of 2, 4, 8, .. with δ(n) ≥ t. Its δ is not much above twice that of its half, so it does not overflow. */
+/* The first of 2, 4, 8, .. with δ(n) ≥ t. Its δ is at most twice that of its half and
+   one list more, so it does not overflow. */
 static uint64_t first_beyond(const struct chain *chain, uint64_t t)
 {
     uint64_t n = 2;
@@ -301,7 +302,7 @@ static uint64_t bisect(const struct chain *chain, uint64_t t)
     return within;
 }
 
-/* The same by bisection. */
+/* η(t), or `most` where it is larger, by bisection. */
 static uint64_t bisect_up_to(const struct chain *chain, uint64_t t, uint64_t most)
 {
     uint64_t n = t == 0 ? 0 : bisect(chain, t);
@@ -312,7 +313,8 @@ static uint64_t bisect_up_to(const struct chain *chain, uint64_t t, uint64_t mos
     return n;
 }
 
-/* Either. Like `climb` it is inline, so that a choice costs what is measured nothing. */
+/* η(t), or `most` where it is larger, as `plain_counting` says. Inline, as `climb` is, so that what is measured walks at no
+   other cost than this test. */
 static inline uint64_t arrivals_up_to(const struct chain *chain, uint64_t t, uint64_t most)
 {
     return plain_counting == WALKING ? walk_up_to(chain, t, most) : bisect_up_to(chain, t, most);
@@ -564,7 +566,7 @@ static void climb_all(const struct table *table, const struct chain *b, uint64_t
     }
 }
 
-bool plain_climbs_over(const uint8_t *table, size_t table_len, uint64_t steps)
+bool plain_climbs_take(const uint8_t *table, size_t table_len, uint64_t steps)
 {
     struct table read;
     uint64_t steps_left = steps;

@@ -40,9 +40,9 @@ extern enum counting plain_counting;
    counted in windows alone. */
 extern uint64_t plain_most_arrivals;
 
-/* Whether climbing to the windows of all chains of a table takes so many steps, each of which works out a demand, or more.
-   A refused table has no windows. */
-bool plain_climbs_over(const uint8_t *table, size_t table_len, uint64_t steps);
+/* Whether the climbs to the windows of all chains of a table take so many steps or more: demands that lie above the t whose
+   they are. A refused table has no windows. */
+bool plain_climbs_take(const uint8_t *table, size_t table_len, uint64_t steps);
 
 /* What a miss query answers before k limits it: late times the most uses of any packing, 0 where nothing is late. Where
    the empty set is bad there is no most. Refused as the query is. */

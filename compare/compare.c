@@ -41,8 +41,8 @@ static const char *const ground_name[] = {"no activation late",
                                           "k, a miss and no overload chain",
                                           "21 before a miss without overload"};
 
-/* How often each entry has returned each number, with many arrivals in a window too, the check has answered it, a merge has
-   returned it because of what, and the misses have come from what. */
+/* How often each entry has returned each number, and how often with many arrivals in a window; how often the check has
+   answered it, a merge has returned it because of what, and the misses have come from what. */
 static uint64_t met[ENTRIES][NUMBERS];
 static uint64_t met_with_many[ENTRIES][NUMBERS];
 static uint64_t answered[NUMBERS];

@@ -11,7 +11,7 @@ enum {
     DEAREST = 1000000,
     HIGHEST = 65535,
     MOST_IN_ALL = 64,
-    MOST_STEPS = 20000 /* of the climbs to all windows of a damaged table */
+    MOST_STEPS = 100000 /* of the climbs to all windows of a damaged table */
 };
 
 /* ---- Numbers ---- */
@@ -674,11 +674,11 @@ static void add_rare(struct made_table *table, uint64_t cost)
 static void add_dear(struct source *source, struct made_table *table)
 {
     struct made_chain *b = add_chain(table, (uint32_t)draw(source, 1, LATEST), LATEST, LATEST);
-    bool frequent = one_in(source, 6);
+    bool often = one_in(source, 6);
     unsigned listed = one_in(source, 2) ? 1 : (unsigned)draw(source, 1, 8);
-    fill_short_list(source, b, listed, frequent && one_in(source, 2) ? 1 : leaving_time(source, 2, listed));
-    b->asynchronous = frequent || one_in(source, 2);
-    if (frequent)
+    fill_short_list(source, b, listed, often && one_in(source, 2) ? 1 : leaving_time(source, 2, listed));
+    b->asynchronous = often || one_in(source, 2);
+    if (often)
         add_task(b, 6, 1);
     else
         b->distance[listed - 1] = LATEST;
@@ -687,7 +687,7 @@ static void add_dear(struct source *source, struct made_table *table)
 }
 
 /* A dear chain below others that leave it some of the time; or below one whose list ends in 1, 2 or 3, which mostly leaves
-   none. No climb takes many steps: only what is dear is below a load of about 1. */
+   none. No climb takes many steps: what lies below a load of about 1 is dear. */
 static struct made_table frequent(struct source *source)
 {
     struct made_table table = {0};
@@ -697,12 +697,12 @@ static struct made_table frequent(struct source *source)
     if (dense)
         add_frequent(source, &table, (unsigned)draw(source, 1, 8), (uint32_t)draw(source, 1, 3));
     for (unsigned i = dense; i < others; i++) {
-        unsigned listed = (unsigned)draw(source, 1, 8), cost = one_in(source, 2) ? 7 : (unsigned)draw(source, 1, 6);
+        unsigned listed = (unsigned)draw(source, 1, 8), segments = one_in(source, 2) ? 7 : (unsigned)draw(source, 1, 6);
         bool deferred = dense || one_in(source, 2);
-        uint32_t last = leaving_time(source, others * (deferred ? cost : 1), listed);
+        uint32_t last = leaving_time(source, others * (deferred ? segments : 1), listed);
         struct made_chain *chain = add_frequent(source, &table, listed, last);
         if (deferred)
-            defer(chain, cost);
+            defer(chain, segments);
         chain->overload = one_in(source, 3);
     }
     if (one_in(source, 2))
@@ -1237,7 +1237,7 @@ struct generated generate(struct source *source)
         spoil_together(source, &found, table.chains);
     } else if (one_in(source, 3)) {
         damage(source, &found, table.chains);
-        if (plain_climbs_over(found.bytes, found.length, MOST_STEPS))
+        if (plain_climbs_take(found.bytes, found.length, MOST_STEPS))
             cut(source, &found);
     }
     return found;

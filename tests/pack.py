@@ -59,6 +59,9 @@ BURSTS = stored(
     chain(2, 0, 0, 40, 0, [100], [(1, 5)]))
 
 
+DEFERRED = ((9, 1), (1, 1))
+
+
 def below(cost, distances, kind=0, tasks=((9, 1),)):
     """Chain 1 of this cost below chain 2, of cost 1 and with these distances: the window is the least t = cost + η(t)."""
     whole, rest = divmod(cost, 1_000_000)
@@ -73,7 +76,7 @@ def first_part(cost, distances, deadline):
 
 def reaching(gap, cost):
     """Chain 1 of this cost, as rare as its gap, which misses its deadline with overload alone, of cost 1: a run reaches over
-    k gap - gap + cost + 1, and the misses are one more than the overload's arrivals in that, or k."""
+    (k - 1) gap + cost + 1, and the misses are one more than the overload's arrivals in that, or k where that is less."""
     return stored(chain(1, 0, 0, cost, gap, [gap], [(5, cost)]), chain(2, 0, 1, 1000, 0, [10, 15], [(9, 1)]))
 
 
@@ -121,9 +124,9 @@ LATENCIES = [
     (below(1, [0] * 7 + [1]), 1, 16, 0, 0, 0, 0),
     (below(1, [1] * 8), 1, 16, 0, 0, 0, 0),
     # deferred, synchronous: once; asynchronous: once, and with each arrival
-    (below(1_000_000, [1], 0, [(9, 1), (1, 1)]), 1, 0, 1, 1_000_001, 0, TIME - 1_000_001),
-    (below(4_999_999, [2], 1, [(9, 1), (1, 1)]), 1, 0, 1, 10_000_000, 0, 0),
-    (below(1_000_000, [1], 1, [(9, 1), (1, 1)]), 1, 16, 0, 0, 0, 0),
+    (below(1_000_000, [1], 0, DEFERRED), 1, 0, 1, 1_000_001, 0, TIME - 1_000_001),
+    (below(4_999_999, [2], 1, DEFERRED), 1, 0, 1, 10_000_000, 0, 0),
+    (below(1_000_000, [1], 1, DEFERRED), 1, 16, 0, 0, 0, 0),
     # a chain's own arrivals: B(1) = 10; B(1) = 6 and B(2) = 10; B(1) = 4, B(2) = 5 and B(3) = 6; no window
     (first_part(10, [10, 15], 10), 1, 0, 1, 10, 0, 0),
     (first_part(5, [0, 10], 9), 1, 0, 2, 10, 1, -1),

@@ -1,6 +1,6 @@
 -- δ by whole lists and steps into the next: what the proofs of this crate see of δ's text, and no other crate's. Assumes nothing.
 use Prim.Native.Nat.{ℕ, zero, suc, zero-le, _+_, _*_, _/_, _%_, _-_, _≤_, _<_}
-use mathlib.Core.Path.{_≡_, ap, sym, subst₂, _∙_}
+use mathlib.Core.Path.{_≡_, ap, ap₂, sym, subst₂, _∙_}
 use mathlib.Core.List.{List}
 use mathlib.Core.Logic.{⊎-elim}
 use native.Mathlib.Omega.{arith}
@@ -16,6 +16,11 @@ use Rattle.table.specs.code.Good.{GoodDistances}
 pub listed-at : (ds : List ℕ) (j : ℕ) → 0 < j → asListed ds j ≡ getD ds (j - 1) 0
 unfolding asListed
 listed-at ds j h = let e : j ≡ suc (j - 1) = omega arith in ap (asListed ds) e
+
+-- n steps are the whole lists and the rest into which they are split, by a list's length as it was read
+pub split-whole : (n : ℕ) {read l lists rest : ℕ} → 0 < l → read ≡ l → lists ≡ n / read → rest ≡ n % read → (lists * l + rest ≡ n) × (rest < l)
+split-whole n {l = l} some e q r =
+    (ap₂ (λ i j. i * l + j) (q ∙ ap (λ x. n / x) e) (r ∙ ap (λ x. n % x) e) ∙ div-add-mod' n l, omega (arith, r, ap (λ x. n % x) e, mod-lt n some))
 
 module _ {ds : List ℕ} (good : GoodDistances ds) where
   pub listed-rises : (j : ℕ) → j < length ds → asListed ds j ≤ asListed ds (suc j)
@@ -42,6 +47,7 @@ module _ {ds : List ℕ} (good : GoodDistances ds) where
       inside : (i j : ℕ) → j < length ds → δ ds (suc (i * length ds + j)) ≡ i * asListed ds (length ds) + asListed ds j
       inside i j h = rw (digits-div i h, digits-mod i h)
 
+  -- the same with the 1 that contracts have
   pub δ-after : (i j : ℕ) → j ≤ length ds → δ ds (i * length ds + j + 1) ≡ i * asListed ds (length ds) + asListed ds j
   δ-after i j h = rw add-one (δ-lists i j h)
 

@@ -1,6 +1,6 @@
 -- η by whole lists and a remainder: what lies within a part of one list, distance after distance, and after whole ones. Assumes nothing.
-use Prim.Native.Nat.{ℕ, suc, _+_, _*_, _/_, _%_, _-_, _≤_, _<_}
-use mathlib.Core.Path.{_≡_, ap, ap₂, _∙_}
+use Prim.Native.Nat.{ℕ, suc, _+_, _*_, _/_, _-_, _≤_, _<_}
+use mathlib.Core.Path.{_≡_, ap, _∙_}
 use mathlib.Core.Bool.{Bool}
 use mathlib.Core.List.{List}
 use mathlib.Core.Logic.{⊎-elim}
@@ -20,11 +20,7 @@ use Rattle.table.specs.code.Good.{GoodDistances}
 use Rattle.arrivals.proofs.Lists.{last-above, listed-rises, δ-after}
 use Rattle.arrivals.proofs.Counts.{η-counts, η-stops}
 
--- n steps are the whole lists and the rest into which they are split, by a list's length as it was read
-pub split-whole : (n : ℕ) {read l lists rest : ℕ} → 0 < l → read ≡ l → lists ≡ n / read → rest ≡ n % read → (lists * l + rest ≡ n) × (rest < l)
-split-whole n {l = l} some e q r =
-    (ap₂ (λ i j. i * l + j) (q ∙ ap (λ x. n / x) e) (r ∙ ap (λ x. n % x) e) ∙ div-add-mod' n l, omega (arith, r, ap (λ x. n % x) e, mod-lt n some))
-
+-- no more than are looked at
 pub within-le : (ds : List ℕ) (x j : ℕ) → withinList ds x j ≤ j
 unfolding withinList
 within-le ds x j = last-le _ j
@@ -35,9 +31,12 @@ module _ {ds : List ℕ} (good : GoodDistances ds) {x : ℕ} (some : 0 < x) wher
   lies m = ltb (asListed ds m) x
 
   -- the first lies within every x
-  pub within-first : withinList ds x 1 ≡ 1
+  within-some : (j : ℕ) → 0 < j → 0 < withinList ds x j
   unfolding withinList asListed
-  within-first = omega (arith, last-le lies 1, last-max lies 1 0 (omega arith) (lt-ltb 0 x some))
+  within-some j h = last-max lies j 0 h (lt-ltb 0 x some)
+
+  pub within-first : withinList ds x 1 ≡ 1
+  within-first = omega (arith, within-le ds x 1, within-some 1 (omega arith))
 
   -- where one does, all before it do
   within-all : (j : ℕ) → 0 < j → j < length ds → asListed ds j < x → withinList ds x j ≡ j
@@ -70,10 +69,10 @@ module _ {ds : List ℕ} (good : GoodDistances ds) {x : ℕ} (some : 0 < x) wher
         t = i * asListed ds (length ds) + x
 
         few : n ≤ length ds
-        few = last-le lies (length ds)
+        few = within-le ds x (length ds)
 
         some-there : 0 < n
-        some-there = last-max lies (length ds) 0 (good .some) (lt-ltb 0 x some)
+        some-there = within-some (length ds) (good .some)
 
         beyond : x ≤ asListed ds n
         beyond =
@@ -92,14 +91,14 @@ module _ {ds : List ℕ} (good : GoodDistances ds) {x : ℕ} (some : 0 < x) wher
 
 -- t is so many whole lists and a remainder, of at least 1 and at most the last distance
 module _ {ds : List ℕ} (good : GoodDistances ds) (t : ℕ) (some : 0 < t) where
-  abbrev whole : ℕ
-  whole = (t - 1) / asListed ds (length ds) * asListed ds (length ds)
+  abbrev ticks : ℕ
+  ticks = (t - 1) / asListed ds (length ds) * asListed ds (length ds)
 
-  pub lists-below : whole < t
+  pub lists-below : ticks < t
   lists-below = omega (arith, div-add-mod' (t - 1) (asListed ds (length ds)))
 
-  pub rest-short : t - whole ≤ asListed ds (length ds)
+  pub rest-short : t - ticks ≤ asListed ds (length ds)
   rest-short = omega (arith, div-add-mod' (t - 1) (asListed ds (length ds)), mod-lt (t - 1) (last-above good))
 
-  pub η-whole : η ds t ≡ (t - 1) / asListed ds (length ds) * length ds + withinList ds (t - whole) (length ds)
+  pub η-whole : η ds t ≡ (t - 1) / asListed ds (length ds) * length ds + withinList ds (t - ticks) (length ds)
   η-whole = ap (η ds) (omega (arith, lists-below)) ∙ η-lists good (omega (arith, lists-below)) ((t - 1) / asListed ds (length ds)) rest-short

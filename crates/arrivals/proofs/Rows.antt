@@ -22,5 +22,6 @@ pub stands-length : {s : List ℕ} {at : ℕ} → Stands s at → length (distan
 unfolding rowAt
 stands-length there = there .good .listed
 
+-- it lists one distance at least
 pub stands-some : {s : List ℕ} {at : ℕ} → Stands s at → 0 < listedAt s at
 stands-some there = omega (arith, stands-length there, there .good .list .some)

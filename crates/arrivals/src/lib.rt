@@ -66,8 +66,8 @@ fn below(distance: u64, x: u64) -> u64
     if distance < x { 1 } else { 0 }
 }
 
-// How many of a list's own activations lie within x. Every distance is looked at: where a loop could stop is not foreseen by a
-// processor, and a wrong guess takes longer than the rest of the list.
+// How many of a list's own activations lie within x; its last distance is that of the next one's first. The loop does not stop at
+// the first that lies beyond: a processor cannot foresee where that is, and a wrong guess takes longer than the rest of the list.
 fn within_list(s: &[u8], at: usize, x: u64) -> u64
     requires { ⌜ Stands (now s) at × (0 < x) ⌝ }
     ensures { λ r. ⌜ r ≡ withinList (distances (rowAt (now (s .entry)) at)) x (listedAt (now (s .entry)) at) ⌝ }

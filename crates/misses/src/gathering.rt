@@ -24,7 +24,7 @@ ghost use Rattle.segments.specs.Tasks.{floorOf, tailOf};
 ghost use Rattle.misses.specs.Overloads.{Overload, overload, overloads};
 ghost use Rattle.misses.specs.code.Held.{heldAs, gathered};
 
-// The capacity in t of the active segments of the chain at `a`, counted no further than past its limit.
+// The capacity in t of the active segments of the chain at `a`, or one past the limit where it is larger.
 fn capacity(s: &[u8], a: usize, t: u64) -> u8
     requires { ⌜ Stands (now s) a × (t ≤ longestSpan) ⌝ }
     ensures { λ r. ⌜ r ≡ min (maxCapacity + 1) (η (distances (rowAt (now (s .entry)) a)) t + 1) ⌝ }

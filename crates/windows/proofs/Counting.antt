@@ -1,4 +1,4 @@
--- Arrivals counted on while t grows: none is counted twice. Assumes nothing.
+-- Counts of arrivals while t grows: none falls. Assumes nothing.
 use Prim.Native.Nat.{ℕ, _+_, _≤_, _<_}
 use mathlib.Core.Path.{_≡_, refl, sym, subst, _∙_}
 use mathlib.Core.List.{List}

@@ -21,7 +21,7 @@ fn past(a: u64, b: u64) -> u64
     if a < b { 0 } else { a - b }
 }
 
-// η(t) of the chain at `at`, counted on from `before`; not counted where its first part counts nothing.
+// η(t) of the chain at `at`, which is no less than `before`; not counted where its first part counts nothing.
 fn own_count(s: &[u8], at: usize, part: u64, t: u64, before: u64) -> u64
     requires { ⌜ Stands (now s) at × (t ≤ horizon) × (before ≤ η (distances (rowAt (now s) at)) t) ⌝ }
     ensures { λ r. ⌜ r ≡ (before when eqb part 0 else η (distances (rowAt (now (s .entry)) at)) t) ⌝ }
@@ -32,7 +32,7 @@ fn own_count(s: &[u8], at: usize, part: u64, t: u64, before: u64) -> u64
     eta_from(s, at, t, before)
 }
 
-// What the n chains held add in t. Each one's arrivals are counted on from those counted before.
+// What the n chains held add in t. Each one's arrivals are no fewer than those counted before.
 fn held_sum(
     s: &[u8],
     held: &[u64; Own::HELD],
@@ -55,7 +55,7 @@ fn held_sum(
 }
 
 // B(q), from any start below which it cannot lie. The climb ends because t grows with every turn, to at most the horizon; since t
-// grows, no arrival is counted twice.
+// grows, no count falls, and each is what is known of the next.
 pub fn climb(
     s: &[u8],
     own: Own,

@@ -44,7 +44,7 @@ fn refused(n: u32) -> Windows
     }
 }
 
-// Takes q = 1, 2, ..: each window's climb, and its count of arrivals, starts where the window before ended.
+// Takes q = 1, 2, ..: each window's climb starts where the window before ended, with the counts of arrivals that it had there.
 pub fn walk(s: &[u8], own: Own, held: &[u64; Own::HELD]) -> Windows
     requires { ⌜ Sound (loadOf (now s) own (now held)) ⌝ }
     ensures { λ r. ⌜ r ≡ windowsIn (loadOf (now (s .entry)) own (now (held .entry))) ⌝ }

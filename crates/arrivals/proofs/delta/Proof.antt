@@ -6,7 +6,7 @@ use borrow.Author.Needs.{needs}
 use denote.Ref.{now}
 use Rattle.table.specs.Record.{listedAt, rowAt, distances}
 use Rattle.arrivals.specs.Arrivals.{δ}
-use Rattle.arrivals.proofs.Remainders.{split-whole}
+use Rattle.arrivals.proofs.Lists.{split-whole}
 use Rattle.arrivals.proofs.Rows.{stands-some}
 use Rattle.arrivals.proofs.delta.Statement.{statement}
 use Rattle.arrivals.proofs.delta.Tie as tie

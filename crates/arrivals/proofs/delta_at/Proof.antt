@@ -31,14 +31,19 @@ module _ (s : tie.Start) where
   near : δ ds n ≤ farthest * maxDistance
   near = omega (arith, δ-near (s .pre .0 .good .list) n, s .pre .2)
 
--- the whole lists, as they were read
-whole : (c : tie.After-as-listed) → c .before .before .before .args .i * c .as-listed .result ≡ c .before .before .before .args .i * asListed (ds (c .before .before .before)) (length (ds (c .before .before .before)))
-whole c =
-    let s = c .before .before .before in
-    ap (λ p. s .args .i * p) (c .as-listed .ensures ∙ ap (asListed (ds s)) (c .before .listed-at .ensures .0 ∙ sym (stands-length (s .pre .0))))
+-- how long the whole lists last, as it was read
+module _ (c : tie.After-as-listed) where
+  abbrev start : tie.Start
+  start = c .before .before .before
 
-all : (c : tie.After-as-listed2) → c .before .before .before .before .args .i * c .before .as-listed .result + c .as-listed2 .result ≡ δ (ds (c .before .before .before .before)) (n (c .before .before .before .before))
-all c = ap₂ (λ x y. x + y) (whole (c .before)) (c .as-listed2 .ensures) ∙ sym (by-lists (c .before .before .before .before))
+  lists-read : start .args .i * c .as-listed .result ≡ start .args .i * asListed (ds start) (length (ds start))
+  lists-read =
+      ap (λ p. start .args .i * p)
+      (c .as-listed .ensures ∙ ap (asListed (ds start)) (c .before .listed-at .ensures .0 ∙ sym (stands-length (start .pre .0))))
+
+all : (c : tie.After-as-listed2)
+    → start (c .before) .args .i * c .before .as-listed .result + c .as-listed2 .result ≡ δ (ds (start (c .before))) (n (start (c .before)))
+all c = ap₂ (λ x y. x + y) (lists-read (c .before)) (c .as-listed2 .ensures) ∙ sym (by-lists (start (c .before)))
 
 listed-at-requires : tie.Need-listed-at-requires
 listed-at-requires c κs = omega (arith, c .before .pre .0 .there)
@@ -47,13 +52,13 @@ as-listed-requires : tie.Need-as-listed-requires
 as-listed-requires c κs = (c .before .before .pre .0, omega (arith, c .listed-at .ensures .0))
 
 mul-result : tie.Need-mul-result
-mul-result c = let s = c .before .before .before in omega (arith, whole c, by-lists s, near s)
+mul-result c = omega (arith, lists-read c, by-lists (start c), near (start c))
 
 as-listed-requires-2 : tie.Need-as-listed-requires-2
-as-listed-requires-2 c κs = let s = c .before .before .before in (s .pre .0, s .pre .1)
+as-listed-requires-2 c κs = (start c .pre .0, start c .pre .1)
 
 add-result : tie.Need-add-result
-add-result c = omega (arith, all c, near (c .before .before .before .before))
+add-result c = omega (arith, all c, near (start (c .before)))
 
 returns : tie.Need-returns
 returns c = all c

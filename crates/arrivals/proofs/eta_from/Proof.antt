@@ -8,7 +8,7 @@ use Rattle.table.specs.Record.{listedAt, rowAt, distances}
 use Rattle.arrivals.specs.Arrivals.{δ, η}
 use Rattle.arrivals.specs.code.Bounds.{farthest}
 use Rattle.arrivals.proofs.Counts.{η-counts, η-farthest, η-stops}
-use Rattle.arrivals.proofs.Remainders.{split-whole}
+use Rattle.arrivals.proofs.Lists.{split-whole}
 use Rattle.arrivals.proofs.Rows.{stands-length, stands-some}
 use Rattle.arrivals.proofs.eta_from.Statement.{statement}
 use Rattle.arrivals.proofs.eta_from.Tie as tie
