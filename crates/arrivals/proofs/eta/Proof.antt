@@ -42,6 +42,10 @@ module _ (c : tie.After-as-listed) where
   ticks-below : (s .args .t - 1) / c .as-listed .result * c .as-listed .result < s .args .t
   ticks-below = omega (arith, ticks, lists-below (s .pre .0 .good .list) (s .args .t) (s .pre .1))
 
+-- the remainder is at least 1
+within-list-requires : tie.Need-within-list-requires
+within-list-requires c κs = (s c .pre .0, omega (arith, ticks-below c))
+
 -- η(t) in the code's shape
 all : (c : tie.After-within-list)
     → (s (c .before) .args .t - 1) / c .before .as-listed .result * c .before .before .listed-at .result + c .within-list .result ≡ η (ds (s (c .before))) (s (c .before) .args .t)
@@ -50,6 +54,9 @@ all c =
     ap₂ (λ x y. x + y) (activations (c .before))
     (c .within-list .ensures ∙ ap₂ (λ w l. withinList (ds b) (b .args .t - w) l) (ticks (c .before)) (sym (stands-length (b .pre .0))))
     ∙ sym (η-whole (b .pre .0 .good .list) (b .args .t) (b .pre .1))
+
+returns : tie.Need-returns
+returns c = omega (arith, all c)
 
 listed-at-requires : tie.Need-listed-at-requires
 listed-at-requires c κs = omega (arith, c .before .pre .0 .there)
@@ -74,14 +81,8 @@ mul-within-list c = omega (arith, ticks-below c, s c .pre .2)
 sub-within-list : tie.Need-sub-within-list
 sub-within-list c = omega (arith, ticks-below c)
 
-within-list-requires : tie.Need-within-list-requires
-within-list-requires c κs = (s c .pre .0, omega (arith, ticks-below c))
-
 add-result : tie.Need-add-result
 add-result c = let b = s (c .before) in omega (arith, all c, η-near (b .pre .0 .good .list) (b .args .t), b .pre .2)
-
-returns : tie.Need-returns
-returns c = all c
 
 pub eta-spec : {M : Type 1} → statement M
 eta-spec =

@@ -31,7 +31,7 @@ listed-at-requires c κs = omega (arith, c .before .pre .0 .there)
 loop-holds : tie.Need-loop-holds Inv-loop μ-loop
 loop-holds c =
     let s = c .before .before in
-    (sym (within-first (s .pre .0 .good .list) (s .pre .1)), omega arith, omega (arith, stands-length (s .pre .0), s .pre .0 .good .list .some))
+    (omega (arith, within-first (s .pre .0 .good .list) (s .pre .1)), omega arith, omega (arith, stands-length (s .pre .0), s .pre .0 .good .list .some))
 
 -- one activation more was looked at
 module _ (c : tie.After-below Inv-loop μ-loop) where
