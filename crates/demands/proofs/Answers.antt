@@ -29,6 +29,7 @@ use Rattle.windows.specs.declared.Answer.the-variants.{Figures, Refused as NoLa
 use Rattle.windows.specs.declared.Window.{Window}
 use Rattle.windows.specs.declared.Window.the-variants.{At, Nothing}
 use Rattle.windows.specs.declared.Windows.{Windows}
+use Rattle.misses.specs.Bad.{Test}
 use Rattle.misses.specs.Misses as misses
 use Rattle.misses.specs.Overloads.{Overload}
 use Rattle.misses.specs.declared.Answer.{Answer as Misses}
@@ -103,9 +104,9 @@ latency-one s id = by (readTable s .verdict) refl
 abbrev OneMisses : Misses → Type 0
 OneMisses a = OneAnswer MissesRefusal 1 (misses.numberOf a) (misses.valuesOf a)
 
-figures-one : (b : Row) (views : List View) (os : List Overload) (k close latency late last : ℕ) → OneMisses (misses.byFigures b views os k close latency late last)
+figures-one : (test : Test) (b : Row) (views : List View) (os : List Overload) (k close latency late last : ℕ) → OneMisses (misses.byFigures test b views os k close latency late last)
 unfolding misses.byFigures
-figures-one b views os k close latency late last =
+figures-one test b views os k close latency late last =
     when-cases OneMisses _ (λ e. answers MissesRefusal 1 _ refl) (λ e.
     when-cases OneMisses _ (λ e. refuses MissesRefusal 1 18 (lit≤ tt) (inr (inl (lit≤ tt, lit≤ tt)))) (λ e.
     when-cases OneMisses _ (λ e. refuses MissesRefusal 1 19 (lit≤ tt) (inr (inl (lit≤ tt, lit≤ tt)))) (λ e.
@@ -118,12 +119,12 @@ early-one b k =
     when-cases (λ f. (f ≡ 0 → ⊥) → MissesRefusal f) _ (λ e h. inr (inl (lit≤ tt, lit≤ tt))) (λ e.
     when-cases (λ f. (f ≡ 0 → ⊥) → MissesRefusal f) _ (λ e h. inr (inl (lit≤ tt, lit≤ tt))) (λ e h. absurd (h refl))))
 
-in-one : (b : Row) (views : List View) (os : List Overload) (k : ℕ) → OneMisses (misses.missesBeside b views os k)
-unfolding misses.missesBeside byNumber
-in-one b views os k = by (misses.earlyOf b k) (early-one b k) (latency.boundOf b views .answer) (latency.boundOf b views .last) (bound-one b views)
+in-one : (test : Test) (b : Row) (views : List View) (os : List Overload) (k : ℕ) → OneMisses (misses.testedBeside test b views os k)
+unfolding misses.testedBeside byNumber
+in-one test b views os k = by (misses.earlyOf b k) (early-one b k) (latency.boundOf b views .answer) (latency.boundOf b views .last) (bound-one b views)
   where
-    by : (f : ℕ) → ((f ≡ 0 → ⊥) → MissesRefusal f) → (a : Latency) (last : ℕ) → OneLatency a → OneMisses (byNumber NoMisses f (misses.byBound b views os k a last))
-    by zero l (Figures close latency late margin) last o = figures-one b views os k close latency late last
+    by : (f : ℕ) → ((f ≡ 0 → ⊥) → MissesRefusal f) → (a : Latency) (last : ℕ) → OneLatency a → OneMisses (byNumber NoMisses f (misses.byBound test b views os k a last))
+    by zero l (Figures close latency late margin) last o = figures-one test b views os k close latency late last
     by zero l (NoLatency n) last o = some n o
       where
         some : (n : ℕ) → OneLatency (NoLatency n) → OneMisses (NoMisses n)
@@ -133,12 +134,12 @@ in-one b views os k = by (misses.earlyOf b k) (early-one b k) (latency.boundOf b
             refuses MissesRefusal 1 (suc n) (omega arith) (⊎-elim (λ h. inl h) (λ g. inr (inl (⊎-elim (λ h. (omega (arith, h), omega (arith, h))) (λ h. (omega (arith, h .0), omega (arith, h .1))) g))) r)
     by (suc f) l a last o = refuses MissesRefusal 1 (suc f) (omega arith) (l (λ z. omega (arith, z)))
 
-pub misses-one : (s : List ℕ) (id k : ℕ) → OneMisses (misses.missesOf s id k)
-unfolding misses.missesOf misses.missesIn misses.missesAt
-misses-one s id k = by (readTable s .verdict) refl
+pub tested-one : (test : Test) (s : List ℕ) (id k : ℕ) → OneMisses (misses.testedOf test s id k)
+unfolding misses.testedOf misses.testedIn misses.testedAt
+tested-one test s id k = by (readTable s .verdict) refl
   where
-    by : (v : Verdict) → readTable s .verdict ≡ v → OneMisses (byVerdict NoMisses v (misses.missesIn (readTable s .table) id k))
-    by Accepted e = when-cases OneMisses _ (λ f. refuses MissesRefusal 1 12 (lit≤ tt) (inr (inl (lit≤ tt, lit≤ tt)))) (λ f. in-one _ _ _ k)
+    by : (v : Verdict) → readTable s .verdict ≡ v → OneMisses (byVerdict NoMisses v (misses.testedIn test (readTable s .table) id k))
+    by Accepted e = when-cases OneMisses _ (λ f. refuses MissesRefusal 1 12 (lit≤ tt) (inr (inl (lit≤ tt, lit≤ tt)))) (λ f. in-one test _ _ _ k)
     by (Faulty f place) e = faulty MissesRefusal 1 (λ f h. inl h) s f place e
 
 -- segment

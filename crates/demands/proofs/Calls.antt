@@ -14,7 +14,8 @@ use Rattle.editor.specs.Entry.{figureBytes, startingWith, returned, leftBy, Ans
 use Rattle.editor.proofs.Writing.{length-figures}
 use Rattle.demands.specs.Entries.{OneAnswer}
 use Rattle.demands.specs.Others.{Unmoved, SameCall}
-use Rattle.demands.proofs.Answers.{latency-one, misses-one}
+use Rattle.misses.specs.Bad.{byWindows}
+use Rattle.demands.proofs.Answers.{latency-one, tested-one}
 
 -- what was written: the figures, and the rest as it was
 module _ (n : ℕ) (figures before : List ℕ) (long : length figures ≡ n) where
@@ -66,4 +67,4 @@ module _ {s r : List ℕ} {id : ℕ} (h : Unmoved s r id) {before before′ : Li
   same-latency-call x y = same-call (latency-one s id) long (x .answers) (rw (h .latency) (y .answers))
 
   pub same-misses-call : (k : ℕ) → MissesEntry s id k before after n → MissesEntry r id k before′ after′ m → SameCall 1 before after n before′ after′ m
-  same-misses-call k x y = same-call (misses-one s id k) long (x .answers) (rw (h .misses k) (y .answers))
+  same-misses-call k x y = same-call (tested-one byWindows s id k) long (x .answers) (rw (h .misses k) (y .answers))

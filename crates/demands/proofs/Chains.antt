@@ -26,7 +26,8 @@ use Rattle.windows.specs.Latency.{boundOf, latencyOf}
 use Rattle.windows.specs.declared.Answer.the-variants.{Refused}
 use Rattle.windows.proofs.Answers as latency
 use Rattle.misses.specs.Overloads.{overloads}
-use Rattle.misses.specs.Misses.{missesBeside, missesAt, missesOf}
+use Rattle.misses.specs.Bad.{byWindows}
+use Rattle.misses.specs.Misses.{testedAt, missesBeside, missesOf}
 use Rattle.misses.specs.declared.Answer.the-variants.{Refused as Unanswered}
 use Rattle.misses.proofs.Answers as misses
 use Rattle.saving.proofs.Verdicts.{read-accepted}
@@ -57,8 +58,8 @@ module _ {s : List ℕ} {id : ℕ} (h : Has s id) where
 
   pub misses-are : (k : ℕ) → missesOf s id k
       ≡ missesBeside (chainOf s id) (map (λ a. viewOf a (chainOf s id)) (chains.othersOf s id)) (overloads (chainOf s id) (chains.othersOf s id)) k
-  unfolding viewsOf missesAt
-  misses-are k = misses.misses-accepted s id k (h .table .accepted) ∙ misses.chain-found (tableOf s) id k found
+  unfolding viewsOf testedAt
+  misses-are k = misses.tested-accepted byWindows s id k (h .table .accepted) ∙ misses.chain-found byWindows (tableOf s) id k found
 
 -- no chain has the id: 12
 module _ {s : List ℕ} (h : IsTable s) (id : ℕ) (none : chainNumber s id ≡ tableOf s .count) where
@@ -66,7 +67,7 @@ module _ {s : List ℕ} (h : IsTable s) (id : ℕ) (none : chainNumber s id ≡ 
   latency-absent = latency.latency-accepted s id (h .accepted) ∙ latency.chain-none (tableOf s) id none
 
   pub misses-absent : (k : ℕ) → missesOf s id k ≡ Unanswered 12
-  misses-absent k = misses.misses-accepted s id k (h .accepted) ∙ misses.chain-none (tableOf s) id k none
+  misses-absent k = misses.tested-accepted byWindows s id k (h .accepted) ∙ misses.chain-none byWindows (tableOf s) id k none
 
 -- so does one chain of a table bear the id, and the others do not
 abbrev pub bears : ℕ → Row → Bool

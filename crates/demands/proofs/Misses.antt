@@ -30,7 +30,8 @@ use Rattle.packing.proofs.Most.{most-greatest, most-is}
 use Rattle.packing.proofs.Laws.{most-same}
 use Rattle.packing.specs.Most.{mostUses}
 use Rattle.misses.specs.Overloads.{Overload}
-use Rattle.misses.specs.Misses.{earlyOf, badOf, roomOf, packingFigure, missedOf, byFigures, byBound, missesBeside, missesOf}
+use Rattle.misses.specs.Bad.{byWindows}
+use Rattle.misses.specs.Misses.{earlyOf, badOf, roomOf, packingFigure, missedOf, byFigures, byBound, testedBeside, missesBeside, missesOf}
 use Rattle.misses.specs.declared.Answer.{Answer}
 use Rattle.misses.specs.declared.Answer.the-variants.{Misses, Refused}
 use Rattle.misses.proofs.Starts.{starts}
@@ -107,49 +108,49 @@ module _ (b : Row) (l : List Row) (good : GoodRow b) (rows : All GoodRow l) (pac
   asked-early a = answers.early-none b k (inside (a .low) (a .high)) (a .typical) (λ e. omega (arith, e, a .gap))
 
   early-refused : (n : ℕ) → earlyOf b k ≡ suc n → answer ≡ Refused (suc n)
-  unfolding missesBeside byNumber
-  early-refused n e = ap (λ x. byNumber Refused x (byBound b vs os k (boundOf b vs .answer) (boundOf b vs .last))) e
+  unfolding testedBeside byNumber
+  early-refused n e = ap (λ x. byNumber Refused x (byBound byWindows b vs os k (boundOf b vs .answer) (boundOf b vs .last))) e
 
   -- the windows refuse, or their figures decide
-  by-windows : MayAsk b l k → (w : Windows) → windows ≡ w → answer ≡ byBound b vs os k (w .answer) (w .last)
-  unfolding missesBeside boundOf byNumber
+  by-windows : MayAsk b l k → (w : Windows) → windows ≡ w → answer ≡ byBound byWindows b vs os k (w .answer) (w .last)
+  unfolding testedBeside boundOf byNumber
   by-windows a w e =
-      ap (λ x. byNumber Refused x (byBound b vs os k (boundOf b vs .answer) (boundOf b vs .last))) (asked-early a)
-      ∙ ap (λ (x : Windows). byBound b vs os k (x .answer) (x .last)) (ap (λ d. windowsOf d (distances b) (b .deadline)) (equation-is b l) ∙ e)
+      ap (λ x. byNumber Refused x (byBound byWindows b vs os k (boundOf b vs .answer) (boundOf b vs .last))) (asked-early a)
+      ∙ ap (λ (x : Windows). byBound byWindows b vs os k (x .answer) (x .last)) (ap (λ d. windowsOf d (distances b) (b .deadline)) (equation-is b l) ∙ e)
 
   refused-by : MayAsk b l k → (n : ℕ) → windows .answer ≡ Unbounded n → answer ≡ Refused n
-  refused-by a n e = by-windows a _ refl ∙ ap (λ x. byBound b vs os k x (windows .last)) e
+  refused-by a n e = by-windows a _ refl ∙ ap (λ x. byBound byWindows b vs os k x (windows .last)) e
 
   module _ (f : Figured b l k) where
-    by-figures : answer ≡ byFigures b vs os k (f .close) (f .latency) (f .late) (lastOf b l f)
+    by-figures : answer ≡ byFigures byWindows b vs os k (f .close) (f .latency) (f .late) (lastOf b l f)
     by-figures = by-windows (f .asked) _ (closes-last (full b l) (distances b) (b .deadline) (f .close) (f .latency) (f .late) (f .margin) (f .figures))
 
-    bad-exactly : (m : ℕ) → Exactly (badOf b vs os (f .close) m ≡ true) (IsBad b l (f .close) m)
+    bad-exactly : (m : ℕ) → Exactly (badOf byWindows b vs os (f .close) m ≡ true) (IsBad b l (f .close) m)
     bad-exactly = bad-means b l good rows paced (f .figures)
 
-    bad-false : (IsBad b l (f .close) 0 → ⊥) → badOf b vs os (f .close) 0 ≡ false
-    bad-false h = go (badOf b vs os (f .close) 0) refl
+    bad-false : (IsBad b l (f .close) 0 → ⊥) → badOf byWindows b vs os (f .close) 0 ≡ false
+    bad-false h = go (badOf byWindows b vs os (f .close) 0) refl
       where
-        go : (t : Bool) → badOf b vs os (f .close) 0 ≡ t → t ≡ false
+        go : (t : Bool) → badOf byWindows b vs os (f .close) 0 ≡ t → t ≡ false
         go true e = absurd (h (bad-exactly 0 .0 e))
         go false e = refl
 
     -- whatever is the most uses is the number that is answered with
-    most-same-uses : (uses : ℕ) → Most b l f uses → mostUses (badOf b vs os (f .close)) (λ i. getD (roomOf b os k (f .latency)) i 0) ≡ uses
+    most-same-uses : (uses : ℕ) → Most b l f uses → mostUses (badOf byWindows b vs os (f .close)) (λ i. getD (roomOf b os k (f .latency)) i 0) ≡ uses
     most-same-uses uses m =
-        most-same (badOf b vs os (f .close)) (m .bad) (λ i. getD (roomOf b os k (f .latency)) i 0) (capacityOf b l k (f .latency))
+        most-same (badOf byWindows b vs os (f .close)) (m .bad) (λ i. getD (roomOf b os k (f .latency)) i 0) (capacityOf b l k (f .latency))
         (λ x s h. same-test _ _ (bad-exactly x) (m .is x)) (λ i h. room-at b l k (f .latency) i)
         ∙ most-is (m .bad) (capacityOf b l k (f .latency)) (m .most)
 
-    figure-is : (uses : ℕ) → Most b l f uses → packingFigure b vs os k (f .close) (f .latency) (f .late) ≡ f .late * uses
+    figure-is : (uses : ℕ) → Most b l f uses → packingFigure byWindows b vs os k (f .close) (f .latency) (f .late) ≡ f .late * uses
     unfolding packingFigure
     figure-is uses m = ap (λ u. f .late * u) (most-same-uses uses m)
 
     -- nothing is refused
-    by-count : 1 ≤ f .late → AtMostSix b l → Once b l f → Capped b l f → answer ≡ Misses (missedOf b vs os k (f .close) (f .latency) (f .late))
+    by-count : 1 ≤ f .late → AtMostSix b l → Once b l f → Capped b l f → answer ≡ Misses (missedOf byWindows b vs os k (f .close) (f .latency) (f .late))
     by-count h few once room =
         by-figures
-        ∙ answers.counts b vs os k (f .close) (f .latency) (f .late) (lastOf b l f) (λ e. omega (arith, e, h)) few
+        ∙ answers.counts byWindows b vs os k (f .close) (f .latency) (f .late) (lastOf b l f) (λ e. omega (arith, e, h)) few
         (within-none 1 (λ o. η (o .list) (lastOf b l f)) os once) (within-none maxCapacity (λ c. c) (roomOf b os k (f .latency)) (capped-all b l k (f .latency) maxCapacity room))
 
   -- an answer that the words allow is the answer given
@@ -160,24 +161,24 @@ module _ (b : Row) (l : List Row) (good : GoodRow b) (rows : All GoodRow l) (pac
   says-answer (Says.gap x y t h) = early-refused 14 (answers.early-gap b k (inside x y) t h)
   says-answer (Says.window a n) = refused-by a 16 (no-window (full b l) (distances b) (b .deadline) n)
   says-answer (Says.close a o) = refused-by a 17 (no-close (full b l) (distances b) (b .deadline) o)
-  says-answer (Says.none f e) = by-figures f ∙ answers.none-late b vs os k (f .close) (f .latency) (f .late) (lastOf b l f) e
+  says-answer (Says.none f e) = by-figures f ∙ answers.none-late byWindows b vs os k (f .close) (f .latency) (f .late) (lastOf b l f) e
   says-answer (Says.many f h n) =
       by-figures f
-      ∙ answers.too-many b vs os k (f .close) (f .latency) (f .late) (lastOf b l f) (λ e. omega (arith, e, h))
+      ∙ answers.too-many byWindows b vs os k (f .close) (f .latency) (f .late) (lastOf b l f) (λ e. omega (arith, e, h))
       (⊎-elim (λ x. x) (λ x. absurd (n x)) (lt-or-le maxOverloads (length (pieces b l))))
   says-answer (Says.again f h few n) =
       by-figures f
-      ∙ answers.starts-again b vs os k (f .close) (f .latency) (f .late) (lastOf b l f) (λ e. omega (arith, e, h)) few
+      ∙ answers.starts-again byWindows b vs os k (f .close) (f .latency) (f .late) (lastOf b l f) (λ e. omega (arith, e, h)) few
       (not-within 1 (λ o. η (o .list) (lastOf b l f)) os n)
   says-answer (Says.above f h few once n) =
       by-figures f
-      ∙ answers.too-roomy b vs os k (f .close) (f .latency) (f .late) (lastOf b l f) (λ e. omega (arith, e, h)) few
+      ∙ answers.too-roomy byWindows b vs os k (f .close) (f .latency) (f .late) (lastOf b l f) (λ e. omega (arith, e, h)) few
       (within-none 1 (λ o. η (o .list) (lastOf b l f)) os once) (not-within maxCapacity (λ c. c) (roomOf b os k (f .latency)) (λ a. n (all-capped b l k (f .latency) maxCapacity a)))
   says-answer (Says.always f h few once room x) =
-      by-count f h few once room ∙ ap Misses (answers.missed-all b vs os k (f .close) (f .latency) (f .late) (bad-exactly f 0 .1 x))
+      by-count f h few once room ∙ ap Misses (answers.missed-all byWindows b vs os k (f .close) (f .latency) (f .late) (bad-exactly f 0 .1 x))
   says-answer (Says.packed f uses h few once room fine m) =
       by-count f h few once room
-      ∙ ap Misses (answers.missed-packed b vs os k (f .close) (f .latency) (f .late) (bad-false f fine) ∙ ap (min k) (figure-is f uses m))
+      ∙ ap Misses (answers.missed-packed byWindows b vs os k (f .close) (f .latency) (f .late) (bad-false f fine) ∙ ap (min k) (figure-is f uses m))
 
   -- and the words allow it
   is : {a : Answer} → Says b l k a → Says b l k answer
@@ -187,20 +188,20 @@ module _ (b : Row) (l : List Row) (good : GoodRow b) (rows : All GoodRow l) (pac
   module _ (f : Figured b l k) (h : 1 ≤ f .late) (few : AtMostSix b l) where
     packed-says : Once b l f → Capped b l f → Fine b l f → Says b l k answer
     packed-says once room fine =
-        is (Says.packed f (mostUses (badOf b vs os (f .close)) (capacityOf b l k (f .latency))) h few once room fine (record {
-          bad = badOf b vs os (f .close);
+        is (Says.packed f (mostUses (badOf byWindows b vs os (f .close)) (capacityOf b l k (f .latency))) h few once room fine (record {
+          bad = badOf byWindows b vs os (f .close);
           is = bad-exactly f;
-          most = most-greatest (badOf b vs os (f .close)) (capacityOf b l k (f .latency));
+          most = most-greatest (badOf byWindows b vs os (f .close)) (capacityOf b l k (f .latency));
         }))
 
-    always-says : Once b l f → Capped b l f → (t : Bool) → badOf b vs os (f .close) 0 ≡ t → Says b l k answer
+    always-says : Once b l f → Capped b l f → (t : Bool) → badOf byWindows b vs os (f .close) 0 ≡ t → Says b l k answer
     always-says once room true e = is (Says.always f h few once room (bad-exactly f 0 .0 e))
     always-says once room false e = packed-says once room (λ x. true-not-false (bad-exactly f 0 .1 x) e)
 
     roomy-says : Once b l f → (t : Bool) → some (ltb maxCapacity) (roomOf b os k (f .latency)) ≡ t → Says b l k answer
     roomy-says once true e = is (Says.above f h few once (λ a. some-not maxCapacity (λ c. c) (roomOf b os k (f .latency)) e (capped-all b l k (f .latency) maxCapacity a)))
     roomy-says once false e =
-        always-says once (all-capped b l k (f .latency) maxCapacity (none-within maxCapacity (λ c. c) (roomOf b os k (f .latency)) e)) (badOf b vs os (f .close) 0) refl
+        always-says once (all-capped b l k (f .latency) maxCapacity (none-within maxCapacity (λ c. c) (roomOf b os k (f .latency)) e)) (badOf byWindows b vs os (f .close) 0) refl
 
     again-says : (t : Bool) → some (starts (lastOf b l f)) os ≡ t → Says b l k answer
     again-says true e = is (Says.again f h few (some-not 1 (λ o. η (o .list) (lastOf b l f)) os e))

@@ -16,7 +16,8 @@ use Rattle.segments.specs.View.{View}
 use Rattle.windows.specs.Demand.{viewsOf, others}
 use Rattle.windows.proofs.Besides.{others-good}
 use Rattle.misses.specs.Overloads.{Overload}
-use Rattle.misses.specs.Misses.{overloadsOf, missesAt, missesIn, missesOf}
+use Rattle.misses.specs.Bad.{byWindows}
+use Rattle.misses.specs.Misses.{overloadsOf, testedAt, testedIn, testedOf, missesAt, missesOf}
 use Rattle.misses.specs.declared.Answer.{Answer}
 use Rattle.misses.specs.declared.Answer.the-variants.{Misses, Refused}
 use Rattle.misses.proofs.Runs.{Within, NoMore, good-lists, beside-within, beside-rises}
@@ -43,23 +44,23 @@ module _ (s : List ℕ) (id : ℕ) where
 
   -- never more than the run
   answer-within : (k : ℕ) → Within k (missesOf s id k)
-  unfolding missesOf missesIn missesAt _when_else_ absent
+  unfolding testedOf testedIn testedAt _when_else_ absent
   answer-within k = by (readTable s .verdict) absent
     where
       by : (v : Verdict) (t : Bool) → Within k (byVerdict Refused v (Refused 12 when t else missesAt (tableOf s) chain k))
       by Accepted true = tt
-      by Accepted false = beside-within b views os k
+      by Accepted false = beside-within byWindows b views os k
       by (Faulty n place) t = tt
 
   -- never fewer in a longer run
   answer-rises : Bytes s → (k long : ℕ) → k ≤ long → NoMore (missesOf s id k) (missesOf s id long)
-  unfolding missesOf missesIn missesAt _when_else_ absent
+  unfolding testedOf testedIn testedAt _when_else_ absent
   answer-rises bytes k long longer = by (readTable s .verdict) refl absent
     where
       by : (v : Verdict) → readTable s .verdict ≡ v → (t : Bool) → NoMore (byVerdict Refused v (Refused 12 when t else missesAt (tableOf s) chain k)) (byVerdict Refused v (Refused 12 when t else missesAt (tableOf s) chain long))
       by Accepted e true = tt
       by Accepted e false =
-          beside-rises b views os (good-lists b (others (tableOf s) chain) (others-good (tableOf s) (table-good (record { bytes = bytes; accepted = e })) chain)) k long longer
+          beside-rises byWindows b views os (good-lists b (others (tableOf s) chain) (others-good (tableOf s) (table-good (record { bytes = bytes; accepted = e })) chain)) k long longer
       by (Faulty n place) e t = tt
 
 pub within-run : (s : List ℕ) (id k : ℕ) {n : ℕ} → missesOf s id k ≡ Misses n → n ≤ k

@@ -25,7 +25,7 @@ use Rattle.packing.specs.Packing.{bit}
 use Rattle.packing.proofs.Bits.{bit-suc}
 use Rattle.misses.specs.Overloads.{Piece}
 use Rattle.misses.specs.Sets.{members, agree, together, allowed, setCost}
-use Rattle.misses.specs.Bad.{withCost, over, bad}
+use Rattle.misses.specs.Bad.{withCost, over, bad, byWindows}
 use Rattle.misses.specs.Misses.{badOf}
 use Rattle.misses.proofs.Bools.{and-left, and-right}
 use Rattle.misses.proofs.Masks.{members-in, members-out}
@@ -138,7 +138,7 @@ module _ (b : Row) (l : List Row) (good : GoodRow b) (rows : All GoodRow l) (pac
   abbrev cost : ℕ → ℕ
   cost m = setCost (members (pieces b l) m)
 
-  is-bad : (m : ℕ) → badOf b (viewed b l) (marked b l) close m ≡ true → IsBad b l close m
+  is-bad : (m : ℕ) → badOf byWindows b (viewed b l) (marked b l) close m ≡ true → IsBad b l close m
   unfolding badOf bad over
   is-bad m e =
       let a = and-left (allowed (pieces b l) m) _ e in
@@ -155,7 +155,7 @@ module _ (b : Row) (l : List Row) (good : GoodRow b) (rows : All GoodRow l) (pac
         late = ltb-true _ _ (sym (ap (λ x. longer x (δ (distances b) q + b .deadline)) (w .1)) ∙ f .3);
       }
 
-  bad-is : (m : ℕ) → IsBad b l close m → badOf b (viewed b l) (marked b l) close m ≡ true
+  bad-is : (m : ℕ) → IsBad b l close m → badOf byWindows b (viewed b l) (marked b l) close m ≡ true
   unfolding badOf bad over
   bad-is m h =
       let d : ℕ → ℕ → ℕ = demandOf b (typical (viewed b l)) in
@@ -164,5 +164,5 @@ module _ (b : Row) (l : List Row) (good : GoodRow b) (rows : All GoodRow l) (pac
       (some-one (λ q. longer (windowOf (withCost d (cost m) q)) (δ (distances b) q + b .deadline)) close (h .q) (h .low) (h .high)
       (ap (λ x. longer x (δ (distances b) (h .q) + b .deadline)) w ∙ lt-ltb _ _ (h .late)))
 
-  pub bad-means : (m : ℕ) → Exactly (badOf b (viewed b l) (marked b l) close m ≡ true) (IsBad b l close m)
+  pub bad-means : (m : ℕ) → Exactly (badOf byWindows b (viewed b l) (marked b l) close m ≡ true) (IsBad b l close m)
   bad-means m = (is-bad m, bad-is m)

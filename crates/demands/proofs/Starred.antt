@@ -19,6 +19,7 @@ use Rattle.segments.specs.Actives.{startOf, numbered, inOrder, actives, actives
 use Rattle.windows.specs.Demand as demand
 use Rattle.windows.specs.Window.{windowOf}
 use Rattle.windows.specs.declared.Window.the-variants.{At}
+use Rattle.misses.specs.Bad.{byWindows}
 use Rattle.misses.specs.Misses.{badOf, roomOf}
 use Rattle.demands.specs.Chains.{chainOf, othersOf}
 use Rattle.demands.specs.Misses as words
@@ -79,7 +80,7 @@ starred =
       window-1 = of-chain1 (λ b l. windowOf (words.full b l 1) ≡ At 64) (ap (λ d. windowOf (d 1)) (sym (equation-is _ _)) ∙ windows.sample-window);
       segment-3 = of-chain3 (λ a b. segmentsOf a b ≡ (task 2 7 10 ∷ task 0 8 6 ∷ []) ∷ []) segment;
       active-3 = of-chain3 (λ a b. map (λ x. x .cost) (activesOf a b) ≡ 6 ∷ 10 ∷ []) active;
-      bad-sets = of-chain1 (λ b l. (n : ℕ) → badOf b (viewed b l) (words.marked b l) 1 n ≡ (eqb n 3 || eqb n 5 || eqb n 6 || eqb n 7)) misses.bad-sets;
+      bad-sets = of-chain1 (λ b l. (n : ℕ) → badOf byWindows b (viewed b l) (words.marked b l) 1 n ≡ (eqb n 3 || eqb n 5 || eqb n 6 || eqb n 7)) misses.bad-sets;
       room-10 = of-chain1 (λ b l. roomOf b (words.marked b l) 10 64 ≡ 2 ∷ 2 ∷ 2 ∷ []) misses.room-10;
       room-11 = of-chain1 (λ b l. roomOf b (words.marked b l) 11 64 ≡ 3 ∷ 3 ∷ 3 ∷ []) misses.room-11;
       misses-10 = misses.misses-10;

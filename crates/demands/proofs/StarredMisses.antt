@@ -40,12 +40,12 @@ use Rattle.packing.specs.code.Plain.{reach}
 use Rattle.packing.proofs.Laws.{most-same}
 use Rattle.misses.specs.Overloads.{Overload, overloads, Piece, piecesFrom, piecesOf, capacitiesOf}
 use Rattle.misses.specs.Sets.{members, together, allowed, setCost}
-use Rattle.misses.specs.Bad.{withCost, over, bad}
-use Rattle.misses.specs.Misses.{earlyOf, badOf, roomOf, packingFigure, missesOf, missesAt, missesIn}
+use Rattle.misses.specs.Bad.{withCost, over, bad, byWindows}
+use Rattle.misses.specs.Misses.{earlyOf, badOf, roomOf, packingFigure, missesOf, missesAt, testedIn}
 use Rattle.misses.specs.declared.Answer.the-variants.{Misses}
 use Rattle.misses.proofs.Prices.{allowed-past}
 use Rattle.misses.proofs.Starts.{starts}
-use Rattle.misses.proofs.Answers.{misses-accepted, chain-found, at-bound, counts, missed-packed}
+use Rattle.misses.proofs.Answers.{tested-accepted, chain-found, at-bound, counts, missed-packed}
 use Rattle.demands.specs.Starred.{sample}
 use Rattle.demands.proofs.Tables.{sampled, sample-reads}
 use Rattle.demands.proofs.StarredWindows.{sample-window}
@@ -145,7 +145,7 @@ over-is c = ⊎-elim
     solves h = omega (arith, demand-is (25 + c), η-some good-50 (25 + c) (omega arith), η-stops good-50 1 (25 + c) (omega arith))
 
 -- so each set is judged by its members and its cost
-bad-is : (m : ℕ) → badOf b views os 1 m ≡ (allowed (piecesOf os) m && leb 16 (setCost (members (piecesOf os) m)))
+bad-is : (m : ℕ) → badOf byWindows b views os 1 m ≡ (allowed (piecesOf os) m && leb 16 (setCost (members (piecesOf os) m)))
 unfolding badOf bad sampled
 bad-is m = ap (λ x. allowed (piecesOf os) m && x) (over-is (setCost (members (piecesOf os) m)))
 
@@ -168,7 +168,7 @@ low-sets (suc (suc (suc (suc (suc (suc (suc (suc m)))))))) h = absurd (omega ari
 no-more : (m : ℕ) → 8 ≤ m → anyTwo m ≡ false
 no-more m h = rw (ne-eqb m 3 (λ e. omega arith), ne-eqb m 5 (λ e. omega arith), ne-eqb m 6 (λ e. omega arith), ne-eqb m 7 (λ e. omega arith))
 
-pub bad-sets : (m : ℕ) → badOf b views os 1 m ≡ anyTwo m
+pub bad-sets : (m : ℕ) → badOf byWindows b views os 1 m ≡ anyTwo m
 unfolding judged
 bad-sets m = bad-is m ∙ ⊎-elim (low-sets m)
     (λ h. ap (λ x. x && leb 16 (setCost (members (piecesOf os) m))) (allowed-past (piecesOf os) m (rw pieces h)) ∙ sym (no-more m h)) (lt-or-le m 8)
@@ -211,14 +211,14 @@ answers : (k n uses : ℕ) → earlyOf b k ≡ 0 → η (1000 ∷ []) (largest b
 unfolding sampled packingFigure
 answers k n uses early e few most =
     let r = rooms k n e in
-    misses-accepted sample 1 k (ap (λ (x : Reading). x .verdict) (sample-reads .reads))
-    ∙ ap (λ (x : Reading). missesIn (x .table) 1 k) (sample-reads .reads)
-    ∙ chain-found sampled 1 k (λ x. omega (arith, x, finds))
+    tested-accepted byWindows sample 1 k (ap (λ (x : Reading). x .verdict) (sample-reads .reads))
+    ∙ ap (λ (x : Reading). testedIn byWindows (x .table) 1 k) (sample-reads .reads)
+    ∙ chain-found byWindows sampled 1 k (λ x. omega (arith, x, finds))
     ∙ ap (λ j. missesAt sampled j k) finds
-    ∙ sym (at-bound sampled 0 k early _ (sym bounds))
-    ∙ counts b views os k 1 64 1 64 (λ x. omega (arith, x)) (rw pieces (lit≤ tt)) starts-once (ap (some (ltb 40)) r ∙ no-excess n few)
-    ∙ ap Misses (missed-packed b views os k 1 64 1 (bad-sets 0))
-    ∙ ap (λ u. Misses (min k (1 * u))) (most-same (badOf b views os 1) anyTwo (λ i. getD (roomOf b os k 64) i 0) (each n) (λ m l h. bad-sets m) (λ i h. ap (λ l. getD l i 0) r) ∙ most)
+    ∙ sym (at-bound byWindows sampled 0 k early _ (sym bounds))
+    ∙ counts byWindows b views os k 1 64 1 64 (λ x. omega (arith, x)) (rw pieces (lit≤ tt)) starts-once (ap (some (ltb 40)) r ∙ no-excess n few)
+    ∙ ap Misses (missed-packed byWindows b views os k 1 64 1 (bad-sets 0))
+    ∙ ap (λ u. Misses (min k (1 * u))) (most-same (badOf byWindows b views os 1) anyTwo (λ i. getD (roomOf b os k 64) i 0) (each n) (λ m l h. bad-sets m) (λ i h. ap (λ l. getD l i 0) r) ∙ most)
     ∙ ap Misses (omega arith)
 
 room-of : (k n : ℕ) → η (1000 ∷ []) (largest b k + 64) ≡ n → η (1000 ∷ []) (largest b k + 64) + 1 ≡ n + 1

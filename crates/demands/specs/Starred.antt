@@ -15,6 +15,7 @@ use Rattle.windows.specs.Window.{windowOf}
 use Rattle.windows.specs.Latency.{latencyOf}
 use Rattle.windows.specs.declared.Window.the-variants.{At}
 use Rattle.windows.specs.declared.Answer.the-variants.{Figures, Refused}
+use Rattle.misses.specs.Bad.{byWindows}
 use Rattle.misses.specs.Misses.{badOf, roomOf, missesOf}
 use Rattle.misses.specs.declared.Answer.the-variants.{Misses}
 use Rattle.demands.specs.Chains.{chainOf, othersOf}
@@ -93,7 +94,7 @@ pub record Starred : Type 0 where
   pub segment-3 : segmentsOf chain3 chain1 ≡ (task 2 7 10 ∷ task 0 8 6 ∷ []) ∷ []
   pub active-3 : map (λ a. a .cost) (activesOf chain3 chain1) ≡ 6 ∷ 10 ∷ []
   -- the bad sets are both of these, which have the bits 0 and 1, either with chain 4, which has the bit 2, and all three
-  pub bad-sets : (m : ℕ) → badOf chain1 (map (λ a. viewOf a chain1) others1) (marked chain1 others1) 1 m ≡ (eqb m 3 || eqb m 5 || eqb m 6 || eqb m 7)
+  pub bad-sets : (m : ℕ) → badOf byWindows chain1 (map (λ a. viewOf a chain1) others1) (marked chain1 others1) 1 m ≡ (eqb m 3 || eqb m 5 || eqb m 6 || eqb m 7)
   -- k = 10: capacities 2, answer 3; k = 11: capacities 3, answer 4; k = 1: 1 (02, request 3)
   pub room-10 : roomOf chain1 (marked chain1 others1) 10 64 ≡ 2 ∷ 2 ∷ 2 ∷ []
   pub room-11 : roomOf chain1 (marked chain1 others1) 11 64 ≡ 3 ∷ 3 ∷ 3 ∷ []

@@ -1,4 +1,4 @@
--- What the miss query answers, case by case, in the documents' order. Assumes nothing.
+-- What the miss query answers by a test, case by case, in the documents' order. Assumes nothing.
 use Prim.Native.Nat.{ℕ, zero, suc, _≤_, _<_, min}
 use mathlib.Core.Path.{_≡_, refl, ap, sym, _∙_}
 use mathlib.Core.Bool.{true, false, not}
@@ -21,14 +21,15 @@ use Rattle.windows.specs.Latency.{boundAt}
 use Rattle.windows.specs.declared.Windows.{Windows}
 use Rattle.search.specs.Lists.{some}
 use Rattle.misses.specs.Overloads.{Overload, piecesOf}
-use Rattle.misses.specs.Misses.{earlyOf, badOf, roomOf, packingFigure, missedOf, byFigures, byBound, missesBeside, overloadsOf, missesAt, missesIn, missesOf}
+use Rattle.misses.specs.Bad.{Test}
+use Rattle.misses.specs.Misses.{earlyOf, badOf, roomOf, packingFigure, missedOf, byFigures, byBound, testedBeside, overloadsOf, testedAt, testedIn, testedOf}
 use Rattle.misses.specs.declared.Answer.{Answer}
 use Rattle.misses.specs.declared.Answer.the-variants.{Misses, Refused}
 use Rattle.misses.proofs.Starts.{starts}
 
-module _ (b : Row) (views : List View) (os : List Overload) (k close latency late last : ℕ) where
+module _ (test : Test) (b : Row) (views : List View) (os : List Overload) (k close latency late last : ℕ) where
   abbrev answer : Answer
-  answer = byFigures b views os k close latency late last
+  answer = byFigures test b views os k close latency late last
 
   pub none-late : late ≡ 0 → answer ≡ Misses 0
   unfolding byFigures
@@ -50,17 +51,17 @@ module _ (b : Row) (views : List View) (os : List Overload) (k close latency lat
         too-roomy e = when-no _ _ (ne-eqb late 0 some-late) ∙ when-no _ _ (le-ltb maxOverloads _ few) ∙ when-no _ _ once ∙ when-yes _ _ e
 
         module _ (within : some (ltb maxCapacity) (roomOf b os k latency) ≡ false) where
-          pub counts : answer ≡ Misses (missedOf b views os k close latency late)
+          pub counts : answer ≡ Misses (missedOf test b views os k close latency late)
           unfolding byFigures
           counts = when-no _ _ (ne-eqb late 0 some-late) ∙ when-no _ _ (le-ltb maxOverloads _ few) ∙ when-no _ _ once ∙ when-no _ _ within
 
 -- how many are missed
-module _ (b : Row) (views : List View) (os : List Overload) (k close latency late : ℕ) where
-  pub missed-all : badOf b views os close 0 ≡ true → missedOf b views os k close latency late ≡ k
+module _ (test : Test) (b : Row) (views : List View) (os : List Overload) (k close latency late : ℕ) where
+  pub missed-all : badOf test b views os close 0 ≡ true → missedOf test b views os k close latency late ≡ k
   unfolding missedOf
   missed-all e = when-yes _ _ e
 
-  pub missed-packed : badOf b views os close 0 ≡ false → missedOf b views os k close latency late ≡ min k (packingFigure b views os k close latency late)
+  pub missed-packed : badOf test b views os close 0 ≡ false → missedOf test b views os k close latency late ≡ min k (packingFigure test b views os k close latency late)
   unfolding missedOf
   missed-packed e = when-no _ _ e
 
@@ -90,33 +91,33 @@ unfolding byNumber
 number-refuses zero rest h = absurd (h refl)
 number-refuses (suc n) rest h = refl
 
-module _ (t : Table) (chain k : ℕ) where
-  pub at-early : (earlyOf (rowOf t chain) k ≡ 0 → ⊥) → missesAt t chain k ≡ Refused (earlyOf (rowOf t chain) k)
-  unfolding missesAt missesBeside byNumber
+module _ (test : Test) (t : Table) (chain k : ℕ) where
+  pub at-early : (earlyOf (rowOf t chain) k ≡ 0 → ⊥) → testedAt test t chain k ≡ Refused (earlyOf (rowOf t chain) k)
+  unfolding testedAt testedBeside byNumber
   at-early h = number-refuses (earlyOf (rowOf t chain) k) _ h
 
   -- what windows w would give
   abbrev given : Windows → Answer
-  given w = byBound (rowOf t chain) (viewsOf t chain) (overloadsOf t chain) k (w .answer) (w .last)
+  given w = byBound test (rowOf t chain) (viewsOf t chain) (overloadsOf t chain) k (w .answer) (w .last)
 
-  pub at-bound : earlyOf (rowOf t chain) k ≡ 0 → (w : Windows) → w ≡ boundAt t chain → given w ≡ missesAt t chain k
-  unfolding missesAt missesBeside byNumber
+  pub at-bound : earlyOf (rowOf t chain) k ≡ 0 → (w : Windows) → w ≡ boundAt t chain → given w ≡ testedAt test t chain k
+  unfolding testedAt testedBeside byNumber
   at-bound e w f = ap given f ∙ sym (ap (λ n. byNumber Refused n (given (boundAt t chain))) e)
 
-module _ (t : Table) (id k : ℕ) where
-  pub chain-none : findOf t id ≡ t .count → missesIn t id k ≡ Refused 12
-  unfolding missesIn
+module _ (test : Test) (t : Table) (id k : ℕ) where
+  pub chain-none : findOf t id ≡ t .count → testedIn test t id k ≡ Refused 12
+  unfolding testedIn
   chain-none e = when-yes _ _ (eq-eqb _ _ e)
 
-  pub chain-found : (findOf t id ≡ t .count → ⊥) → missesIn t id k ≡ missesAt t (findOf t id) k
-  unfolding missesIn
+  pub chain-found : (findOf t id ≡ t .count → ⊥) → testedIn test t id k ≡ testedAt test t (findOf t id) k
+  unfolding testedIn
   chain-found h = when-no _ _ (ne-eqb _ _ h)
 
-module _ (s : List ℕ) (id k : ℕ) where
-  pub misses-refused : {n place : ℕ} → readTable s .verdict ≡ Faulty n place → missesOf s id k ≡ Refused n
-  unfolding missesOf
-  misses-refused e = ap (λ v. byVerdict Refused v (missesIn (readTable s .table) id k)) e
+module _ (test : Test) (s : List ℕ) (id k : ℕ) where
+  pub tested-refused : {n place : ℕ} → readTable s .verdict ≡ Faulty n place → testedOf test s id k ≡ Refused n
+  unfolding testedOf
+  tested-refused e = ap (λ v. byVerdict Refused v (testedIn test (readTable s .table) id k)) e
 
-  pub misses-accepted : readTable s .verdict ≡ Accepted → missesOf s id k ≡ missesIn (readTable s .table) id k
-  unfolding missesOf
-  misses-accepted e = ap (λ v. byVerdict Refused v (missesIn (readTable s .table) id k)) e
+  pub tested-accepted : readTable s .verdict ≡ Accepted → testedOf test s id k ≡ testedIn test (readTable s .table) id k
+  unfolding testedOf
+  tested-accepted e = ap (λ v. byVerdict Refused v (testedIn test (readTable s .table) id k)) e

@@ -1,13 +1,17 @@
 -- What nothing refused before the figures says of them: they are within their limits. Assumes nothing.
-use Prim.Native.Nat.{ℕ}
+use Prim.Native.Nat.{ℕ, zero, suc, _≤_}
 use mathlib.Core.Path.{_≡_, ap, sym, _∙_}
 use mathlib.Core.List.{List}
 use native.Mathlib.Omega.{arith}
+use native.Mathlib.Numerals.{add-one}
 use borrow.Author.Tests.{eqb-true, not-false, ltb-false}
 use lib.IntN.{ℤ}
 use Rattle.search.proofs.Choice.{when-zero}
-use Rattle.table.specs.Limits.{maxRun}
+use Rattle.table.specs.Limits.{maxRun, horizon}
 use Rattle.table.specs.declared.Row.{Row}
+use Rattle.table.specs.code.Good.{GoodRow, GoodDistances}
+use Rattle.arrivals.specs.Arrivals.{δ}
+use Rattle.arrivals.proofs.Distances.{δ-one}
 use Rattle.table.proofs.Firsts.{none-or}
 use Rattle.table.specs.Record.{distances}
 use Rattle.segments.specs.View.{View}
@@ -17,14 +21,21 @@ use Rattle.windows.specs.declared.Windows.{Windows}
 use Rattle.windows.specs.declared.Answer.the-variants.{Figures as Given}
 use Rattle.windows.proofs.Least.{window-at}
 use Rattle.windows.proofs.Latencies.{latency-near, late-few}
-use Rattle.windows.proofs.Closing.{answer-closed}
+use Rattle.windows.proofs.Closing.{Closes, answer-closed}
 use Rattle.misses.specs.Misses.{earlyOf}
 use Rattle.misses.specs.code.Held.{Asked}
 
-pub asked : (b : Row) (views : List View) (k : ℕ) (w : Windows) (close latency late : ℕ) (margin : ℤ) → earlyOf b k ≡ 0 → w ≡ boundOf b views
+-- each activation up to K starts within the window before it
+starts-near : (demand : ℕ → ℕ → ℕ) {ds : List ℕ} → GoodDistances ds → {close t : ℕ} → Closes demand ds close t → (q : ℕ) → 1 ≤ q → q ≤ close → δ ds q ≤ horizon
+starts-near demand good c (suc zero) l h = omega (arith, δ-one good)
+starts-near demand {ds} good c (suc (suc q)) l h =
+    let r = c .reach (suc q) (omega arith) (omega arith) in
+    omega (arith, ap (δ ds) (add-one (suc q)), r .2, window-at (demand (suc q)) (r .0) (r .1) .high)
+
+pub asked : (b : Row) → GoodRow b → (views : List View) (k : ℕ) (w : Windows) (close latency late : ℕ) (margin : ℤ) → earlyOf b k ≡ 0 → w ≡ boundOf b views
     → w .answer ≡ Given close latency late margin → Asked b k (record { close = close; latency = latency; late = late; last = w .last })
 unfolding earlyOf boundOf
-asked b views k w close latency late margin early e f =
+asked b good views k w close latency late margin early e f =
     let e1 = when-zero 12 _ _ early in
     let e2 = when-zero 13 _ _ (e1 .1) in
     let run = none-or _ _ (e1 .0) in
@@ -38,4 +49,5 @@ asked b views k w close latency late margin early e f =
       near = omega (arith, c .greatest, latency-near demand (distances b) close);
       count = omega (arith, c .count, c .closes .high, late-few demand (distances b) (b .deadline) close);
       end = omega (arith, ap (λ (x : Windows). x .last) e, window-at (demand close) _ (c .closes .last) .high);
+      starts = starts-near demand (good .list) (c .closes);
     }

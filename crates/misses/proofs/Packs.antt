@@ -4,7 +4,7 @@ use mathlib.Core.Path.{_≡_, refl, ap, sym, _∙_}
 use mathlib.Core.Bool.{Bool, true, false, _&&_}
 use mathlib.Core.List.{List, [], _∷_}
 use native.Mathlib.Omega.{arith}
-use lib.Dec.{leb, eqb}
+use lib.Dec.{eqb}
 use lib.ListN.{length, getD}
 use lib.Pow.{pow-pos}
 use Rattle.search.specs.Choice.{_when_else_}
@@ -18,7 +18,7 @@ use Rattle.misses.specs.Sets.{members, together, allowed, setCost}
 use Rattle.misses.specs.Bad.{bad}
 use Rattle.misses.specs.code.Held.{piecesAt, priceOf}
 use Rattle.segments.specs.code.Held.{dearest}
-use Rattle.misses.specs.code.Settling.{beyond, BadFrom}
+use Rattle.misses.specs.code.Settling.{beyond}
 use Rattle.misses.proofs.Prices.{allowed-below, price-allowed, price-none}
 use Rattle.misses.proofs.Covers.{members-sum}
 
@@ -58,7 +58,7 @@ module _ (over : ℕ → Bool) (ps : List Piece) where
 
   module _ (fine : over 0 ≡ false) where
     -- a set that is no combination has the price 0, which is not bad
-    bad-price : (m : ℕ) → bad over ps m ≡ over (priceOf ps m)
+    pub bad-price : (m : ℕ) → bad over ps m ≡ over (priceOf ps m)
     unfolding bad
     bad-price m = go (allowed ps m) refl
       where
@@ -66,7 +66,6 @@ module _ (over : ℕ → Bool) (ps : List Piece) where
         go true e = rw e (ap over (sym (price-allowed ps m e)))
         go false e = rw e (sym fine ∙ ap over (sym (price-none ps m e)))
 
-    pub flags-bad : (costs flags : List ℕ) (lowest : ℕ) → ((m : ℕ) → m < combinations → getD costs m 0 ≡ priceOf ps m) → BadFrom over costs lowest
-        → ((m : ℕ) → m < combinations → getD flags m 0 ≡ (1 when leb lowest (getD costs m 0) else 0)) → (m : ℕ) → m < combinations → flagged flags m ≡ bad over ps m
-    flags-bad costs flags lowest prices tells given m h =
-        ap (λ x. eqb x 1) (given m h) ∙ flag-tells (leb lowest (getD costs m 0)) ∙ tells m h ∙ ap over (prices m h) ∙ sym (bad-price m)
+-- flags that tell which costs are bad
+pub flags-tell : (flags : List ℕ) (costly : ℕ → Bool) → ((m : ℕ) → m < combinations → getD flags m 0 ≡ (1 when costly m else 0)) → (m : ℕ) → m < combinations → flagged flags m ≡ costly m
+flags-tell flags costly given m h = ap (λ x. eqb x 1) (given m h) ∙ flag-tells (costly m)

@@ -19,7 +19,8 @@ use Rattle.windows.specs.declared.Answer.the-variants.{Figures, Refused as Unbo
 use Rattle.packing.specs.Most.{mostUses}
 use Rattle.packing.proofs.Laws.{most-rises}
 use Rattle.misses.specs.Overloads.{Overload, overloads, capacitiesOf}
-use Rattle.misses.specs.Misses.{earlyOf, badOf, roomOf, packingFigure, missedOf, byFigures, byBound, missesBeside}
+use Rattle.misses.specs.Bad.{Test}
+use Rattle.misses.specs.Misses.{earlyOf, badOf, roomOf, packingFigure, missedOf, byFigures, byBound, testedBeside}
 use Rattle.misses.specs.declared.Answer.{Answer}
 use Rattle.misses.specs.declared.Answer.the-variants.{Misses, Refused}
 
@@ -64,12 +65,12 @@ no-more-refused : (a : Answer) (n : ℕ) → NoMore a (Refused n)
 no-more-refused (Misses m) n = tt
 no-more-refused (Refused m) n = tt
 
-module _ (b : Row) (views : List View) (os : List Overload) where
-  missed-within : (k close latency late : ℕ) → missedOf b views os k close latency late ≤ k
+module _ (test : Test) (b : Row) (views : List View) (os : List Overload) where
+  missed-within : (k close latency late : ℕ) → missedOf test b views os k close latency late ≤ k
   unfolding missedOf
   missed-within k close latency late = when-cases (λ n. n ≤ k) _ (λ e. omega arith) (λ e. omega arith)
 
-  figures-within : (k close latency late last : ℕ) → Within k (byFigures b views os k close latency late last)
+  figures-within : (k close latency late last : ℕ) → Within k (byFigures test b views os k close latency late last)
   unfolding byFigures
   figures-within k close latency late last =
       when-cases (Within k) _ (λ e. omega arith) (λ e.
@@ -77,7 +78,7 @@ module _ (b : Row) (views : List View) (os : List Overload) where
       when-cases (Within k) _ (λ g. tt) (λ g.
       when-cases (Within k) _ (λ h. tt) (λ h. missed-within k close latency late))))
 
-  bound-within : (k : ℕ) (x : Bound) (last : ℕ) → Within k (byBound b views os k x last)
+  bound-within : (k : ℕ) (x : Bound) (last : ℕ) → Within k (byBound test b views os k x last)
   bound-within k (Figures close latency late margin) last = figures-within k close latency late last
   bound-within k (Unbounded n) last = tt
 
@@ -87,8 +88,8 @@ module _ (b : Row) (views : List View) (os : List Overload) where
   number-within k (suc n) a h = tt
 
   -- never more than k
-  pub beside-within : (k : ℕ) → Within k (missesBeside b views os k)
-  unfolding missesBeside
+  pub beside-within : (k : ℕ) → Within k (testedBeside test b views os k)
+  unfolding testedBeside
   beside-within k = number-within k (earlyOf b k) _ (bound-within k (boundOf b views .answer) (boundOf b views .last))
 
   module _ (lists : All (λ o. GoodDistances (o .list)) os) (k long : ℕ) (longer : k ≤ long) where
@@ -98,26 +99,26 @@ module _ (b : Row) (views : List View) (os : List Overload) where
         let less : k - 1 ≤ long - 1 = omega arith in
         capacities-grow os lists _ _ (omega (arith, mul-le-mul-right (b .gap) less))
 
-    missed-rises : (close latency late : ℕ) → missedOf b views os k close latency late ≤ missedOf b views os long close latency late
+    missed-rises : (close latency late : ℕ) → missedOf test b views os k close latency late ≤ missedOf test b views os long close latency late
     unfolding missedOf packingFigure _when_else_
-    missed-rises close latency late = go (badOf b views os close 0)
+    missed-rises close latency late = go (badOf test b views os close 0)
       where
         uses : ℕ → ℕ
-        uses k = mostUses (badOf b views os close) (λ i. getD (roomOf b os k latency) i 0)
+        uses k = mostUses (badOf test b views os close) (λ i. getD (roomOf b os k latency) i 0)
 
         more : late * uses k ≤ late * uses long
-        more = mul-le-mul-left late (most-rises (badOf b views os close) (badOf b views os close) (λ i. getD (roomOf b os k latency) i 0) (λ i. getD (roomOf b os long latency) i 0) (λ x s h e. e) (λ i h. room-grows latency i))
+        more = mul-le-mul-left late (most-rises (badOf test b views os close) (badOf test b views os close) (λ i. getD (roomOf b os k latency) i 0) (λ i. getD (roomOf b os long latency) i 0) (λ x s h e. e) (λ i h. room-grows latency i))
 
         go : (t : Bool) → (k when t else min k (late * uses k)) ≤ (long when t else min long (late * uses long))
         go true = longer
         go false = omega (arith, more)
 
-    figures-rise : (close latency late last : ℕ) → NoMore (byFigures b views os k close latency late last) (byFigures b views os long close latency late last)
+    figures-rise : (close latency late last : ℕ) → NoMore (byFigures test b views os k close latency late last) (byFigures test b views os long close latency late last)
     unfolding byFigures
     figures-rise close latency late last =
-        let P : Answer → Type 0 = λ a. NoMore a (byFigures b views os long close latency late last) in
-        let Q : Answer → Type 0 = NoMore (Misses (missedOf b views os k close latency late)) in
-        when-cases P _ (λ e. none-no-more (byFigures b views os long close latency late last)) (λ e.
+        let P : Answer → Type 0 = λ a. NoMore a (byFigures test b views os long close latency late last) in
+        let Q : Answer → Type 0 = NoMore (Misses (missedOf test b views os k close latency late)) in
+        when-cases P _ (λ e. none-no-more (byFigures test b views os long close latency late last)) (λ e.
         when-cases P _ (λ f. tt) (λ f.
         when-cases P _ (λ f. tt) (λ f.
         when-cases P _ (λ f. tt) (λ f.
@@ -126,7 +127,7 @@ module _ (b : Row) (views : List View) (os : List Overload) where
         when-cases Q _ (λ h. tt) (λ h.
         when-cases Q _ (λ h. tt) (λ h. missed-rises close latency late))))))))
 
-    bound-rises : (x : Bound) (last : ℕ) → NoMore (byBound b views os k x last) (byBound b views os long x last)
+    bound-rises : (x : Bound) (last : ℕ) → NoMore (byBound test b views os k x last) (byBound test b views os long x last)
     bound-rises (Figures close latency late margin) last = figures-rise close latency late last
     bound-rises (Unbounded n) last = tt
 
@@ -137,6 +138,6 @@ module _ (b : Row) (views : List View) (os : List Overload) where
     number-rises (suc n) r a c h = tt
 
     -- never fewer in a longer run
-    pub beside-rises : NoMore (missesBeside b views os k) (missesBeside b views os long)
-    unfolding missesBeside
+    pub beside-rises : NoMore (testedBeside test b views os k) (testedBeside test b views os long)
+    unfolding testedBeside
     beside-rises = number-rises (earlyOf b k) (earlyOf b long) _ _ (bound-rises (boundOf b views .answer) (boundOf b views .last))

@@ -26,8 +26,8 @@ use Rattle.windows.specs.declared.Windows.{Windows}
 use Rattle.windows.proofs.Views.{alike-demand, alike-bound, alike-typical}
 use Rattle.packing.specs.Most.{mostUses}
 use Rattle.misses.specs.Overloads.{Overload, overload, overloads, piecesOf, capacitiesOf}
-use Rattle.misses.specs.Bad.{over, bad}
-use Rattle.misses.specs.Misses.{earlyOf, badOf, roomOf, packingFigure, missedOf, byFigures, byBound, missesBeside}
+use Rattle.misses.specs.Bad.{over, bad, byWindows}
+use Rattle.misses.specs.Misses.{earlyOf, badOf, roomOf, packingFigure, missedOf, byFigures, byBound, testedBeside}
 use Rattle.misses.specs.declared.Answer.the-variants.{Misses, Refused}
 use Rattle.misses.proofs.Packs.{bad-none}
 use Rattle.misses.proofs.Starts.{starts}
@@ -73,11 +73,11 @@ module _ (b : Row) {vs ws : List View} (views : Paired Alike vs ws) {os ps : Lis
         ∙ perm-some test (paired-perm (λ o. o .list) (λ o. o .list) (paired-weaker r (λ o p h. h .list)))
         ∙ some-map (λ o. o .list) test ps
 
-    same-bad : (m : ℕ) → badOf b vs os close m ≡ bad (over (demandOf b (typical ws)) (distances b) (b .deadline) close) (piecesOf os) m
+    same-bad : (m : ℕ) → badOf byWindows b vs os close m ≡ bad (over (demandOf b (typical ws)) (distances b) (b .deadline) close) (piecesOf os) m
     unfolding badOf
     same-bad m = ap (λ d. bad (over d (distances b) (b .deadline) close) (piecesOf os) m) (alike-demand (alike-typical views) b)
 
-    empty : badOf b vs os close 0 ≡ badOf b ws ps close 0
+    empty : badOf byWindows b vs os close 0 ≡ badOf byWindows b ws ps close 0
     unfolding badOf
     empty = same-bad 0 ∙ bad-none _ (piecesOf os) ∙ sym (bad-none _ (piecesOf ps))
 
@@ -86,17 +86,17 @@ module _ (b : Row) {vs ws : List View} (views : Paired Alike vs ws) {os ps : Lis
     above = perm-some (ltb maxCapacity) (same-rooms r (largest b k + latency))
 
     most : length (piecesOf ps) ≤ maxOverloads
-        → mostUses (badOf b vs os close) (λ i. getD (roomOf b os k latency) i 0) ≡ mostUses (badOf b ws ps close) (λ i. getD (roomOf b ps k latency) i 0)
+        → mostUses (badOf byWindows b vs os close) (λ i. getD (roomOf b os k latency) i 0) ≡ mostUses (badOf byWindows b ws ps close) (λ i. getD (roomOf b ps k latency) i 0)
     unfolding badOf roomOf
     most few =
         ap (λ f. mostUses f (λ i. getD (capacitiesOf (largest b k + latency) os) i 0)) (fun-ext same-bad)
         ∙ same-most r q (largest b k + latency) _ (omega (arith, same-count r 0))
 
-    same-missed : length (piecesOf ps) ≤ maxOverloads → missedOf b vs os k close latency late ≡ missedOf b ws ps k close latency late
+    same-missed : length (piecesOf ps) ≤ maxOverloads → missedOf byWindows b vs os k close latency late ≡ missedOf byWindows b ws ps k close latency late
     unfolding missedOf packingFigure
-    same-missed few = rw empty (ap (λ n. k when badOf b ws ps close 0 else min k (late * n)) (most few))
+    same-missed few = rw empty (ap (λ n. k when badOf byWindows b ws ps close 0 else min k (late * n)) (most few))
 
-    same-figures : byFigures b vs os k close latency late last ≡ byFigures b ws ps k close latency late last
+    same-figures : byFigures byWindows b vs os k close latency late last ≡ byFigures byWindows b ws ps k close latency late last
     unfolding byFigures
     same-figures =
         rw (same-count r 0, again, above)
@@ -106,14 +106,14 @@ module _ (b : Row) {vs ws : List View} (views : Paired Alike vs ws) {os ps : Lis
         choose _ _ _ _ (some (ltb maxCapacity) (roomOf b ps k latency)) (λ g. refl) (λ g.
         ap Misses (same-missed (ltb-false _ _ f)))))))
 
-  same-byBound : (x : Bound) (last : ℕ) → byBound b vs os k x last ≡ byBound b ws ps k x last
+  same-byBound : (x : Bound) (last : ℕ) → byBound byWindows b vs os k x last ≡ byBound byWindows b ws ps k x last
   same-byBound (Figures close latency late margin) last = same-figures close latency late last
   same-byBound (Unbounded n) last = refl
 
 -- other chains that pair off alike, in any order: the same answer for every k
 pub alike-misses : (b : Row) {l r : List Row} → Paired (λ a c. Alike (viewOf a b) (viewOf c b)) l r → (k : ℕ)
-    → missesBeside b (map (λ a. viewOf a b) l) (overloads b l) k ≡ missesBeside b (map (λ a. viewOf a b) r) (overloads b r) k
-unfolding missesBeside
+    → testedBeside byWindows b (map (λ a. viewOf a b) l) (overloads b l) k ≡ testedBeside byWindows b (map (λ a. viewOf a b) r) (overloads b r) k
+unfolding testedBeside
 alike-misses b {l} {r} p k =
     let vs = map (λ a. viewOf a b) l in
     let ws = map (λ a. viewOf a b) r in
@@ -123,4 +123,4 @@ alike-misses b {l} {r} p k =
     let same = alike-bound views b in
     ap (byNumber Refused (earlyOf b k))
     (same-byBound b views one two k (boundOf b vs .answer) (boundOf b vs .last)
-    ∙ ap (λ (w : Windows). byBound b ws (overloads b r) k (w .answer) (w .last)) same)
+    ∙ ap (λ (w : Windows). byBound byWindows b ws (overloads b r) k (w .answer) (w .last)) same)

@@ -2,6 +2,10 @@
 use Prim.Native.Nat.{ℕ, _+_}
 use mathlib.Core.Bool.{Bool, _&&_}
 use mathlib.Core.List.{List}
+use Rattle.table.specs.declared.Row.{Row}
+use Rattle.table.specs.Record.{distances}
+use Rattle.segments.specs.View.{View}
+use Rattle.windows.specs.Demand.{demandOf, typical}
 use Rattle.windows.specs.Latency.{anyOver}
 use Rattle.misses.specs.Overloads.{Piece}
 use Rattle.misses.specs.Sets.{members, allowed, setCost}
@@ -17,3 +21,11 @@ over demand ds deadline close cost = anyOver (withCost demand cost) ds deadline 
 -- a bad combination, by which costs are bad
 unfoldable pub bad : (ℕ → Bool) → List Piece → ℕ → Bool
 bad costly ps m = allowed ps m && costly (setCost (members ps m))
+
+-- a test of costs: which are bad for a chain b beside the chains of these views, for q up to `close`
+abbrev pub Test : Type 0
+Test = Row → List View → ℕ → ℕ → Bool
+
+-- by the windows of each set: the exact test
+abbrev pub byWindows : Test
+byWindows b views close cost = over (demandOf b (typical views)) (distances b) (b .deadline) close cost

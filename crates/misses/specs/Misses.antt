@@ -1,4 +1,5 @@
--- The miss query (01, 'Misses' and 'Numbers given back'; 02, request 3).
+-- The miss query (01, 'Misses' and 'Numbers given back'; 02, request 3), for any test that says which costs are bad: by windows it is the
+-- miss count, by the sieve (Sieve.antt) a number that this does not exceed.
 use Prim.Native.Nat.{ℕ, _+_, _*_, min}
 use mathlib.Core.Bool.{Bool, not}
 use mathlib.Core.List.{List, [], _∷_}
@@ -12,16 +13,15 @@ use Rattle.table.specs.Read.{byVerdict, readTable, tableOf}
 use Rattle.table.specs.declared.Row.{Row}
 use Rattle.table.specs.declared.Table.{Table}
 use Rattle.arrivals.specs.Arrivals.{η, largest}
-use Rattle.table.specs.Record.{distances}
 use Rattle.segments.specs.View.{View}
-use Rattle.windows.specs.Demand.{demandOf, typical, others, viewsOf}
+use Rattle.windows.specs.Demand.{others, viewsOf}
 use Rattle.windows.specs.Latency.{boundOf}
 use Rattle.windows.specs.declared.Answer.{Answer as Bound}
 use Rattle.windows.specs.declared.Answer.the-variants.{Figures, Refused as Unbounded}
 use Rattle.packing.specs.Most.{mostUses}
 use Rattle.search.specs.Lists.{some}
 use Rattle.misses.specs.Overloads.{Overload, overloads, piecesOf, capacitiesOf}
-use Rattle.misses.specs.Bad.{over, bad}
+use Rattle.misses.specs.Bad.{bad, Test, byWindows}
 use Rattle.misses.specs.declared.Answer.{Answer}
 use Rattle.misses.specs.declared.Answer.the-variants.{Misses, Refused}
 
@@ -42,55 +42,69 @@ earlyOf b k =
     15 when eqb (b .gap) 0 else
     0
 
--- the bad combinations of a chain b beside the chains of these views, whose overload chains are `os`, for q up to `close`, which is
--- the K of the full analysis
-unfoldable pub badOf : Row → List View → List Overload → ℕ → ℕ → Bool
-badOf b views os close m = bad (over (demandOf b (typical views)) (distances b) (b .deadline) close) (piecesOf os) m
+-- the overload chains beside a chain of a table
+abbrev pub overloadsOf : Table → ℕ → List Overload
+overloadsOf t chain = overloads (rowOf t chain) (others t chain)
 
 -- capacity of each active segment of a: η_a((k − 1) times b's gap + latency) + 1
 unfoldable pub roomOf : Row → List Overload → ℕ → ℕ → List ℕ
 roomOf b os k latency = capacitiesOf (largest b k + latency) os
 
--- the misses of b in a run of k activations
-module _ (b : Row) (views : List View) (os : List Overload) (k : ℕ) where
-  -- the packing figure: late times the most uses any packing of the bad combinations has
-  unfoldable pub packingFigure : ℕ → ℕ → ℕ → ℕ
-  packingFigure close latency late = late * mostUses (badOf b views os close) (λ i. getD (roomOf b os k latency) i 0)
+-- the query by a test of costs
+module _ (test : Test) where
+  -- the bad combinations of a chain b beside the chains of these views, whose overload chains are `os`, for q up to `close`, which is
+  -- the K of the full analysis
+  unfoldable pub badOf : Row → List View → List Overload → ℕ → ℕ → Bool
+  badOf b views os close m = bad (test b views close) (piecesOf os) m
 
-  -- all k where a deadline is missed even without overload, the empty set being bad; else the smaller of k and the packing figure
-  unfoldable pub missedOf : ℕ → ℕ → ℕ → ℕ
-  missedOf close latency late = k when badOf b views os close 0 else min k (packingFigure close latency late)
+  -- the misses of b in a run of k activations
+  module _ (b : Row) (views : List View) (os : List Overload) (k : ℕ) where
+    -- the packing figure: late times the most uses any packing of the bad combinations has
+    unfoldable pub packingFigure : ℕ → ℕ → ℕ → ℕ
+    packingFigure close latency late = late * mostUses (badOf b views os close) (λ i. getD (roomOf b os k latency) i 0)
 
-  -- zero late activations answers 0; over 6 overload active segments; any overload chain, with segments or none, may start more
-  -- than once in the last window; a capacity above 40; else so many are missed
-  unfoldable pub byFigures : ℕ → ℕ → ℕ → ℕ → Answer
-  byFigures close latency late last =
-      Misses 0 when eqb late 0 else
-      Refused 18 when ltb maxOverloads (length (piecesOf os)) else
-      Refused 19 when some (λ o. ltb 1 (η (o .list) last)) os else
-      Refused 21 when some (ltb maxCapacity) (roomOf b os k latency) else
-      Misses (missedOf close latency late)
+    -- all k where a deadline is missed even without overload, the empty set being bad; else the smaller of k and the packing figure
+    unfoldable pub missedOf : ℕ → ℕ → ℕ → ℕ
+    missedOf close latency late = k when badOf b views os close 0 else min k (packingFigure close latency late)
 
-  -- 16 or 17, or the figures of the full analysis beside its last window
-  abbrev pub byBound : Bound → ℕ → Answer
-  byBound (Figures close latency late margin) last = byFigures close latency late last
-  byBound (Unbounded n) last = Refused n
+    -- zero late activations answers 0; over 6 overload active segments; any overload chain, with segments or none, may start more
+    -- than once in the last window; a capacity above 40; else so many are missed
+    unfoldable pub byFigures : ℕ → ℕ → ℕ → ℕ → Answer
+    byFigures close latency late last =
+        Misses 0 when eqb late 0 else
+        Refused 18 when ltb maxOverloads (length (piecesOf os)) else
+        Refused 19 when some (λ o. ltb 1 (η (o .list) last)) os else
+        Refused 21 when some (ltb maxCapacity) (roomOf b os k latency) else
+        Misses (missedOf close latency late)
 
-  -- what is refused before any window, or the windows decide
-  unfoldable pub missesBeside : Answer
-  missesBeside = byNumber Refused (earlyOf b k) (byBound (boundOf b views .answer) (boundOf b views .last))
+    -- 16 or 17, or the figures of the full analysis beside its last window
+    abbrev pub byBound : Bound → ℕ → Answer
+    byBound (Figures close latency late margin) last = byFigures close latency late last
+    byBound (Unbounded n) last = Refused n
 
--- the overload chains beside a chain of a table, and its misses, by its number there
-abbrev pub overloadsOf : Table → ℕ → List Overload
-overloadsOf t chain = overloads (rowOf t chain) (others t chain)
+    -- what is refused before any window, or the windows decide
+    unfoldable pub testedBeside : Answer
+    testedBeside = byNumber Refused (earlyOf b k) (byBound (boundOf b views .answer) (boundOf b views .last))
 
-unfoldable pub missesAt : Table → ℕ → ℕ → Answer
-missesAt t chain k = missesBeside (rowOf t chain) (viewsOf t chain) (overloadsOf t chain) k
+  -- of a chain of a table, by its number there
+  unfoldable pub testedAt : Table → ℕ → ℕ → Answer
+  testedAt t chain k = testedBeside (rowOf t chain) (viewsOf t chain) (overloadsOf t chain) k
 
--- of the chain with the id, 12 if there is none
-unfoldable pub missesIn : Table → ℕ → ℕ → Answer
-missesIn t id k = Refused 12 when eqb (findOf t id) (t .count) else missesAt t (findOf t id) k
+  -- of the chain with the id, 12 if there is none
+  unfoldable pub testedIn : Table → ℕ → ℕ → Answer
+  testedIn t id k = Refused 12 when eqb (findOf t id) (t .count) else testedAt t (findOf t id) k
 
--- what the miss query answers for a run of k activations of the chain with the id, of a stored table, whose own refusals come first
-unfoldable pub missesOf : List ℕ → ℕ → ℕ → Answer
-missesOf s id k = byVerdict Refused (readTable s .verdict) (missesIn (tableOf s) id k)
+  -- of a stored table, whose own refusals come first
+  unfoldable pub testedOf : List ℕ → ℕ → ℕ → Answer
+  testedOf s id k = byVerdict Refused (readTable s .verdict) (testedIn (tableOf s) id k)
+
+-- what the miss query answers for a run of k activations: bad is tested by windows
+abbrev pub missesBeside : Row → List View → List Overload → ℕ → Answer
+missesBeside b views os k = testedBeside byWindows b views os k
+
+abbrev pub missesAt : Table → ℕ → ℕ → Answer
+missesAt t chain k = testedAt byWindows t chain k
+
+-- of the chain with the id, of a stored table
+abbrev pub missesOf : List ℕ → ℕ → ℕ → Answer
+missesOf s id k = testedOf byWindows s id k

@@ -34,7 +34,7 @@ fn capacity(s: &[u8], a: usize, t: u64) -> u8
 
 impl Pieces {
     // No overload chain.
-    fn none() -> Self
+    pub fn none() -> Self
         ensures { λ r. ⌜ r ≡ heldAs 0 [] [] ⌝ }
     {
         Pieces {

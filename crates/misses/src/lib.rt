@@ -1,16 +1,26 @@
-// Deadline misses (document 01, 'Misses', and document 02, request 3): combinations of overload active segments, the bad ones, and the miss query.
+// Deadline misses (document 01, 'Misses', and document 02, requests 3 and 6): combinations of overload active segments, the bad ones, and the
+// miss query: by the ordinary engine, by the plain one, and by the sieve.
 mod asking;
+mod counting;
 mod gathering;
 mod pricing;
 mod settling;
+mod sieving;
 
-pub use asking::misses;
-pub use asking::misses_with;
+pub use counting::misses;
+pub use counting::misses_with;
+pub use sieving::at_most;
 use table::Table;
 
 // What the miss query answers: how many deadlines are missed, or the refusal's number.
 pub enum Answer {
     Misses(u32),
+    Refused(u32),
+}
+
+// What the sieve answers: a number that the misses do not exceed, or the refusal's number. It is no miss count.
+pub enum Sieved {
+    AtMost(u32),
     Refused(u32),
 }
 
@@ -31,6 +41,16 @@ struct Pieces {
     segment: [usize; Table::OVERLOADS],
     cost: [u64; Table::OVERLOADS],
     capacity: [u8; Table::OVERLOADS],
+}
+
+// A miss query before combinations are looked at: settled, it has its answer; open, it goes by the chain of that number, the figures and
+// the active segments.
+struct Judged {
+    open: bool,
+    answer: Answer,
+    chain: usize,
+    figures: Figures,
+    pieces: Pieces,
 }
 
 // Costs that are settled: none up to `good` is bad, each from `bad` on is.

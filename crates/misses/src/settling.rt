@@ -4,9 +4,10 @@ use crate::Settled;
 use packing::COMBINATIONS;
 use windows::Own;
 use windows::any_over;
+use windows::smaller;
 ghost use mathlib.Core.Path.{_≡_};
 ghost use mathlib.Core.Bool.{false};
-ghost use Prim.Native.Nat.{_-_, _<_, min};
+ghost use Prim.Native.Nat.{_-_, _<_};
 ghost use Rattle.windows.specs.code.Load.{loadOf};
 ghost use Rattle.misses.specs.code.Settling.{overWith, beyond, Costs, Tries, Settles, Open, Inside, Picks, BadFrom};
 
@@ -36,12 +37,6 @@ fn round(s: &[u8], own: Own, held: &[u64; Own::HELD], close: u32, ends: Settled,
             bad: ends.bad,
         }
     }
-}
-
-fn smaller(a: u64, b: u64) -> u64
-    ensures { λ r. ⌜ r ≡ min a b ⌝ }
-{
-    if a < b { a } else { b }
 }
 
 // How far c is from the nearer of the two ends that are settled, 0 where c is not open.

@@ -19,8 +19,9 @@ use Rattle.windows.specs.Demand.{viewsOf}
 use Rattle.windows.specs.Latency.{boundOf, latencyOf}
 use Rattle.windows.proofs.Answers.{latency-accepted}
 use Rattle.windows.proofs.Answers.{chain-found as latency-found}
+use Rattle.misses.specs.Bad.{byWindows}
 use Rattle.misses.specs.Misses.{missesAt, missesOf}
-use Rattle.misses.proofs.Answers.{misses-accepted}
+use Rattle.misses.proofs.Answers.{tested-accepted}
 use Rattle.misses.proofs.Answers.{chain-found as misses-found}
 use Rattle.report_text.specs.Report.{header, missRun, lineText, lineOf, refusedText, reportOf, longest, Reported}
 use Rattle.slices.specs.code.Wrote.{Wrote}
@@ -58,7 +59,7 @@ module _ (s : List ℕ) (bytes : Bytes s) (yes : readTable s .verdict ≡ Accept
 
     misses-is : missesOf s (rowOf t chain .id) missRun ≡ missesAt t chain missRun
     misses-is =
-        misses-accepted s (rowOf t chain .id) missRun yes ∙ misses-found t (rowOf t chain .id) missRun (λ e. omega (arith, e, found, h))
+        tested-accepted byWindows s (rowOf t chain .id) missRun yes ∙ misses-found byWindows t (rowOf t chain .id) missRun (λ e. omega (arith, e, found, h))
         ∙ ap (λ j. missesAt t j missRun) found
 
     line-is : lineOf s (rowOf t chain) ≡ lineIn t chain

@@ -9,6 +9,7 @@ pub mod Besides
 pub mod Latencies
 pub mod Walks
 pub mod Sweeps
+pub mod Sieves
 pub mod Closing
 pub mod Margins
 pub mod Signs

@@ -1,4 +1,5 @@
 pub mod Demand
 pub mod Window
 pub mod Latency
+pub mod Sieve
 pub mod code

@@ -1,2 +1,3 @@
 pub mod Load
 pub mod Climb
+pub mod Called

@@ -2,12 +2,15 @@
 mod climbing;
 mod loading;
 mod query;
+mod sieving;
 mod sweeping;
 mod walking;
 
 pub use loading::load;
 pub use query::bound;
 pub use query::latency;
+pub use sieving::least_called;
+pub use sieving::smaller;
 pub use sweeping::any_over;
 use table::Table;
 

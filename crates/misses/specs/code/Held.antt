@@ -9,15 +9,16 @@ use Rattle.search.specs.Lists.{every, some}
 use Rattle.packing.specs.Packing.{bit}
 use mathlib.Core.Path.{_≡_}
 use Rattle.table.specs.Limits.{maxActivations, maxRun, horizon, maxOverloads, maxCapacity}
-use Rattle.table.specs.Record.{pad}
+use Rattle.table.specs.Record.{pad, distances}
 use Rattle.table.specs.Find.{rowOf}
 use Rattle.table.specs.declared.Row.{Row}
 use Rattle.table.specs.declared.Table.{Table}
-use Rattle.arrivals.specs.Arrivals.{largest}
+use Rattle.arrivals.specs.Arrivals.{δ, largest}
 use Rattle.segments.specs.code.Held.{dearest}
 use Rattle.windows.specs.Demand.{viewsOf}
 use Rattle.misses.specs.Overloads.{Overload, Piece, piecesOf, capacitiesOf}
 use Rattle.misses.specs.Sets.{members, agree, allowed, setCost}
+use Rattle.misses.specs.Bad.{Test}
 use Rattle.misses.specs.Misses.{overloadsOf, missedOf, byFigures}
 use Rattle.misses.specs.declared.Answer.{Answer}
 use Rattle.misses.specs.declared.Figures.{Figures}
@@ -85,14 +86,15 @@ pub record Asked (b : Row) (k : ℕ) (f : Figures) : Type 0 where
   pub near : f .latency ≤ horizon
   pub count : f .late ≤ maxActivations
   pub end : f .last ≤ horizon
+  pub starts : (q : ℕ) → 1 ≤ q → q ≤ f .close → δ (distances b) q ≤ horizon
 
--- what they give, of a chain of a table
-abbrev pub figuresAt : Table → ℕ → ℕ → Figures → Answer
-figuresAt t chain k f = byFigures (rowOf t chain) (viewsOf t chain) (overloadsOf t chain) k (f .close) (f .latency) (f .late) (f .last)
+-- what they give by a test, of a chain of a table
+abbrev pub figuresAt : Test → Table → ℕ → ℕ → Figures → Answer
+figuresAt test t chain k f = byFigures test (rowOf t chain) (viewsOf t chain) (overloadsOf t chain) k (f .close) (f .latency) (f .late) (f .last)
 
 -- and how many are missed of it, where nothing is refused
-abbrev pub missedAt : Table → ℕ → ℕ → Figures → ℕ
-missedAt t chain k f = missedOf (rowOf t chain) (viewsOf t chain) (overloadsOf t chain) k (f .close) (f .latency) (f .late)
+abbrev pub missedAt : Test → Table → ℕ → ℕ → Figures → ℕ
+missedAt test t chain k f = missedOf test (rowOf t chain) (viewsOf t chain) (overloadsOf t chain) k (f .close) (f .latency) (f .late)
 
 -- what the count of these goes by, all of it known where nothing is refused: some activation is late, and the active segments held are
 -- all that there are beside the chain, six or fewer, none with a capacity above its limit

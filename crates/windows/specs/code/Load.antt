@@ -7,7 +7,7 @@ use lib.Dec.{eqb}
 use lib.ListN.{length, getD}
 use lib.Seq.{slice}
 use Rattle.search.specs.Lists.{sumOf}
-use Rattle.table.specs.Limits.{maxChains}
+use Rattle.table.specs.Limits.{maxChains, maxDeadline, horizon}
 use Rattle.table.specs.Record.{rowAt, distances}
 use Rattle.table.specs.Find.{rows}
 use Rattle.table.specs.Place.{placeOf}
@@ -31,6 +31,10 @@ use Rattle.windows.specs.declared.Windows.{Windows}
 -- all others together, with a set's cost beside them, cost no more
 abbrev pub onceLimit : ℕ
 onceLimit = 2 * maxChains * dearest
+
+-- no demand is worked out for a later t: a window, or an activation that starts in one and is due a deadline later
+abbrev pub latest : ℕ
+latest = horizon + maxDeadline
 
 -- what is held of chains whose η counts: of the i-th its rate, and the place of its record, which gives its distances
 abbrev pub heldRate : List ℕ → ℕ → ℕ

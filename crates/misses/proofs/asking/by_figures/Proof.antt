@@ -1,6 +1,6 @@
--- Each test answers its refusal, in the documents' order (`Judging`).
+-- Each refusal settles the query, in the documents' order (`Judging`).
 use Prim.Native.Nat.{_+_, _*_, _-_, _≤_}
-use mathlib.Core.Path.{_≡_, ap, ap₂, _∙_}
+use mathlib.Core.Path.{_≡_, refl, ap, ap₂, _∙_}
 use mathlib.Core.Bool.{false}
 use native.Mathlib.Omega.{arith}
 use native.Mathlib.Nat.{mul-le-mul}
@@ -16,11 +16,11 @@ use Rattle.table.specs.code.Taken.{Stands}
 use Rattle.table.specs.Read.{tableOf}
 use Rattle.table.proofs.Stands.{row-there, stands}
 use Rattle.search.specs.Lists.{some}
+use Rattle.search.proofs.Choice.{true-not-false}
 use Rattle.misses.specs.Overloads.{overloads}
-use Rattle.misses.specs.declared.Answer.the-variants.{Misses}
 use Rattle.misses.proofs.Starts.{starts}
 use Rattle.misses.specs.code.Held.{gathered}
-use Rattle.misses.proofs.Judging.{judged-late, judged-size, judged-many, judged-again, judged-roomy, judged-admitted, judged-missed}
+use Rattle.misses.proofs.Judging.{judged-late, judged-size, judged-many, judged-again, judged-roomy, judged-admitted, judged-missed, judges-settled}
 use Rattle.misses.proofs.asking.by_figures.Statement.{statement}
 use Rattle.misses.proofs.asking.by_figures.Tie as tie
 
@@ -88,8 +88,14 @@ module _ (c : tie.After-above) where
   once : c .before .before .before .before .any-again .result ≡ false
   once = c .before .before .before .if3 .left
 
+settled-requires : tie.Need-settled-requires
+settled-requires c κs = search needs
+
 returns : tie.Need-returns
-returns c = let s = c .before .before .before in judged-late (good s) (s .args .chain) (s .pre .1) (s .pre .2) (c .if1 .taken)
+returns c =
+    let i = c .before in
+    let s = i .before .before .before in
+    judges-settled (c .settled .ensures) (judged-late (good s) (s .args .chain) (s .pre .1) (s .pre .2) (i .if1 .taken))
 
 place-requires : tie.Need-place-requires
 place-requires c κs = let p = c .before .before .before .pre in (p .0, omega (arith, p .1))
@@ -118,20 +124,28 @@ add-of c = omega (arith, run (c .before), spaced (c .before) .pre .2 .near)
 of-requires : tie.Need-of-requires
 of-requires c κs = let s = spaced (c .before) in (s .pre .0, here (c .before .before), omega (arith, run (c .before), s .pre .2 .near))
 
+settled-requires-2 : tie.Need-settled-requires-2
+settled-requires-2 c κs = search needs
+
 returns-2 : tie.Need-returns-2
 returns-2 c =
-    let p = c .before .before in
+    let p = c .before .before .before in
     let s = start p in
-    judged-many (good s) (s .args .chain) (s .pre .1) (s .pre .2) (some-late p) (gathers p) (c .if2 .taken)
+    judges-settled (c .settled2 .ensures) (judged-many (good s) (s .args .chain) (s .pre .1) (s .pre .2) (some-late p) (gathers p) (c .before .if2 .taken))
 
 any-again-requires : tie.Need-any-again-requires
 any-again-requires c κs = let s = start (c .before .before) in (s .pre .0, s .pre .2 .end)
 
+settled-requires-3 : tie.Need-settled-requires-3
+settled-requires-3 c κs = search needs
+
 returns-3 : tie.Need-returns-3
 returns-3 c =
-    let p = c .before .before .before .before in
+    let i = c .before in
+    let p = i .before .before .before .before in
     let s = start p in
-    judged-again (good s) (s .args .chain) (s .pre .1) (s .pre .2) (some-late p) (gathers p) (c .before .before .if2 .left) (c .before .any-again .ensures _) (c .if3 .taken)
+    judges-settled (c .settled3 .ensures)
+    (judged-again (good s) (s .args .chain) (s .pre .1) (s .pre .2) (some-late p) (gathers p) (i .before .before .if2 .left) (i .before .any-again .ensures _) (i .if3 .taken))
 
 above-requires : tie.Need-above-requires
 above-requires c κs =
@@ -139,33 +153,36 @@ above-requires c κs =
     let s = start p in
     judged-size (good s) (s .args .chain) (s .pre .1) (s .pre .2) (some-late p) (gathers p)
 
+settled-requires-4 : tie.Need-settled-requires-4
+settled-requires-4 c κs = search needs
+
 returns-4 : tie.Need-returns-4
 returns-4 c =
-    let a = c .before in
+    let a = c .before .before in
     let s = start (pieces a) in
-    judged-roomy (good s) (s .args .chain) (s .pre .1) (s .pre .2) (some-late (pieces a)) (gathers (pieces a)) (six a) (again a) (once a) (a .above .ensures) (c .if4 .taken)
-
-missed-requires : tie.Need-missed-requires
-missed-requires c κs =
-    let a = c .before in
-    let s = start (pieces a) in (
-      s .pre .0,
-      s .pre .1,
-      s .pre .2,
-      judged-admitted (good s) (s .args .chain) (s .pre .1) (s .pre .2) (some-late (pieces a)) (gathers (pieces a)) (six a) (again a) (once a) (a .above .ensures) (c .if4 .left),
-    )
+    judges-settled (c .settled4 .ensures)
+    (judged-roomy (good s) (s .args .chain) (s .pre .1) (s .pre .2) (some-late (pieces a)) (gathers (pieces a)) (six a) (again a) (once a) (a .above .ensures) (c .before .if4 .taken))
 
 returns-5 : tie.Need-returns-5
 returns-5 c =
-    let a = c .before .before in
+    let a = c .before in
     let s = start (pieces a) in
-    ap Misses (c .missed .ensures)
-    ∙ judged-missed (good s) (s .args .chain) (s .pre .1) (s .pre .2) (some-late (pieces a)) (gathers (pieces a)) (six a) (again a) (once a) (a .above .ensures) (c .before .if4 .left)
+    record {
+      settled = λ shut. absurd (true-not-false refl shut);
+      ready = λ o. record {
+        taken = s .pre .0;
+        there = s .pre .1;
+        asked = s .pre .2;
+        admitted = judged-admitted (good s) (s .args .chain) (s .pre .1) (s .pre .2) (some-late (pieces a)) (gathers (pieces a)) (six a) (again a) (once a) (a .above .ensures) (c .if4 .left);
+      };
+      counts = λ o. judged-missed (good s) (s .args .chain) (s .pre .1) (s .pre .2) (some-late (pieces a)) (gathers (pieces a)) (six a) (again a) (once a) (a .above .ensures) (c .if4 .left);
+    }
 
 pub by-figures-spec : {M : Type 1} → statement M
 by-figures-spec =
     tie.close
     (tie.spec
+    settled-requires
     returns
     place-requires
     sub-of
@@ -176,10 +193,12 @@ by-figures-spec =
     cast-of-3
     add-of
     of-requires
+    settled-requires-2
     returns-2
     any-again-requires
+    settled-requires-3
     returns-3
     above-requires
+    settled-requires-4
     returns-4
-    missed-requires
     returns-5)

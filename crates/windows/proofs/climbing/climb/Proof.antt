@@ -1,24 +1,21 @@
 -- `climb` meets its contract. The loop's invariant: t is under every s in which its demand fits, and no more arrivals are counted than
 -- there are in t. The measure is what is left up to the horizon.
 use Prim.Native.Nat.{ℕ, _≤_, _-_, _+_, _*_}
-use mathlib.Core.Path.{_≡_, refl, ap, sym, subst, _∙_}
+use mathlib.Core.Path.{_≡_, ap, sym, subst, _∙_}
 use native.Mathlib.Omega.{arith}
-use native.Mathlib.Nat.{le-trans, le-refl, le-of-eq, sub-le, mul-zero}
+use native.Mathlib.Nat.{le-trans, le-of-eq}
 use borrow.Author.Needs.{needs}
-use borrow.Author.Tests.{eqb-true}
-use lib.Dec.{eqb}
 use lib.ListN.{getD}
 use lib.Seq.{getD-set-same}
 use Rattle.table.specs.Limits.{horizon, maxChains}
 use Rattle.arrivals.specs.Arrivals.{η}
 use Rattle.arrivals.proofs.Counts.{η-mono}
-use Rattle.search.proofs.Choice.{when-cases}
 use Rattle.windows.specs.code.Climb.{Under, Counted}
-use Rattle.windows.specs.code.Load.{Load, loadOf, ownOf, demandIn}
+use Rattle.windows.specs.code.Load.{latest, Load, loadOf, ownOf, demandIn}
 use Rattle.windows.specs.Latency.{long}
 use Rattle.windows.proofs.Least.{Grows, under-climbs, under-next, under-solves, under-none}
 use Rattle.windows.proofs.Growth.{load-growing}
-use Rattle.windows.proofs.Bounds.{busiest, turns-le, own-le, held-le}
+use Rattle.windows.proofs.Bounds.{busiest, fixed-le, own-counted, more-le, sum-le, demand-is}
 use Rattle.windows.proofs.Counting.{behind-own, behind-later}
 use Rattle.windows.proofs.climbing.climb.Statement.{statement}
 use Rattle.windows.proofs.climbing.climb.Tie as tie
@@ -50,14 +47,14 @@ demand c = demandIn (load c) (c .args .q)
 grows : (c : tie.Start Inv-loop μ-loop) → Grows (demand c)
 grows c = load-growing (load c) (c .pre .sound) .grows (c .args .q) (c .pre .some)
 
-fixed-le : (c : tie.Start Inv-loop μ-loop) → c .args .q * c .args .own .cost + c .args .own .once ≤ 100000000000
-fixed-le c = omega (arith, own-le (c .args .q) (c .args .own .cost) (c .pre .few) (c .pre .sound .cheap), c .pre .sound .once)
+fixed : (c : tie.Start Inv-loop μ-loop) → c .args .q * c .args .own .cost + c .args .own .once ≤ 100000000000
+fixed c = fixed-le (load c) (c .pre .sound) (c .args .q) 0 (c .pre .few) (omega arith)
 
 mul-fixed : tie.Need-mul-fixed Inv-loop μ-loop
-mul-fixed c = omega (arith, fixed-le (c .before .before))
+mul-fixed c = omega (arith, fixed (c .before .before))
 
 add-fixed : tie.Need-add-fixed Inv-loop μ-loop
-add-fixed c = omega (arith, fixed-le (c .before .before .before))
+add-fixed c = omega (arith, fixed (c .before .before .before))
 
 loop-holds : tie.Need-loop-holds Inv-loop μ-loop
 loop-holds c = (c .before .before .before .pre .under, c .before .before .before .pre .counted)
@@ -66,17 +63,13 @@ element-copy-out-own-count : tie.Need-element-copy-out-own-count Inv-loop μ-loo
 element-copy-out-own-count c = omega (arith, c .before .loop .inv .1 .held .size)
 
 own-count-requires : tie.Need-own-count-requires Inv-loop μ-loop
-own-count-requires c κs = let h = c .before .before in (start h .pre .sound .stands, c .before .loop-test .taken, h .loop .inv .1 .own)
+own-count-requires c κs = let h = c .before .before in (start h .pre .sound .stands, omega (arith, c .before .loop-test .taken), h .loop .inv .1 .own)
 
 element-write-counts : tie.Need-element-write-counts Inv-loop μ-loop
 element-write-counts c = omega (arith, head c .loop .inv .1 .held .size)
 
 past-requires : tie.Need-past-requires Inv-loop μ-loop
 past-requires c κs = search needs
-
--- where the part is 0, it does not matter how many are counted
-no-part : (m n part : ℕ) → part ≡ 0 → m * part ≡ n * part
-no-part m n part e = rw e (mul-zero m ∙ sym (mul-zero n))
 
 -- what the parts of the demand are, and that they fit
 module _ (c : tie.After-own-count Inv-loop μ-loop) where
@@ -86,59 +79,49 @@ module _ (c : tie.After-own-count Inv-loop μ-loop) where
   abbrev q : ℕ
   q = s .args .q
 
-  abbrev part : ℕ
-  part = s .args .own .part
+  abbrev t : ℕ
+  t = head c .loop .t
 
-  abbrev all : ℕ
-  all = η (ownOf (load s)) (head c .loop .t)
+  near : t ≤ latest
+  near = omega (arith, c .before .before .loop-test .taken)
 
-  own-counted : c .own-count .result ≤ all
-  own-counted = le-trans (le-of-eq (c .own-count .ensures)) (when-cases (λ n. n ≤ all) (eqb part 0) (λ e. head c .loop .inv .1 .own) (λ e. le-refl all))
+  counted-own : c .own-count .result ≤ η (ownOf (load s)) t
+  counted-own = own-counted (load s) (s .pre .sound) q t (s .pre .few) near (head c .loop .inv .1 .own) (c .own-count .ensures)
 
-  more-is : (c .own-count .result - q) * part ≡ (all - q) * part
-  more-is =
-      ap (λ n. (n - q) * part) (c .own-count .ensures)
-      ∙ (when-cases (λ n. (n - q) * part ≡ (all - q) * part) (eqb part 0) (λ e. no-part _ _ _ (eqb-true _ _ e)) (λ e. refl))
-
-  more-le : (c .own-count .result - q) * part ≤ busiest
-  more-le =
-      let ok = s .pre .sound in
-      turns-le (ok .stands .good .list) (c .own-count .result - q) part (head c .loop .t) (le-trans (sub-le _ _) own-counted) (le-trans (ok .part) (ok .cheap))
-      (c .before .before .loop-test .taken)
+  more : (c .own-count .result - q) * s .args .own .part ≤ busiest
+  more = more-le (load s) (s .pre .sound) q t (s .pre .few) near (head c .loop .inv .1 .own) (c .own-count .ensures)
 
 mul-more : tie.Need-mul-more Inv-loop μ-loop
-mul-more c = rw (c .before .past .ensures) (omega (arith, more-le (c .before .before)))
+mul-more c = rw (c .before .past .ensures) (omega (arith, more (c .before .before)))
 
 add-d : tie.Need-add-d Inv-loop μ-loop
-add-d c = rw (c .before .past .ensures) (omega (arith, more-le (c .before .before), fixed-le (start (head (c .before .before)))))
+add-d c = rw (c .before .past .ensures) (omega (arith, more (c .before .before), fixed (start (head (c .before .before)))))
 
 held-sum-requires : tie.Need-held-sum-requires Inv-loop μ-loop
 held-sum-requires c κs =
-    let h = head (c .before .before .before) in
-    let ok = start h .pre .sound in
-    (ok .held, c .before .before .before .before .before .loop-test .taken, behind-own (h .loop .inv .1 .held) (ok .held .few) _)
+    let o = c .before .before .before in
+    let ok = s o .pre .sound in
+    (ok .held, near o, behind-own (head o .loop .inv .1 .held) (ok .held .few) _)
+
+-- all parts are there
+module _ (c : tie.After-held-sum Inv-loop μ-loop) where
+  abbrev o : tie.After-own-count Inv-loop μ-loop
+  o = counted c
+
+  abbrev past : ℕ
+  past = c .before .before .before .past .result
+
+  sums : c .held-sum .result ≤ maxChains * busiest
+  sums = sum-le (load (s o)) (s o .pre .sound) (q o) (t o) (s o .pre .few) (near o) (c .held-sum .ensures .0)
+
+  -- what the loop makes is the demand in t
+  made : q o * s o .args .own .cost + s o .args .own .once + past * s o .args .own .part + c .held-sum .result ≡ demand (s o) (t o)
+  made =
+      demand-is (load (s o)) (s o .pre .sound) (q o) (t o) (s o .pre .few) (near o) (head o .loop .inv .1 .own) (o .own-count .ensures)
+      (c .before .before .before .past .ensures) (c .held-sum .ensures .0)
 
 add-d-2 : tie.Need-add-d-2 Inv-loop μ-loop
-add-d-2 c =
-    let h = head (counted c) in
-    let l = load (start h) in
-    let ok = start h .pre .sound in
-    rw (c .before .before .before .past .ensures)
-    (omega (
-      arith,
-      more-le (counted c),
-      fixed-le (start h),
-      c .held-sum .ensures .0,
-      held-le (l .bytes) (l .held) (l .count) (h .loop .t) (ok .held) (c .before .before .before .before .before .before .loop-test .taken),
-      ok .held .few,
-    ))
-
--- what the loop makes is the demand in t
-demand-is : (c : tie.After-held-sum Inv-loop μ-loop)
-    → q (counted c) * s (counted c) .args .own .cost + s (counted c) .args .own .once + c .before .before .before .past .result * part (counted c) + c .held-sum .result
-    ≡ demand (s (counted c)) (head (counted c) .loop .t)
-unfolding demandIn
-demand-is c = omega (arith, ap (λ n. n * part (counted c)) (c .before .before .before .past .ensures) ∙ more-is (counted c), c .held-sum .ensures .0)
+add-d-2 c = rw (c .before .before .before .past .ensures) (omega (arith, more (o c), fixed (s (o c)), sums c))
 
 -- t grows
 climbs : (c : tie.After-held-sum Inv-loop μ-loop) → head (counted c) .loop .t ≤ demand (s (counted c)) (head (counted c) .loop .t)
@@ -153,7 +136,7 @@ caught c u h =
     let e : getD (c .held-sum .last .1 .1 .1 .1 .0) maxChains 0 ≡ o .own-count .result =
     c .held-sum .ensures .1 .own ∙ getD-set-same (l .counts) maxChains (o .own-count .result) 0 (omega (arith, l .inv .1 .held .size)) in
     record {
-      own = le-trans (le-of-eq e) (le-trans (own-counted o) (η-mono (ok .stands .good .list) (l .t) u h));
+      own = le-trans (le-of-eq e) (le-trans (counted-own o) (η-mono (ok .stands .good .list) (l .t) u h));
       held = behind-later (c .held-sum .ensures .1 .all) (λ j k. ok .held .stands j k .good .list) h;
     }
 
@@ -163,20 +146,20 @@ returns c =
     let h = head (counted e) in
     let d = demand (start h) in
     record {
-      window = under-solves d (grows (start h)) (h .loop .t) (h .loop .inv .0) (e .before .before .before .before .before .before .loop-test .taken) (sym (c .if1 .taken) ∙ demand-is e);
+      window = under-solves d (grows (start h)) (h .loop .t) (h .loop .inv .0) (e .before .before .before .before .before .before .loop-test .taken) (sym (c .if1 .taken) ∙ made e);
       counted = λ u f. caught e u (le-of-eq (ap long f));
     }
 
 loop-less : tie.Need-loop-less Inv-loop μ-loop
-loop-less c = omega (arith, climbs (c .before), demand-is (c .before), c .if1 .left, c .before .before .before .before .before .before .before .loop-test .taken)
+loop-less c = omega (arith, climbs (c .before), made (c .before), c .if1 .left, c .before .before .before .before .before .before .before .loop-test .taken)
 
 loop-again : tie.Need-loop-again Inv-loop μ-loop
 loop-again c =
     let e = c .before in
     let h = head (counted e) in
     let d = demand (start h) in (
-      subst (Under d) (sym (demand-is e)) (under-next d (grows (start h)) (h .loop .t) (h .loop .inv .0)),
-      caught e _ (le-trans (climbs e) (le-of-eq (sym (demand-is e)))),
+      subst (Under d) (sym (made e)) (under-next d (grows (start h)) (h .loop .t) (h .loop .inv .0)),
+      caught e _ (le-trans (climbs e) (le-of-eq (sym (made e)))),
     )
 
 returns-2 : tie.Need-returns-2 Inv-loop μ-loop

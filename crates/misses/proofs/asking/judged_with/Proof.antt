@@ -1,6 +1,7 @@
 -- What is refused before any window, or what the windows give.
 use mathlib.Core.Path.{_≡_, ap, sym, _∙_}
 use native.Mathlib.Omega.{arith}
+use borrow.Author.Needs.{needs}
 use denote.Ref.{now}
 use Rattle.table.specs.Find.{rowOf}
 use Rattle.table.specs.declared.Table.{Table}
@@ -9,8 +10,9 @@ use Rattle.table.proofs.Stands.{row-there, stands}
 use Rattle.misses.specs.Misses.{earlyOf}
 use Rattle.misses.specs.declared.Answer.the-variants.{Refused}
 use Rattle.misses.proofs.Answers.{at-early}
-use Rattle.misses.proofs.asking.misses_with.Statement.{statement}
-use Rattle.misses.proofs.asking.misses_with.Tie as tie
+use Rattle.misses.proofs.Judging.{judges-settled}
+use Rattle.misses.proofs.asking.judged_with.Statement.{statement}
+use Rattle.misses.proofs.asking.judged_with.Tie as tie
 
 abbrev t : tie.Start → Table
 t s = tableOf (now (s .args .s))
@@ -30,15 +32,19 @@ early-requires c κs = let p = c .before .before .pre in omega (arith, stands (p
 by-bound-requires : tie.Need-by-bound-requires
 by-bound-requires c κs = let p = c .before .before .before .before .pre in (p .0, p .1, sym (judged (c .before)) ∙ c .match .keys1, p .2)
 
+settled-requires : tie.Need-settled-requires
+settled-requires c κs = search needs
+
 returns : tie.Need-returns
 returns c = c .by-bound .ensures
 
 returns-2 : tie.Need-returns-2
 returns-2 c =
-    let s = c .before .before .before .before in
-    let e = judged (c .before) in
-    ap Refused e ∙ sym (at-early (t s) (s .args .chain) (s .args .k) (λ z. c .match .rest .1 (e ∙ z)))
+    let m = c .before in
+    let s = m .before .before .before .before in
+    let e = judged (m .before) in
+    judges-settled (c .settled .ensures) (λ test. ap Refused e ∙ sym (at-early test (t s) (s .args .chain) (s .args .k) (λ z. m .match .rest .1 (e ∙ z))))
 
-pub misses-with-spec : {M : Type 1} → statement M
-misses-with-spec =
-    tie.close (tie.spec place-requires early-requires by-bound-requires returns returns-2)
+pub judged-with-spec : {M : Type 1} → statement M
+judged-with-spec =
+    tie.close (tie.spec place-requires early-requires by-bound-requires settled-requires returns returns-2)

@@ -2,8 +2,8 @@
 use mathlib.Core.Path.{sym}
 use borrow.Author.Tests.{le-leb, lt-leb}
 use Rattle.search.proofs.Choice.{when-yes, when-no}
-use Rattle.misses.proofs.asking.flag.Statement.{statement}
-use Rattle.misses.proofs.asking.flag.Tie as tie
+use Rattle.misses.proofs.counting.flag.Statement.{statement}
+use Rattle.misses.proofs.counting.flag.Tie as tie
 
 returns : tie.Need-returns
 returns c = sym (when-yes 1 0 (le-leb _ _ (c .if1 .taken)))

@@ -1,6 +1,7 @@
 -- A chain was found, or none bears the id.
 use mathlib.Core.Path.{_≡_, ap, sym, _∙_}
 use native.Mathlib.Omega.{arith}
+use borrow.Author.Needs.{needs}
 use Prim.Native.Nat.{ℕ, _<_}
 use denote.Ref.{now}
 use Rattle.table.specs.Find.{rowOf}
@@ -8,11 +9,13 @@ use Rattle.table.specs.declared.Table.{Table}
 use Rattle.table.specs.Read.{tableOf}
 use Rattle.table.proofs.Finds.{find-le}
 use Rattle.table.proofs.Stands.{row-there, stands}
-use Rattle.misses.specs.Misses.{earlyOf, missesAt, missesIn}
+use Rattle.misses.specs.Bad.{Test}
+use Rattle.misses.specs.Misses.{earlyOf, testedAt, testedIn}
 use Rattle.misses.specs.declared.Answer.the-variants.{Refused}
 use Rattle.misses.proofs.Answers.{at-early, chain-none, chain-found}
-use Rattle.misses.proofs.asking.misses_in.Statement.{statement}
-use Rattle.misses.proofs.asking.misses_in.Tie as tie
+use Rattle.misses.proofs.Judging.{judges-settled, judges-same}
+use Rattle.misses.proofs.asking.judged_in.Statement.{statement}
+use Rattle.misses.proofs.asking.judged_in.Tie as tie
 
 abbrev t : tie.Start → Table
 t s = tableOf (now (s .args .s))
@@ -29,11 +32,11 @@ module _ (c : tie.Else1) where
   there = omega (arith, find-le (t start) (start .args .id), c .before .before .find .ensures, c .before .count .ensures, c .if1 .left)
 
   -- and what is asked is asked of it
-  found : missesAt (t start) chain (start .args .k) ≡ missesIn (t start) (start .args .id) (start .args .k)
-  found =
+  found : (test : Test) → testedAt test (t start) chain (start .args .k) ≡ testedIn test (t start) (start .args .id) (start .args .k)
+  found test =
       let f = c .before .before .find .ensures in
-      ap (λ j. missesAt (t start) j (start .args .k)) f
-      ∙ sym (chain-found (t start) (start .args .id) (start .args .k) (λ e. c .if1 .left (f ∙ e ∙ sym (c .before .count .ensures))))
+      ap (λ j. testedAt test (t start) j (start .args .k)) f
+      ∙ sym (chain-found test (t start) (start .args .id) (start .args .k) (λ e. c .if1 .left (f ∙ e ∙ sym (c .before .count .ensures))))
 
 -- what is refused of it before any window
 module _ (c : tie.After-early) where
@@ -49,10 +52,15 @@ find-requires c κs = c .before .pre
 count-requires : tie.Need-count-requires
 count-requires c κs = c .before .before .pre
 
+settled-requires : tie.Need-settled-requires
+settled-requires c κs = search needs
+
 returns : tie.Need-returns
 returns c =
-    let s = c .before .before .before .before in
-    sym (chain-none (t s) (s .args .id) (s .args .k) (sym (c .before .before .find .ensures) ∙ c .if1 .taken ∙ c .before .count .ensures))
+    let i = c .before in
+    let s = i .before .before .before .before in
+    judges-settled (c .settled .ensures)
+    (λ test. sym (chain-none test (t s) (s .args .id) (s .args .k) (sym (i .before .before .find .ensures) ∙ i .if1 .taken ∙ i .before .count .ensures)))
 
 place-requires : tie.Need-place-requires
 place-requires c κs = (start c .pre, omega (arith, there c))
@@ -68,25 +76,32 @@ by-bound-requires c κs =
     let d = known (c .before .before) in
     (start d .pre, there d, sym (judged (c .before .before)) ∙ c .before .match .keys1, c .bound .ensures)
 
+settled-requires-2 : tie.Need-settled-requires-2
+settled-requires-2 c κs = search needs
+
 returns-2 : tie.Need-returns-2
-returns-2 c = c .by-bound .ensures ∙ found (c .before .before .before .before .before)
+returns-2 c = judges-same (c .by-bound .ensures) (found (c .before .before .before .before .before))
 
 returns-3 : tie.Need-returns-3
 returns-3 c =
-    let d = known (c .before) in
-    let e = judged (c .before) in
-    ap Refused e ∙ sym (at-early (t (start d)) (chain d) (start d .args .k) (λ z. c .match .rest .1 (e ∙ z))) ∙ found d
+    let m = c .before in
+    let d = known (m .before) in
+    let e = judged (m .before) in
+    judges-settled (c .settled2 .ensures)
+    (λ test. ap Refused e ∙ sym (at-early test (t (start d)) (chain d) (start d .args .k) (λ z. m .match .rest .1 (e ∙ z))) ∙ found d test)
 
-pub misses-in-spec : {M : Type 1} → statement M
-misses-in-spec =
+pub judged-in-spec : {M : Type 1} → statement M
+judged-in-spec =
     tie.close
     (tie.spec
     find-requires
     count-requires
+    settled-requires
     returns
     place-requires
     early-requires
     bound-requires
     by-bound-requires
+    settled-requires-2
     returns-2
     returns-3)

@@ -6,8 +6,8 @@ use lib.Dec.{leb}
 use lib.ListN.{getD}
 use Rattle.search.specs.Choice.{_when_else_}
 use Rattle.misses.proofs.Fills.{Filled, filled-none, filled-on}
-use Rattle.misses.proofs.asking.flags.Statement.{statement}
-use Rattle.misses.proofs.asking.flags.Tie as tie
+use Rattle.misses.proofs.counting.flags.Statement.{statement}
+use Rattle.misses.proofs.counting.flags.Tie as tie
 
 abbrev Inv-loop : tie.InvT-loop
 Inv-loop costs lowest out₀ m₀ out m = Filled (λ k x. x ≡ (1 when leb lowest (getD costs k 0) else 0)) 64 out m

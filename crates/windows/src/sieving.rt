@@ -1,0 +1,52 @@
+// From which cost on a set is called bad by the sufficient test of document 000, section V.C: demand is worked out once for each
+// activation, at the t where it is due.
+use crate::Own;
+use crate::climbing::held_sum;
+use crate::climbing::own_count;
+use crate::climbing::past;
+use arrivals::delta;
+use table::deadline_at;
+ghost use mathlib.Core.Path.{_≡_};
+ghost use Prim.Native.Nat.{_≤_, min};
+ghost use Rattle.table.specs.Limits.{maxActivations};
+ghost use Rattle.windows.specs.code.Load.{latest, loadOf, demandIn, Sound};
+ghost use Rattle.windows.specs.code.Called.{Starts, CalledFrom};
+
+// The demand for q activations in t.
+fn demand(s: &[u8], own: Own, held: &[u64; Own::HELD], q: u64, t: u64) -> u64
+    requires { ⌜ Sound (loadOf (now s) own (now held)) × (q ≤ maxActivations) × (t ≤ latest) ⌝ }
+    ensures { λ r. ⌜ r ≡ demandIn (loadOf (now (s .entry)) own (now (held .entry))) q t ⌝ }
+{
+    let mut counts = [0u64; Own::COUNTS];
+    let mine = own_count(s, own.at, own.part, t, 0);
+    let more = past(mine, q) * own.part;
+    let fixed = q * own.cost + own.once;
+    fixed + more + held_sum(s, held, own.count, t, &mut counts)
+}
+
+// The smaller of two numbers.
+pub fn smaller(a: u64, b: u64) -> u64
+    ensures { λ r. ⌜ r ≡ min a b ⌝ }
+{
+    if a < b { a } else { b }
+}
+
+// The least cost, or `most` where that is less, with which a set is called bad: for some q up to `close` it is more than what the
+// demand leaves of δ(q) + deadline.
+pub fn least_called(s: &[u8], own: Own, held: &[u64; Own::HELD], close: u32, most: u64) -> u64
+    requires { ⌜ Starts (loadOf (now s) own (now held)) close ⌝ }
+    ensures { λ r. ⌜ CalledFrom (loadOf (now (s .entry)) own (now (held .entry))) close most r ⌝ }
+{
+    let at = own.at;
+    let deadline = deadline_at(s, at);
+    let mut least = most;
+    let mut done: u32 = 0;
+    while done < close {
+        let q = done as u64 + 1;
+        let start = delta(s, at, q);
+        let t = start + (deadline as u64);
+        least = smaller(least, past(t + 1, demand(s, own, held, q, t)));
+        done += 1;
+    }
+    least
+}
