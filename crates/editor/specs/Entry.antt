@@ -1,6 +1,6 @@
 -- The entries of the C editor (01, 'The C editor and the report'): what each returns, and what it leaves in the buffers it is lent.
--- 01 has the first four, 02 the check (request 1), the write (request 2), the merge and its conflicts (request 4); reading into rows, where
--- a record stands, the report as an entry, and the version, are ours.
+-- 01 has latency, misses, segment and save, 02 the check (request 1), the write (request 2), the merge and its conflicts (request 4), the misses
+-- by the plain engine and by the sieve (request 6); reading into rows, where a record stands, the report as an entry, and the version, are ours.
 use Prim.Native.Nat.{ℕ, zero, suc, _*_, _-_}
 use mathlib.Core.Path.{_≡_}
 use mathlib.Core.List.{List, [], _∷_, _++_, map}
@@ -17,6 +17,7 @@ use Rattle.segments.specs.Query as segment
 use Rattle.windows.specs.Latency as latency
 use Rattle.windows.specs.declared.Answer.{Answer as Latency}
 use Rattle.misses.specs.Misses as misses
+use Rattle.misses.specs.Sieve as sieve
 use Rattle.slices.specs.Locate as locate
 use Rattle.saving.specs.Save as save
 use Rattle.merging.specs.Versions.{Versions}
@@ -63,6 +64,14 @@ pub record LatencyEntry (table : List ℕ) (id : ℕ) (before after : List ℕ) 
 -- misses: how many deadlines are missed
 pub record MissesEntry (table : List ℕ) (id k : ℕ) (before after : List ℕ) (r : ℕ) : Type 0 where
   pub answers : Answered 1 (misses.numberOf (misses.missesOf table id k)) (misses.valuesOf (misses.missesOf table id k)) before after r
+
+-- misses by the plain engine: the same
+pub record PlainEntry (table : List ℕ) (id k : ℕ) (before after : List ℕ) (r : ℕ) : Type 0 where
+  pub answers : Answered 1 (misses.numberOf (misses.missesOf table id k)) (misses.valuesOf (misses.missesOf table id k)) before after r
+
+-- misses by the sieve: how many deadlines are missed at most
+pub record AtMostEntry (table : List ℕ) (id k : ℕ) (before after : List ℕ) (r : ℕ) : Type 0 where
+  pub answers : Answered 1 (sieve.numberOf (sieve.atMostOf table id k)) (sieve.valuesOf (sieve.atMostOf table id k)) before after r
 
 -- segment: offset and length
 pub record SegmentEntry (table : List ℕ) (id against number : ℕ) (before after : List ℕ) (r : ℕ) : Type 0 where
@@ -113,4 +122,4 @@ pub record ReportEntry (table text answer textAfter answerAfter : List ℕ) (r :
 
 -- the version of the entries, which a caller holds against its header's; a change of an answer, a refusal or an entry raises it
 abbrev pub version : ℕ
-version = 5
+version = 6

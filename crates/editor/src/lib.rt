@@ -1,4 +1,4 @@
-// The C editor's entries (document 01, 'The C editor and the report'; document 02, requests 1, 2 and 4): numbers, bytes and rows only.
+// The C editor's entries (document 01, 'The C editor and the report'; document 02, requests 1, 2, 4 and 6): numbers, bytes and rows only.
 // Each but the version returns 0 or the refusal's number; refused, every byte lent stays.
 use merging::Found;
 use merging::Merged;
@@ -13,17 +13,18 @@ use writing::Written;
 ghost use mathlib.Core.Path.{_≡_};
 ghost use Prim.Native.Nat.{_*_, _≤_};
 ghost use lib.ListN.{length};
+ghost use Rattle.misses.specs.Misses.{numberOf as missesNumber, valuesOf as missesValues};
 ghost use Rattle.merging.specs.Merge.{versions};
 ghost use Rattle.writing.specs.Fill.{numberOf as filledNumber, valuesOf as filledValues};
 ghost use Rattle.writing.specs.Write.{numberOf as writtenNumber, valuesOf as writtenValues};
-ghost use Rattle.editor.specs.Entry.{unsigned as unsignedOf, figureBytes, startingWith, Answered, LatencyEntry, MissesEntry, SegmentEntry, SaveEntry, CheckEntry, MergeEntry, ConflictEntry, ReadEntry, WriteEntry, RecordEntry, ReportEntry, version};
+ghost use Rattle.editor.specs.Entry.{unsigned as unsignedOf, figureBytes, startingWith, Answered, LatencyEntry, MissesEntry, PlainEntry, AtMostEntry, SegmentEntry, SaveEntry, CheckEntry, MergeEntry, ConflictEntry, ReadEntry, WriteEntry, RecordEntry, ReportEntry, version};
 ghost use Rattle.editor.specs.code.Single.{singleOf};
 
 // What an entry returns where it has answered.
 const ANSWERED: u32 = 0;
 
 // Raised by each change that a caller can see, in the header and in specs/ too.
-const VERSION: u32 = 5;
+const VERSION: u32 = 6;
 
 // A signed number in two's complement.
 fn unsigned(x: i32) -> u32
@@ -72,7 +73,22 @@ pub extern "C" fn mishtodran_latency(table: &[u8], id: u32, answer: &mut [u8]) -
     }
 }
 
-// How many deadlines a chain misses at most in a run of k activations.
+// What a miss query answers, put into an answer buffer.
+fn put_missed(missed: misses::Answer, answer: &mut [u8]) -> u32
+    requires { ⌜ 4 ≤ length (now answer) ⌝ }
+    ensures { λ r. ⌜ Answered 1 (missesNumber missed) (missesValues missed) (now (answer .entry)) (now (answer .exit)) r ⌝ }
+{
+    match missed {
+        misses::Answer::Misses(n) => {
+            let figures = [n];
+            put_figures(answer, &figures);
+            ANSWERED
+        }
+        misses::Answer::Refused(n) => n,
+    }
+}
+
+// How many deadlines a chain misses in a run of k activations.
 #[no_mangle]
 pub extern "C" fn mishtodran_misses(table: &[u8], id: u32, k: u32, answer: &mut [u8]) -> u32
     ensures { λ r. ⌜ MissesEntry (now (table .entry)) id k (now (answer .entry)) (now (answer .exit)) r ⌝ }
@@ -80,13 +96,35 @@ pub extern "C" fn mishtodran_misses(table: &[u8], id: u32, k: u32, answer: &mut 
     if answer.len() < 4 {
         return 27;
     }
-    match misses::misses(table, id, k) {
-        misses::Answer::Misses(n) => {
+    put_missed(misses::misses(table, id, k), answer)
+}
+
+// The same by the plain engine, which goes through every packing and may take very long.
+#[no_mangle]
+pub extern "C" fn mishtodran_misses_plain(table: &[u8], id: u32, k: u32, answer: &mut [u8]) -> u32
+    ensures { λ r. ⌜ PlainEntry (now (table .entry)) id k (now (answer .entry)) (now (answer .exit)) r ⌝ }
+{
+    if answer.len() < 4 {
+        return 27;
+    }
+    put_missed(misses::misses_plain(table, id, k), answer)
+}
+
+// A number that the misses do not exceed, by the sieve.
+#[no_mangle]
+pub extern "C" fn mishtodran_misses_at_most(table: &[u8], id: u32, k: u32, answer: &mut [u8]) -> u32
+    ensures { λ r. ⌜ AtMostEntry (now (table .entry)) id k (now (answer .entry)) (now (answer .exit)) r ⌝ }
+{
+    if answer.len() < 4 {
+        return 27;
+    }
+    match misses::at_most(table, id, k) {
+        misses::Sieved::AtMost(n) => {
             let figures = [n];
             put_figures(answer, &figures);
             ANSWERED
         }
-        misses::Answer::Refused(n) => n,
+        misses::Sieved::Refused(n) => n,
     }
 }
 

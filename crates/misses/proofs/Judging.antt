@@ -1,48 +1,35 @@
 -- The figures judged one after the other, each as the code works it out: every answer is the definition's, whatever the test of costs.
 -- Assumes nothing.
-use Prim.Native.Nat.{ℕ, _+_, _*_, _-_, _^_, _≤_, _<_, min}
-use mathlib.Core.Path.{_≡_, ap, ap₂, sym, fun-ext, _∙_}
+use Prim.Native.Nat.{ℕ, _+_, _*_, _-_, _≤_, _<_}
+use mathlib.Core.Path.{_≡_, ap, sym, _∙_}
 use mathlib.Core.Bool.{Bool, true, false}
 use mathlib.Core.List.{List}
 use native.Mathlib.Omega.{arith}
 use lib.Dec.{ltb}
-use lib.ListN.{length, getD}
+use lib.ListN.{length}
 use Rattle.table.specs.Limits.{maxOverloads, maxCapacity}
 use Rattle.table.specs.Find.{rowOf, rows}
 use Rattle.table.specs.code.Good.{GoodTable}
 use Rattle.table.specs.declared.Row.{Row}
 use Rattle.table.specs.declared.Table.{Table}
-use Rattle.arrivals.specs.Arrivals.{δ, largest}
-use Rattle.table.specs.Record.{distances}
+use Rattle.arrivals.specs.Arrivals.{largest}
 use Rattle.segments.specs.View.{View}
-use Rattle.windows.specs.Demand.{others, viewsOf}
-use Rattle.windows.specs.code.Load.{viewsAt, Load, Loads}
-use Rattle.windows.specs.code.Called.{Starts}
-use Rattle.windows.specs.declared.Others.the-variants.{Typical}
-use Rattle.windows.proofs.Besides.{others-good}
-use Rattle.packing.specs.Packing.{combinations}
-use Rattle.packing.specs.Most.{mostUses, capacity}
-use Rattle.packing.proofs.Laws.{most-same}
+use Rattle.windows.specs.Demand.{viewsOf}
 use Rattle.search.specs.Lists.{some}
 use Rattle.search.proofs.Choice.{true-not-false}
 use Rattle.misses.specs.Overloads.{Overload, overloads, piecesOf}
-use Rattle.misses.specs.Bad.{bad, Test, byWindows}
-use Rattle.misses.specs.Misses.{badOf, roomOf, packingFigure, overloadsOf}
-use Rattle.misses.specs.Sieve.{bySieve}
-use Rattle.misses.specs.code.Held.{gathered, piecesIn, priceOf, Few, Asked, Admitted, figuresAt, missedAt}
+use Rattle.misses.specs.Bad.{Test}
+use Rattle.misses.specs.Misses.{roomOf, overloadsOf}
+use Rattle.misses.specs.code.Held.{gathered, Asked, Admitted, figuresAt, missedAt}
 use Rattle.misses.specs.code.Judged.{Judges}
-use Rattle.misses.specs.code.Settling.{overWith, calledWith, beyond, Costs, Tries}
 use Rattle.misses.specs.declared.Figures.{Figures}
 use Rattle.misses.specs.declared.Pieces.{Pieces}
 use Rattle.misses.specs.declared.Judged.{Judged}
 use Rattle.misses.specs.declared.Answer.{Answer}
 use Rattle.misses.specs.declared.Answer.the-variants.{Misses, Refused}
-use Rattle.misses.proofs.Prices.{price-past}
-use Rattle.misses.proofs.Packs.{price-within, bad-none, bad-price}
-use Rattle.misses.proofs.Held.{beside-others, held-count, held-size, held-pieces, held-above, held-room, held-few}
-use Rattle.misses.proofs.Loading.{loads-over, loads-called, loads-room}
+use Rattle.misses.proofs.Held.{beside-others, held-count, held-size, held-above}
 use Rattle.misses.proofs.Starts.{starts}
-use Rattle.misses.proofs.Answers.{none-late, too-many, starts-again, too-roomy, counts, missed-all, missed-packed}
+use Rattle.misses.proofs.Answers.{none-late, too-many, starts-again, too-roomy, counts}
 
 module _ {t : Table} (good : GoodTable t) (chain : ℕ) (there : chain < t .count) {k : ℕ} {f : Figures} (asked : Asked (rowOf t chain) k f) where
   abbrev close : ℕ
@@ -113,67 +100,6 @@ module _ {t : Table} (good : GoodTable t) (chain : ℕ) (there : chain < t .coun
 
           pub judged-missed : (test : Test) → Misses (missedAt test t chain k f) ≡ answer test
           judged-missed test = sym (counts test b views os k close latency late last some-late few (sym twice ∙ once) (above ∙ within))
-
-  -- how many are missed, where nothing is refused
-  module _ {p : Pieces} (admitted : Admitted t chain k f p) where
-    few-pieces : length (piecesOf os) ≤ maxOverloads
-    few-pieces = omega (arith, admitted .few, held-count (largest b k + latency) os p (admitted .all))
-
-    pub missed-few : Few p
-    missed-few = held-few (largest b k + latency) b (others t chain) (others-good t good chain) p (admitted .all) few-pieces
-
-    -- by a test that says which costs are bad
-    module _ (test : Test) {costly : ℕ → Bool} (same : (c : ℕ) → costly c ≡ test b views close c) where
-      empty : badOf test b views os close 0 ≡ costly 0
-      unfolding badOf
-      empty = bad-none _ (piecesOf os) ∙ sym (same 0)
-
-      pub missed-without : costly 0 ≡ true → k ≡ missedAt test t chain k f
-      missed-without e = sym (missed-all test b views os k close latency late (empty ∙ e))
-
-      module _ (fine : costly 0 ≡ false) (costs : List ℕ) (prices : (m : ℕ) → m < combinations → getD costs m 0 ≡ priceOf (piecesIn p) m) where
-        most-is : {flag : ℕ → Bool} → ((m : ℕ) → m < combinations → flag m ≡ costly (getD costs m 0))
-            → mostUses flag (capacity (p .capacity)) ≡ mostUses (badOf test b views os close) (λ i. getD (roomOf b os k latency) i 0)
-        unfolding badOf roomOf
-        most-is {flag} flags =
-            most-same flag (badOf test b views os close) (capacity (p .capacity)) (λ i. getD (roomOf b os k latency) i 0)
-            (λ m s h. flags m h ∙ ap costly (prices m h) ∙ sym (bad-price costly (piecesIn p) fine m)
-            ∙ ap₂ (λ f ps. bad f ps m) (fun-ext same) (held-pieces (largest b k + latency) os p (admitted .all) few-pieces))
-            (held-room (largest b k + latency) os p (admitted .all) few-pieces (sym (held-above (largest b k + latency) os p (admitted .all) few-pieces) ∙ admitted .within))
-
-        -- whatever flags the sets with bad costs
-        pub missed-counts : (flag : ℕ → Bool) → ((m : ℕ) → m < combinations → flag m ≡ costly (getD costs m 0))
-            → min k (late * mostUses flag (capacity (p .capacity))) ≡ missedAt test t chain k f
-        unfolding packingFigure
-        missed-counts flag flags =
-            ap (λ n. min k (late * n)) (most-is flags)
-            ∙ sym (missed-packed test b views os k close latency late (empty ∙ fine))
-
-    -- what sets cost is within what a load has room for
-    module _ (costs : List ℕ) (prices : (m : ℕ) → m < combinations → getD costs m 0 ≡ priceOf (piecesIn p) m) where
-      pub missed-within : (m : ℕ) → m < combinations → getD costs m 0 < beyond
-      missed-within m h = omega (arith, prices m h, price-within (p .chain) (p .segment) (p .cost) (p .count) m (missed-few .cheap) (missed-few .few))
-
-      pub missed-costs : (sets : ℕ) → (sets ≡ 2 ^ p .count) × (sets ≤ combinations) → Costs costs sets
-      missed-costs sets many = record {
-        few = many .1;
-        within = missed-within;
-        past = λ m l h. prices m h ∙ price-past (p .chain) (p .segment) (p .cost) (p .count) m (omega (arith, many .0));
-      }
-
-    module _ {l : Load} (loads : Loads b (viewsAt Typical t chain) l) where
-      pub missed-tries : Tries l close
-      missed-tries = record { sound = loads .sound; few = asked .few; room = loads-room t good chain there l loads }
-
-      pub missed-starts : Starts l close
-      missed-starts = record { sound = loads .sound; few = asked .few; near = λ q s h. omega (arith, ap (λ (r : Row). δ (distances r) q) (loads .chain), asked .starts q s h) }
-
-      -- by windows, and by the sieve
-      pub missed-over : (c : ℕ) → overWith l close c ≡ byWindows b views close c
-      missed-over c = loads-over loads close c
-
-      pub missed-called : (c : ℕ) → calledWith l close c ≡ bySieve b views close c
-      missed-called c = loads-called loads close c
 
 -- an answer settles the query whatever the test
 pub judges-settled : {s : List ℕ} {k : ℕ} {answer : Test → Answer} {j : Judged} {a : Answer} → (j .open ≡ false) × (j .answer ≡ a) → ((test : Test) → a ≡ answer test)

@@ -14,6 +14,8 @@ pub mod Loading
 pub mod Answers
 pub mod Enough
 pub mod Judging
+pub mod Missed
+pub mod Leading
 pub mod Limits
 pub mod Existence
 pub mod Turning

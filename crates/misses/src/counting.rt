@@ -31,11 +31,11 @@ ghost use Rattle.misses.specs.Misses.{missesAt, missesOf};
 ghost use Rattle.misses.specs.code.Held.{missedAt};
 ghost use Rattle.misses.specs.code.Judged.{Ready};
 
-// 1 where a cost is the lowest bad one or above.
-fn flag(cost: u64, lowest: u64) -> u8
-    ensures { λ r. ⌜ r ≡ (1 when leb lowest cost else 0) ⌝ }
+// 1 for a set that is bad.
+pub fn flag(bad: bool) -> u8
+    ensures { λ r. ⌜ r ≡ (1 when bad else 0) ⌝ }
 {
-    if lowest <= cost { 1 } else { 0 }
+    if bad { 1 } else { 0 }
 }
 
 // The flags of all sets, by what they cost. The lowest bad cost is above 0, so a set that is no combination, whose price is 0, has
@@ -46,7 +46,7 @@ fn flags(costs: &[u64; COMBINATIONS], lowest: u64) -> [u8; COMBINATIONS]
     let mut out = [0u8; COMBINATIONS];
     let mut m: usize = 0;
     while m < COMBINATIONS {
-        out[m] = flag(costs[m], lowest);
+        out[m] = flag(lowest <= costs[m]);
         m += 1;
     }
     out

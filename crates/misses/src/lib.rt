@@ -3,12 +3,17 @@
 mod asking;
 mod counting;
 mod gathering;
+mod plain;
 mod pricing;
 mod settling;
 mod sieving;
 
 pub use counting::misses;
 pub use counting::misses_with;
+use packing::COMBINATIONS;
+pub use plain::figure;
+pub use plain::misses_plain;
+pub use plain::packings_for;
 pub use sieving::at_most;
 use table::Table;
 
@@ -51,6 +56,16 @@ struct Judged {
     chain: usize,
     figures: Figures,
     pieces: Pieces,
+}
+
+// What the plain engine has to go through: settled, the query has its answer; open, these are the bad combinations by flags, and the
+// capacities, and each use in a packing counts `late` times.
+pub struct Packings {
+    pub open: bool,
+    pub answer: Answer,
+    pub late: u32,
+    pub bad: [u8; COMBINATIONS],
+    pub capacity: [u8; Table::OVERLOADS],
 }
 
 // Costs that are settled: none up to `good` is bad, each from `bad` on is.

@@ -7,7 +7,6 @@ use borrow.Author.Needs.{needs}
 use denote.Ref.{now}
 use lib.Dec.{leb}
 use lib.ListN.{getD}
-use Rattle.table.specs.code.Good.{GoodTable}
 use Rattle.table.specs.Find.{rowOf}
 use Rattle.table.specs.Read.{tableOf}
 use Rattle.table.specs.declared.Table.{Table}
@@ -16,7 +15,7 @@ use Rattle.windows.specs.code.Load.{Load, loadOf}
 use Rattle.misses.specs.Bad.{byWindows}
 use Rattle.misses.specs.code.Held.{Few}
 use Rattle.misses.specs.code.Settling.{overWith, Tries}
-use Rattle.misses.proofs.Judging.{missed-few, missed-tries, missed-over, missed-costs, missed-without, missed-counts}
+use Rattle.misses.proofs.Missed.{missed-few, missed-tries, missed-over, missed-costs, missed-without, missed-counts}
 use Rattle.misses.proofs.counting.missed.Statement.{statement}
 use Rattle.misses.proofs.counting.missed.Tie as tie
 
@@ -31,17 +30,14 @@ module _ (c : tie.After-load) where
   abbrev load : Load
   load = loadOf (now (start .args .s)) (c .load .result) (c .load .last .1 .1 .1 .0)
 
-  good : GoodTable table
-  good = start .pre .taken .good
-
   tries : Tries load (start .args .j .figures .close)
-  tries = missed-tries good (start .args .j .chain) (start .pre .there) (start .pre .asked) (start .pre .admitted) (c .load .ensures)
+  tries = missed-tries (start .pre) (c .load .ensures)
 
   few : Few (start .args .j .pieces)
-  few = missed-few good (start .args .j .chain) (start .pre .there) (start .pre .asked) (start .pre .admitted)
+  few = missed-few (start .pre)
 
   same : (cost : ℕ) → overWith load (start .args .j .figures .close) cost ≡ byWindows (rowOf table (start .args .j .chain)) (viewsOf table (start .args .j .chain)) (start .args .j .figures .close) cost
-  same = missed-over good (start .args .j .chain) (start .pre .there) (start .pre .asked) (start .pre .admitted) (c .load .ensures)
+  same = missed-over (start .pre) (c .load .ensures)
 
 -- the empty set is not bad
 module _ (c : tie.Else1) where
@@ -61,7 +57,7 @@ returns : tie.Need-returns
 returns c =
     let l = c .before .before .before in
     let s = start l in
-    missed-without (good l) (s .args .j .chain) (s .pre .there) (s .pre .asked) (s .pre .admitted) byWindows (same l) (sym (c .before .over .ensures) ∙ c .if1 .taken)
+    missed-without (s .pre) byWindows (same l) (sym (c .before .over .ensures) ∙ c .if1 .taken)
 
 prices-requires : tie.Need-prices-requires
 prices-requires c κs = few (loaded c)
@@ -76,7 +72,7 @@ lowest-bad-requires c κs =
     let s = start l in (
       tries l,
       fine e,
-      missed-costs (good l) (s .args .j .chain) (s .pre .there) (s .pre .asked) (s .pre .admitted) _ (c .before .before .before .prices .ensures) _ (c .sets-of .ensures),
+      missed-costs (s .pre) _ (c .before .before .before .prices .ensures) _ (c .sets-of .ensures),
     )
 
 packed-requires : tie.Need-packed-requires
@@ -92,7 +88,7 @@ returns-2 c =
     let l = loaded e in
     let s = start l in
     c .packed .ensures
-    ∙ missed-counts (good l) (s .args .j .chain) (s .pre .there) (s .pre .asked) (s .pre .admitted) byWindows (same l) (fine e) (prices .result) (prices .ensures)
+    ∙ missed-counts (s .pre) byWindows (same l) (fine e) (prices .result) (prices .ensures)
     (λ m. leb (lowest .result) (getD (prices .result) m 0)) (lowest .ensures)
 
 pub missed-spec : {M : Type 1} → statement M

@@ -10,14 +10,13 @@ use lib.Dec.{leb}
 use lib.ListN.{getD}
 use Rattle.table.specs.Find.{rowOf}
 use Rattle.table.specs.Read.{tableOf}
-use Rattle.table.specs.code.Good.{GoodTable}
 use Rattle.table.specs.declared.Table.{Table}
 use Rattle.windows.specs.Demand.{viewsOf}
 use Rattle.windows.specs.code.Load.{Load, loadOf}
 use Rattle.misses.specs.Sieve.{bySieve}
 use Rattle.misses.specs.code.Settling.{beyond, calledWith}
 use Rattle.misses.proofs.Loading.{called-from}
-use Rattle.misses.proofs.Judging.{missed-few, missed-starts, missed-called, missed-within, missed-without, missed-counts}
+use Rattle.misses.proofs.Missed.{missed-few, missed-starts, missed-called, missed-within, missed-without, missed-counts}
 use Rattle.misses.proofs.sieving.called.Statement.{statement}
 use Rattle.misses.proofs.sieving.called.Tie as tie
 
@@ -32,11 +31,8 @@ module _ (c : tie.After-load) where
   abbrev load : Load
   load = loadOf (now (start .args .s)) (c .load .result) (c .load .last .1 .1 .1 .0)
 
-  good : GoodTable table
-  good = start .pre .taken .good
-
   same : (cost : ℕ) → calledWith load (start .args .j .figures .close) cost ≡ bySieve (rowOf table (start .args .j .chain)) (viewsOf table (start .args .j .chain)) (start .args .j .figures .close) cost
-  same = missed-called good (start .args .j .chain) (start .pre .there) (start .pre .asked) (start .pre .admitted) (c .load .ensures)
+  same = missed-called (start .pre) (c .load .ensures)
 
 -- the costs called bad
 module _ (c : tie.After-least-called) where
@@ -56,21 +52,21 @@ least-called-requires : tie.Need-least-called-requires
 least-called-requires c κs =
     let l = c .before in
     let s = start l in
-    missed-starts (good l) (s .args .j .chain) (s .pre .there) (s .pre .asked) (s .pre .admitted) (l .load .ensures)
+    missed-starts (s .pre) (l .load .ensures)
 
 returns : tie.Need-returns
 returns c =
     let d = c .before in
     let l = loaded d in
     let s = start l in
-    missed-without (good l) (s .args .j .chain) (s .pre .there) (s .pre .asked) (s .pre .admitted) bySieve (same l)
+    missed-without (s .pre) bySieve (same l)
     (sym (from d 0 (omega arith)) ∙ le-leb (d .least-called .result) 0 (omega (arith, c .if1 .taken)))
 
 prices-requires : tie.Need-prices-requires
 prices-requires c κs =
     let l = loaded (c .before) in
     let s = start l in
-    missed-few (good l) (s .args .j .chain) (s .pre .there) (s .pre .asked) (s .pre .admitted)
+    missed-few (s .pre)
 
 packed-requires : tie.Need-packed-requires
 packed-requires c κs =
@@ -84,9 +80,9 @@ returns-2 c =
     let d = e .before in
     let l = loaded d in
     let s = start l in
-    let within = missed-within (good l) (s .args .j .chain) (s .pre .there) (s .pre .asked) (s .pre .admitted) (prices .result) (prices .ensures) in
+    let within = missed-within (s .pre) (prices .result) (prices .ensures) in
     c .packed .ensures
-    ∙ missed-counts (good l) (s .args .j .chain) (s .pre .there) (s .pre .asked) (s .pre .admitted) bySieve (same l) (fine d (e .if1 .left)) (prices .result) (prices .ensures)
+    ∙ missed-counts (s .pre) bySieve (same l) (fine d (e .if1 .left)) (prices .result) (prices .ensures)
     (λ m. leb (d .least-called .result) (getD (prices .result) m 0)) (λ m h. from d (getD (prices .result) m 0) (within m h))
 
 pub called-spec : {M : Type 1} → statement M

@@ -1,0 +1,4 @@
+pub mod Digits
+pub mod Fit
+pub mod Turns
+pub mod Ahead
