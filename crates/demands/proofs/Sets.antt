@@ -17,7 +17,7 @@ use Rattle.table.specs.Record.{distances}
 use Rattle.segments.specs.View.{View}
 use Rattle.windows.specs.Demand.{demandOf, typical}
 use Rattle.windows.specs.Window.{Solution, windowOf}
-use Rattle.windows.specs.Latency.{upTo, longer}
+use Rattle.windows.specs.Latency.{longer}
 use Rattle.windows.specs.declared.Window.the-variants.{At}
 use Rattle.windows.proofs.Growth.{Paced}
 use Rattle.windows.proofs.Least.{window-only, window-at}
@@ -31,7 +31,7 @@ use Rattle.misses.proofs.Bools.{and-left, and-right}
 use Rattle.misses.proofs.Masks.{members-in, members-out}
 use Rattle.misses.proofs.Together.{agree-turn}
 use Rattle.misses.proofs.Turning.{bit-zero}
-use Rattle.windows.proofs.Sweeps.{some-one}
+use Rattle.windows.proofs.Sweeps.{some-one, some-found}
 use Rattle.misses.proofs.Existence.{combination-window}
 use Rattle.demands.specs.Figures.{Exactly, Closes}
 use Rattle.demands.specs.Misses.{pieceOf, Combination, marked, pieces, full, IsBad}
@@ -116,17 +116,6 @@ pub combination-allowed : (ps : List Piece) (m : ℕ) → Combination ps m → a
 unfolding allowed
 combination-allowed ps m c = ap₂ _&&_ (lt-ltb _ _ (c .below)) (together-all ps m (λ i j h k x y. one-agree (pieceOf ps i) (pieceOf ps j) (c .one i j h k x y)))
 
--- a test that some activation up to k passes
-found : (p : ℕ → Bool) (k : ℕ) → some p (upTo k) ≡ true → (q : ℕ) × (1 ≤ q) × (q ≤ k) × (p q ≡ true)
-unfolding upTo some
-found p zero e = absurd (true-not-false e refl)
-found p (suc k) e = go (p (suc k)) refl e (found p k)
-  where
-    go : (t : Bool) → p (suc k) ≡ t → (t || some p (upTo k)) ≡ true → (some p (upTo k) ≡ true → (q : ℕ) × (1 ≤ q) × (q ≤ k) × (p q ≡ true))
-        → (q : ℕ) × (1 ≤ q) × (q ≤ suc k) × (p q ≡ true)
-    go true f e rest = (suc k, omega arith, omega arith, f)
-    go false f e rest = let r = rest e in (r .0, r .1, omega (arith, r .2), r .3)
-
 typical-paced : (vs : List View) → Paced vs → Paced (typical vs)
 unfolding typical
 typical-paced [] h = tt
@@ -142,7 +131,7 @@ module _ (b : Row) (l : List Row) (good : GoodRow b) (rows : All GoodRow l) (pac
   unfolding badOf bad over
   is-bad m e =
       let a = and-left (allowed (pieces b l) m) _ e in
-      let f = found _ close (and-right (allowed (pieces b l) m) _ e) in
+      let f = some-found _ close (and-right (allowed (pieces b l) m) _ e) in
       let q = f .0 in
       let w = combination-window b l good rows (typical-paced (viewed b l) paced) q m (c .B q) (f .1) (ap (λ d. windowOf (d q)) (equation-is b l) ∙ sym (window-only (full b l q) (At (c .B q)) (c .windows q (f .1) (f .2)))) a in
       record {

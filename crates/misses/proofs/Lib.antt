@@ -18,6 +18,7 @@ pub mod Missed
 pub mod Leading
 pub mod Limits
 pub mod Existence
+pub mod Sieve
 pub mod Turning
 pub mod Together
 pub mod Relabelling

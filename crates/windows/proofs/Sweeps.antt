@@ -9,6 +9,7 @@ use native.Mathlib.Numerals.{add-one}
 use native.Mathlib.Nat.{eq-or-lt-of-le, le-of-suc-le-suc}
 use borrow.Author.Tests.{lt-ltb, le-ltb}
 use Rattle.search.specs.Lists.{some}
+use Rattle.search.proofs.Choice.{true-not-false}
 use Rattle.arrivals.specs.Arrivals.{δ}
 use Rattle.windows.specs.Window.{windowOf}
 use Rattle.windows.specs.Latency.{upTo, longer, anyOver}
@@ -25,6 +26,17 @@ module _ (p : ℕ → Bool) where
       (λ s. ap (λ b. b || some p (upTo close)) (ap p (sym s) ∙ e))
       (λ s. ap (λ b. p (suc close) || b) (some-one close q l (le-of-suc-le-suc s) e) ∙ or-true (p (suc close)))
       (eq-or-lt-of-le h)
+
+  -- and one that is found
+  pub some-found : (close : ℕ) → some p (upTo close) ≡ true → (q : ℕ) × (1 ≤ q) × (q ≤ close) × (p q ≡ true)
+  unfolding some upTo
+  some-found zero e = absurd (true-not-false e refl)
+  some-found (suc close) e = go (p (suc close)) refl e (some-found close)
+    where
+      go : (t : Bool) → p (suc close) ≡ t → (t || some p (upTo close)) ≡ true → (some p (upTo close) ≡ true → (q : ℕ) × (1 ≤ q) × (q ≤ close) × (p q ≡ true))
+          → (q : ℕ) × (1 ≤ q) × (q ≤ suc close) × (p q ≡ true)
+      go true f e rest = (suc close, omega arith, omega arith, f)
+      go false f e rest = let r = rest e in (r .0, r .1, omega (arith, r .2), r .3)
 
   some-more : (close : ℕ) → some p (upTo close) ≡ false → p (close + 1) ≡ false → some p (upTo (close + 1)) ≡ false
   unfolding some upTo
