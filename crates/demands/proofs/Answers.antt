@@ -31,9 +31,10 @@ use Rattle.windows.specs.declared.Window.the-variants.{At, Nothing}
 use Rattle.windows.specs.declared.Windows.{Windows}
 use Rattle.misses.specs.Bad.{Test}
 use Rattle.misses.specs.Misses as misses
+use Rattle.misses.specs.Sieve as sieve
 use Rattle.misses.specs.Overloads.{Overload}
 use Rattle.misses.specs.declared.Answer.{Answer as Misses}
-use Rattle.misses.specs.declared.Answer.the-variants.{Refused as NoMisses}
+use Rattle.misses.specs.declared.Answer.the-variants.{Misses as Missed, Refused as NoMisses}
 use Rattle.saving.specs.Save as save
 use Rattle.saving.specs.declared.Saved.the-variants.{Used, Refused as NoSave}
 use Rattle.merging.specs.Versions.{Versions}
@@ -141,6 +142,15 @@ tested-one test s id k = by (readTable s .verdict) refl
     by : (v : Verdict) → readTable s .verdict ≡ v → OneMisses (byVerdict NoMisses v (misses.testedIn test (readTable s .table) id k))
     by Accepted e = when-cases OneMisses _ (λ f. refuses MissesRefusal 1 12 (lit≤ tt) (inr (inl (lit≤ tt, lit≤ tt)))) (λ f. in-one test _ _ _ k)
     by (Faulty f place) e = faulty MissesRefusal 1 (λ f h. inl h) s f place e
+
+-- by the sieve
+pub sieve-one : (s : List ℕ) (id k : ℕ) → OneAnswer MissesRefusal 1 (sieve.numberOf (sieve.atMostOf s id k)) (sieve.valuesOf (sieve.atMostOf s id k))
+unfolding sieve.atMostOf
+sieve-one s id k = by (misses.testedOf sieve.bySieve s id k) (tested-one sieve.bySieve s id k)
+  where
+    by : (a : Misses) → OneMisses a → OneAnswer MissesRefusal 1 (sieve.numberOf (sieve.asSieved a)) (sieve.valuesOf (sieve.asSieved a))
+    by (Missed n) o = o
+    by (NoMisses n) o = o
 
 -- segment
 abbrev OneSegment : Segment → Type 0

@@ -26,8 +26,8 @@ use Rattle.windows.specs.Latency.{boundOf, latencyOf}
 use Rattle.windows.specs.declared.Answer.the-variants.{Refused}
 use Rattle.windows.proofs.Answers as latency
 use Rattle.misses.specs.Overloads.{overloads}
-use Rattle.misses.specs.Bad.{byWindows}
-use Rattle.misses.specs.Misses.{testedAt, missesBeside, missesOf}
+use Rattle.misses.specs.Bad.{Test, byWindows}
+use Rattle.misses.specs.Misses.{testedBeside, testedAt, testedOf, missesOf}
 use Rattle.misses.specs.declared.Answer.the-variants.{Refused as Unanswered}
 use Rattle.misses.proofs.Answers as misses
 use Rattle.saving.proofs.Verdicts.{read-accepted}
@@ -56,10 +56,10 @@ module _ {s : List ℕ} {id : ℕ} (h : Has s id) where
   unfolding viewsOf
   latency-is = latency.latency-accepted s id (h .table .accepted) ∙ latency.chain-found (tableOf s) id found
 
-  pub misses-are : (k : ℕ) → missesOf s id k
-      ≡ missesBeside (chainOf s id) (map (λ a. viewOf a (chainOf s id)) (chains.othersOf s id)) (overloads (chainOf s id) (chains.othersOf s id)) k
+  pub tested-are : (test : Test) (k : ℕ) → testedOf test s id k
+      ≡ testedBeside test (chainOf s id) (map (λ a. viewOf a (chainOf s id)) (chains.othersOf s id)) (overloads (chainOf s id) (chains.othersOf s id)) k
   unfolding viewsOf testedAt
-  misses-are k = misses.tested-accepted byWindows s id k (h .table .accepted) ∙ misses.chain-found byWindows (tableOf s) id k found
+  tested-are test k = misses.tested-accepted test s id k (h .table .accepted) ∙ misses.chain-found test (tableOf s) id k found
 
 -- no chain has the id: 12
 module _ {s : List ℕ} (h : IsTable s) (id : ℕ) (none : chainNumber s id ≡ tableOf s .count) where

@@ -10,6 +10,7 @@ use Rattle.demands.proofs.Rows.{rows-and-tables}
 use Rattle.demands.proofs.Figures.{counted, latency-means, latency-only}
 use Rattle.demands.proofs.Misses.{misses-mean, answers-right}
 use Rattle.demands.proofs.Runs.{within-run, last-column, longer-run}
+use Rattle.demands.proofs.Sieve.{second-ways}
 use Rattle.demands.proofs.Others.{same-besides, reordered, ids-deadlines-gaps, regrouped}
 use Rattle.demands.proofs.Saves.{saved-deadline-or-gap}
 use Rattle.demands.proofs.Calls.{same-latency-call, same-misses-call}
@@ -27,6 +28,7 @@ demand-2 = record {
   within-run = within-run;
   last-column = last-column;
   longer-run = longer-run;
+  second-ways = second-ways;
   printed = λ n. (decimal-value n, decimal-first n);
   segment = answer-records;
 }

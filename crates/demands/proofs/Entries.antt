@@ -29,7 +29,7 @@ use Rattle.report_text.specs.Report.{reportOf}
 use Rattle.editor.specs.Entry.{figureBytes, returned, leftBy, tooLong, Answered, SaveEntry, MergeEntry, ReadEntry, WriteEntry, ReportEntry}
 use Rattle.demands.specs.Entries.{SaveRefusal, MergeRefusal, WriteRefusal, ReadRefusal, RecordRefusal, ReportRefusal, CheckRefusal, AtEntry, OneAnswer, Query, Call, OnePart, OneChosen, LatencyRefusal, MissesRefusal, SegmentRefusal, EveryEntry}
 use Rattle.misses.specs.Bad.{byWindows}
-use Rattle.demands.proofs.Answers.{verdict-one, check-one, latency-one, tested-one, segment-one, save-one, merge-one, conflict-one, write-one, fill-one, record-one}
+use Rattle.demands.proofs.Answers.{verdict-one, check-one, latency-one, tested-one, sieve-one, segment-one, save-one, merge-one, conflict-one, write-one, fill-one, record-one}
 
 -- a statement that names the answer
 query : {A : Type 0} (right : A) (Refusal : ℕ → Type 0) (n : ℕ) (number : A → ℕ) (figures : A → List ℕ) → OneAnswer Refusal n (number right) (figures right) → Query (λ a. a ≡ right) Refusal n number figures
@@ -211,6 +211,8 @@ every-entry = record {
   read = λ s e f. e ∙ sym f;
   latency = λ s id. query _ LatencyRefusal 4 _ _ (latency-one s id);
   misses = λ s id k. query _ MissesRefusal 1 _ _ (tested-one byWindows s id k);
+  misses-plain = λ s id k. query _ MissesRefusal 1 _ _ (tested-one byWindows s id k);
+  at-most = λ s id k. query _ MissesRefusal 1 _ _ (sieve-one s id k);
   segment = λ s chain against number. query _ SegmentRefusal 2 _ _ (segment-one s chain against number);
   part = one-part;
   save = save-call;
@@ -223,6 +225,8 @@ every-entry = record {
   report = λ s before. record { one = λ a b. (a .leaves ∙ sym (b .leaves), a .answers ∙ sym (b .answers)) };
   latency-entry = λ s id before. entry (λ x r a. record { answers = a }) (λ x r e. e .answers) (answered LatencyRefusal 4 _ _ (latency-one s id) before);
   misses-entry = λ s id k before. entry (λ x r a. record { answers = a }) (λ x r e. e .answers) (answered MissesRefusal 1 _ _ (tested-one byWindows s id k) before);
+  plain-entry = λ s id k before. entry (λ x r a. record { answers = a }) (λ x r e. e .answers) (answered MissesRefusal 1 _ _ (tested-one byWindows s id k) before);
+  at-most-entry = λ s id k before. entry (λ x r a. record { answers = a }) (λ x r e. e .answers) (answered MissesRefusal 1 _ _ (sieve-one s id k) before);
   record-entry = λ s id before. entry (λ x r a. record { answers = a }) (λ x r e. e .answers) (answered RecordRefusal 2 _ _ (record-one s id) before);
   segment-entry = λ s chain against number before.
       entry (λ x r a. record { answers = a }) (λ x r e. e .answers) (answered SegmentRefusal 2 _ _ (segment-one s chain against number) before);

@@ -10,6 +10,7 @@ pub mod Sets
 pub mod Capacities
 pub mod Misses
 pub mod Runs
+pub mod Sieve
 pub mod Regroupings
 pub mod Others
 pub mod Saves
@@ -21,3 +22,4 @@ pub mod StarredWindows
 pub mod StarredMisses
 pub mod Starred
 pub mod Witness
+pub mod Twice

@@ -30,8 +30,9 @@ use Rattle.packing.proofs.Most.{most-greatest, most-is}
 use Rattle.packing.proofs.Laws.{most-same}
 use Rattle.packing.specs.Most.{mostUses}
 use Rattle.misses.specs.Overloads.{Overload}
-use Rattle.misses.specs.Bad.{byWindows}
-use Rattle.misses.specs.Misses.{earlyOf, badOf, roomOf, packingFigure, missedOf, byFigures, byBound, testedBeside, missesBeside, missesOf}
+use Rattle.misses.specs.Bad.{Test, byWindows}
+use Rattle.misses.specs.Misses.{earlyOf, badOf, roomOf, packingFigure, missedOf, byFigures, byBound, testedBeside, testedOf, missesOf}
+use Rattle.misses.specs.Sieve.{bySieve}
 use Rattle.misses.specs.declared.Answer.{Answer}
 use Rattle.misses.specs.declared.Answer.the-variants.{Misses, Refused}
 use Rattle.misses.proofs.Starts.{starts}
@@ -40,11 +41,11 @@ use Rattle.search.specs.Choice.{byNumber}
 use Rattle.table.specs.Read.{tableOf}
 use Rattle.demands.specs.Chains.{Has, chainNumber, chainOf, othersOf}
 use Rattle.demands.specs.Figures.{Exactly}
-use Rattle.demands.specs.Misses.{marked, pieces, full, capacityOf, IsBad, MayAsk, Figured, lastOf, AtMostSix, Once, Fine, Capped, Most, Says, Right}
-use Rattle.demands.proofs.Chains.{table-good, misses-are}
+use Rattle.demands.specs.Misses.{marked, pieces, full, capacityOf, IsBad, IsCalled, MayAsk, Figured, lastOf, AtMostSix, Once, Fine, Capped, Most, Says, SaysMissed, SaysAtMost, Right}
+use Rattle.demands.proofs.Chains.{table-good, tested-are}
 use Rattle.demands.proofs.Figures.{no-window, no-close, closes-last, three, latency-means}
 use Rattle.demands.proofs.Equation.{viewed, equation-is}
-use Rattle.demands.proofs.Sets.{bad-means}
+use Rattle.demands.proofs.Sets.{bad-means, called-means}
 use Rattle.demands.proofs.Capacities.{room-at, capped-all, all-capped}
 
 -- no element passes
@@ -86,7 +87,8 @@ same-test true y f g = sym (g .1 (f .0 refl))
 same-test false true f g = f .1 (g .0 refl)
 same-test false false f g = refl
 
-module _ (b : Row) (l : List Row) (good : GoodRow b) (rows : All GoodRow l) (paced : Paced (viewed b l)) (k : ℕ) where
+module _ (b : Row) (l : List Row) (good : GoodRow b) (rows : All GoodRow l) (paced : Paced (viewed b l)) (k : ℕ) (test : Test) (Bad : ℕ → ℕ → Type 0)
+    (exactly : (f : Figured b l k) (m : ℕ) → Exactly (badOf test b (viewed b l) (marked b l) (f .close) m ≡ true) (Bad (f .close) m)) where
   abbrev vs : List View
   vs = viewed b l
 
@@ -94,7 +96,7 @@ module _ (b : Row) (l : List Row) (good : GoodRow b) (rows : All GoodRow l) (pac
   os = marked b l
 
   abbrev answer : Answer
-  answer = missesBeside b vs os k
+  answer = testedBeside test b vs os k
 
   -- the full analysis
   abbrev windows : Windows
@@ -109,117 +111,114 @@ module _ (b : Row) (l : List Row) (good : GoodRow b) (rows : All GoodRow l) (pac
 
   early-refused : (n : ℕ) → earlyOf b k ≡ suc n → answer ≡ Refused (suc n)
   unfolding testedBeside byNumber
-  early-refused n e = ap (λ x. byNumber Refused x (byBound byWindows b vs os k (boundOf b vs .answer) (boundOf b vs .last))) e
+  early-refused n e = ap (λ x. byNumber Refused x (byBound test b vs os k (boundOf b vs .answer) (boundOf b vs .last))) e
 
   -- the windows refuse, or their figures decide
-  by-windows : MayAsk b l k → (w : Windows) → windows ≡ w → answer ≡ byBound byWindows b vs os k (w .answer) (w .last)
+  by-windows : MayAsk b l k → (w : Windows) → windows ≡ w → answer ≡ byBound test b vs os k (w .answer) (w .last)
   unfolding testedBeside boundOf byNumber
   by-windows a w e =
-      ap (λ x. byNumber Refused x (byBound byWindows b vs os k (boundOf b vs .answer) (boundOf b vs .last))) (asked-early a)
-      ∙ ap (λ (x : Windows). byBound byWindows b vs os k (x .answer) (x .last)) (ap (λ d. windowsOf d (distances b) (b .deadline)) (equation-is b l) ∙ e)
+      ap (λ x. byNumber Refused x (byBound test b vs os k (boundOf b vs .answer) (boundOf b vs .last))) (asked-early a)
+      ∙ ap (λ (x : Windows). byBound test b vs os k (x .answer) (x .last)) (ap (λ d. windowsOf d (distances b) (b .deadline)) (equation-is b l) ∙ e)
 
   refused-by : MayAsk b l k → (n : ℕ) → windows .answer ≡ Unbounded n → answer ≡ Refused n
-  refused-by a n e = by-windows a _ refl ∙ ap (λ x. byBound byWindows b vs os k x (windows .last)) e
+  refused-by a n e = by-windows a _ refl ∙ ap (λ x. byBound test b vs os k x (windows .last)) e
 
   module _ (f : Figured b l k) where
-    by-figures : answer ≡ byFigures byWindows b vs os k (f .close) (f .latency) (f .late) (lastOf b l f)
+    by-figures : answer ≡ byFigures test b vs os k (f .close) (f .latency) (f .late) (lastOf b l f)
     by-figures = by-windows (f .asked) _ (closes-last (full b l) (distances b) (b .deadline) (f .close) (f .latency) (f .late) (f .margin) (f .figures))
 
-    bad-exactly : (m : ℕ) → Exactly (badOf byWindows b vs os (f .close) m ≡ true) (IsBad b l (f .close) m)
-    bad-exactly = bad-means b l good rows paced (f .figures)
-
-    bad-false : (IsBad b l (f .close) 0 → ⊥) → badOf byWindows b vs os (f .close) 0 ≡ false
-    bad-false h = go (badOf byWindows b vs os (f .close) 0) refl
+    bad-false : (Bad (f .close) 0 → ⊥) → badOf test b vs os (f .close) 0 ≡ false
+    bad-false h = go (badOf test b vs os (f .close) 0) refl
       where
-        go : (t : Bool) → badOf byWindows b vs os (f .close) 0 ≡ t → t ≡ false
-        go true e = absurd (h (bad-exactly 0 .0 e))
+        go : (t : Bool) → badOf test b vs os (f .close) 0 ≡ t → t ≡ false
+        go true e = absurd (h (exactly f 0 .0 e))
         go false e = refl
 
     -- whatever is the most uses is the number that is answered with
-    most-same-uses : (uses : ℕ) → Most b l f uses → mostUses (badOf byWindows b vs os (f .close)) (λ i. getD (roomOf b os k (f .latency)) i 0) ≡ uses
+    most-same-uses : (uses : ℕ) → Most b l Bad f uses → mostUses (badOf test b vs os (f .close)) (λ i. getD (roomOf b os k (f .latency)) i 0) ≡ uses
     most-same-uses uses m =
-        most-same (badOf byWindows b vs os (f .close)) (m .bad) (λ i. getD (roomOf b os k (f .latency)) i 0) (capacityOf b l k (f .latency))
-        (λ x s h. same-test _ _ (bad-exactly x) (m .is x)) (λ i h. room-at b l k (f .latency) i)
+        most-same (badOf test b vs os (f .close)) (m .bad) (λ i. getD (roomOf b os k (f .latency)) i 0) (capacityOf b l k (f .latency))
+        (λ x s h. same-test _ _ (exactly f x) (m .is x)) (λ i h. room-at b l k (f .latency) i)
         ∙ most-is (m .bad) (capacityOf b l k (f .latency)) (m .most)
 
-    figure-is : (uses : ℕ) → Most b l f uses → packingFigure byWindows b vs os k (f .close) (f .latency) (f .late) ≡ f .late * uses
+    figure-is : (uses : ℕ) → Most b l Bad f uses → packingFigure test b vs os k (f .close) (f .latency) (f .late) ≡ f .late * uses
     unfolding packingFigure
     figure-is uses m = ap (λ u. f .late * u) (most-same-uses uses m)
 
     -- nothing is refused
-    by-count : 1 ≤ f .late → AtMostSix b l → Once b l f → Capped b l f → answer ≡ Misses (missedOf byWindows b vs os k (f .close) (f .latency) (f .late))
+    by-count : 1 ≤ f .late → AtMostSix b l → Once b l f → Capped b l f → answer ≡ Misses (missedOf test b vs os k (f .close) (f .latency) (f .late))
     by-count h few once room =
         by-figures
-        ∙ answers.counts byWindows b vs os k (f .close) (f .latency) (f .late) (lastOf b l f) (λ e. omega (arith, e, h)) few
+        ∙ answers.counts test b vs os k (f .close) (f .latency) (f .late) (lastOf b l f) (λ e. omega (arith, e, h)) few
         (within-none 1 (λ o. η (o .list) (lastOf b l f)) os once) (within-none maxCapacity (λ c. c) (roomOf b os k (f .latency)) (capped-all b l k (f .latency) maxCapacity room))
 
   -- an answer that the words allow is the answer given
-  says-answer : {a : Answer} → Says b l k a → answer ≡ a
+  says-answer : {a : Answer} → Says b l Bad k a → answer ≡ a
   says-answer (Says.run (inl h)) = early-refused 12 (answers.early-run b k (or-left _ (ltb maxRun k) (lt-ltb k 1 h)))
   says-answer (Says.run (inr h)) = early-refused 12 (answers.early-run b k (or-right (ltb k 1) _ (lt-ltb maxRun k h)))
   says-answer (Says.overload x y h) = early-refused 13 (answers.early-overload b k (inside x y) h)
   says-answer (Says.gap x y t h) = early-refused 14 (answers.early-gap b k (inside x y) t h)
   says-answer (Says.window a n) = refused-by a 16 (no-window (full b l) (distances b) (b .deadline) n)
   says-answer (Says.close a o) = refused-by a 17 (no-close (full b l) (distances b) (b .deadline) o)
-  says-answer (Says.none f e) = by-figures f ∙ answers.none-late byWindows b vs os k (f .close) (f .latency) (f .late) (lastOf b l f) e
+  says-answer (Says.none f e) = by-figures f ∙ answers.none-late test b vs os k (f .close) (f .latency) (f .late) (lastOf b l f) e
   says-answer (Says.many f h n) =
       by-figures f
-      ∙ answers.too-many byWindows b vs os k (f .close) (f .latency) (f .late) (lastOf b l f) (λ e. omega (arith, e, h))
+      ∙ answers.too-many test b vs os k (f .close) (f .latency) (f .late) (lastOf b l f) (λ e. omega (arith, e, h))
       (⊎-elim (λ x. x) (λ x. absurd (n x)) (lt-or-le maxOverloads (length (pieces b l))))
   says-answer (Says.again f h few n) =
       by-figures f
-      ∙ answers.starts-again byWindows b vs os k (f .close) (f .latency) (f .late) (lastOf b l f) (λ e. omega (arith, e, h)) few
+      ∙ answers.starts-again test b vs os k (f .close) (f .latency) (f .late) (lastOf b l f) (λ e. omega (arith, e, h)) few
       (not-within 1 (λ o. η (o .list) (lastOf b l f)) os n)
   says-answer (Says.above f h few once n) =
       by-figures f
-      ∙ answers.too-roomy byWindows b vs os k (f .close) (f .latency) (f .late) (lastOf b l f) (λ e. omega (arith, e, h)) few
+      ∙ answers.too-roomy test b vs os k (f .close) (f .latency) (f .late) (lastOf b l f) (λ e. omega (arith, e, h)) few
       (within-none 1 (λ o. η (o .list) (lastOf b l f)) os once) (not-within maxCapacity (λ c. c) (roomOf b os k (f .latency)) (λ a. n (all-capped b l k (f .latency) maxCapacity a)))
   says-answer (Says.always f h few once room x) =
-      by-count f h few once room ∙ ap Misses (answers.missed-all byWindows b vs os k (f .close) (f .latency) (f .late) (bad-exactly f 0 .1 x))
+      by-count f h few once room ∙ ap Misses (answers.missed-all test b vs os k (f .close) (f .latency) (f .late) (exactly f 0 .1 x))
   says-answer (Says.packed f uses h few once room fine m) =
       by-count f h few once room
-      ∙ ap Misses (answers.missed-packed byWindows b vs os k (f .close) (f .latency) (f .late) (bad-false f fine) ∙ ap (min k) (figure-is f uses m))
+      ∙ ap Misses (answers.missed-packed test b vs os k (f .close) (f .latency) (f .late) (bad-false f fine) ∙ ap (min k) (figure-is f uses m))
 
   -- and the words allow it
-  is : {a : Answer} → Says b l k a → Says b l k answer
-  is s = subst (Says b l k) (sym (says-answer s)) s
+  is : {a : Answer} → Says b l Bad k a → Says b l Bad k answer
+  is s = subst (Says b l Bad k) (sym (says-answer s)) s
 
   -- no more than 6 active segments, and some activation is late: three tests are left
   module _ (f : Figured b l k) (h : 1 ≤ f .late) (few : AtMostSix b l) where
-    packed-says : Once b l f → Capped b l f → Fine b l f → Says b l k answer
+    packed-says : Once b l f → Capped b l f → Fine b l Bad f → Says b l Bad k answer
     packed-says once room fine =
-        is (Says.packed f (mostUses (badOf byWindows b vs os (f .close)) (capacityOf b l k (f .latency))) h few once room fine (record {
-          bad = badOf byWindows b vs os (f .close);
-          is = bad-exactly f;
-          most = most-greatest (badOf byWindows b vs os (f .close)) (capacityOf b l k (f .latency));
+        is (Says.packed f (mostUses (badOf test b vs os (f .close)) (capacityOf b l k (f .latency))) h few once room fine (record {
+          bad = badOf test b vs os (f .close);
+          is = exactly f;
+          most = most-greatest (badOf test b vs os (f .close)) (capacityOf b l k (f .latency));
         }))
 
-    always-says : Once b l f → Capped b l f → (t : Bool) → badOf byWindows b vs os (f .close) 0 ≡ t → Says b l k answer
-    always-says once room true e = is (Says.always f h few once room (bad-exactly f 0 .0 e))
-    always-says once room false e = packed-says once room (λ x. true-not-false (bad-exactly f 0 .1 x) e)
+    always-says : Once b l f → Capped b l f → (t : Bool) → badOf test b vs os (f .close) 0 ≡ t → Says b l Bad k answer
+    always-says once room true e = is (Says.always f h few once room (exactly f 0 .0 e))
+    always-says once room false e = packed-says once room (λ x. true-not-false (exactly f 0 .1 x) e)
 
-    roomy-says : Once b l f → (t : Bool) → some (ltb maxCapacity) (roomOf b os k (f .latency)) ≡ t → Says b l k answer
+    roomy-says : Once b l f → (t : Bool) → some (ltb maxCapacity) (roomOf b os k (f .latency)) ≡ t → Says b l Bad k answer
     roomy-says once true e = is (Says.above f h few once (λ a. some-not maxCapacity (λ c. c) (roomOf b os k (f .latency)) e (capped-all b l k (f .latency) maxCapacity a)))
     roomy-says once false e =
-        always-says once (all-capped b l k (f .latency) maxCapacity (none-within maxCapacity (λ c. c) (roomOf b os k (f .latency)) e)) (badOf byWindows b vs os (f .close) 0) refl
+        always-says once (all-capped b l k (f .latency) maxCapacity (none-within maxCapacity (λ c. c) (roomOf b os k (f .latency)) e)) (badOf test b vs os (f .close) 0) refl
 
-    again-says : (t : Bool) → some (starts (lastOf b l f)) os ≡ t → Says b l k answer
+    again-says : (t : Bool) → some (starts (lastOf b l f)) os ≡ t → Says b l Bad k answer
     again-says true e = is (Says.again f h few (some-not 1 (λ o. η (o .list) (lastOf b l f)) os e))
     again-says false e = roomy-says (none-within 1 (λ o. η (o .list) (lastOf b l f)) os e) (some (ltb maxCapacity) (roomOf b os k (f .latency))) refl
 
-  late-says : Figured b l k → Says b l k answer
+  late-says : Figured b l k → Says b l Bad k answer
   late-says f = ⊎-elim
       (λ h. ⊎-elim (λ n. is (Says.many f h (λ few. omega (arith, n, few)))) (λ few. again-says f h few (some (starts (lastOf b l f)) os) refl) (lt-or-le maxOverloads (length (pieces b l))))
       (λ h. is (Says.none f (omega arith)))
       (lt-or-le 0 (f .late))
 
-  asked-says : MayAsk b l k → Says b l k answer
+  asked-says : MayAsk b l k → Says b l Bad k answer
   asked-says a = ⊎-elim
       (λ n. is (Says.window a n))
       (⊎-elim (λ o. is (Says.close a o)) (λ c. late-says (record { asked = a; close = c .0; latency = c .1; late = c .2; margin = c .3; figures = c .4 })))
       (three (full b l) (distances b) (b .deadline) (subst Growing (equation-is b l) (demand-growing b vs good paced)) (good .list))
 
-  answer-says : Says b l k answer
+  answer-says : Says b l Bad k answer
   answer-says = ⊎-elim
       (λ h. is (Says.run (inl h)))
       (λ low. ⊎-elim
@@ -234,15 +233,27 @@ module _ (b : Row) (l : List Row) (good : GoodRow b) (rows : All GoodRow l) (pac
       (lt-or-le maxRun k))
       (lt-or-le k 1)
 
--- demand 2: the answer of the miss query for a chain of an accepted table
-pub misses-mean : {s : List ℕ} {id : ℕ} → Has s id → (k : ℕ) (a : Answer) → Exactly (missesOf s id k ≡ a) (Says (chainOf s id) (othersOf s id) k a)
+-- the answer by a test for a chain of an accepted table, where bad by the test means the same as in words
+tested-mean : {s : List ℕ} {id : ℕ} → Has s id → (k : ℕ) (test : Test) (Bad : ℕ → ℕ → Type 0)
+    → (GoodRow (chainOf s id) → All GoodRow (othersOf s id) → Paced (viewed (chainOf s id) (othersOf s id)) → (f : Figured (chainOf s id) (othersOf s id) k) (m : ℕ)
+    → Exactly (badOf test (chainOf s id) (viewed (chainOf s id) (othersOf s id)) (marked (chainOf s id) (othersOf s id)) (f .close) m ≡ true) (Bad (f .close) m))
+    → (a : Answer) → Exactly (testedOf test s id k ≡ a) (Says (chainOf s id) (othersOf s id) Bad k a)
 unfolding demand.viewsOf
-misses-mean {s} {id} h k a =
+tested-mean {s} {id} h k test Bad means a =
     let t = table-good (h .table) in
     let b = t .row (chainNumber s id) (h .there) in
     let r = others-good (tableOf s) t (chainNumber s id) in
-    let p = others-paced (tableOf s) t (chainNumber s id) in
-    (λ e. subst (Says (chainOf s id) (othersOf s id) k) (sym (misses-are h k) ∙ e) (answer-says (chainOf s id) (othersOf s id) b r p k), λ x. misses-are h k ∙ says-answer (chainOf s id) (othersOf s id) b r p k x)
+    let p = others-paced (tableOf s) t (chainNumber s id) in (
+      λ e. subst (Says (chainOf s id) (othersOf s id) Bad k) (sym (tested-are h test k) ∙ e) (answer-says (chainOf s id) (othersOf s id) b r p k test Bad (means b r p)),
+      λ x. tested-are h test k ∙ says-answer (chainOf s id) (othersOf s id) b r p k test Bad (means b r p) x,
+    )
+
+-- demand 2: the answer of the miss query for a chain of an accepted table, and of the sieve
+pub misses-mean : {s : List ℕ} {id : ℕ} → Has s id → (k : ℕ) (a : Answer) → Exactly (missesOf s id k ≡ a) (SaysMissed (chainOf s id) (othersOf s id) k a)
+misses-mean {s} {id} h k a = tested-mean h k byWindows (IsBad (chainOf s id) (othersOf s id)) (λ b r p f. bad-means (chainOf s id) (othersOf s id) b r p (f .figures)) a
+
+pub sieve-means : {s : List ℕ} {id : ℕ} → Has s id → (k : ℕ) (a : Answer) → Exactly (testedOf bySieve s id k ≡ a) (SaysAtMost (chainOf s id) (othersOf s id) k a)
+sieve-means {s} {id} h k a = tested-mean h k bySieve (IsCalled (chainOf s id) (othersOf s id)) (λ b r p f. called-means (chainOf s id) (othersOf s id) (f .close)) a
 
 -- both at once
 pub answers-right : {s : List ℕ} {id : ℕ} → Has s id → Right s id

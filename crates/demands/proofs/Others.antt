@@ -20,6 +20,7 @@ use Rattle.windows.specs.Latency.{boundOf}
 use Rattle.windows.specs.declared.Windows.{Windows}
 use Rattle.windows.proofs.Views.{alike-bound}
 use Rattle.misses.specs.Overloads.{overloads}
+use Rattle.misses.specs.Bad.{byWindows}
 use Rattle.misses.specs.Misses.{missesBeside}
 use Rattle.misses.proofs.Views.{alike-misses}
 use Rattle.table.specs.Read.{tableOf}
@@ -27,7 +28,7 @@ use Rattle.slices.proofs.Parts.{rowIn}
 use Rattle.demands.specs.Chains.{IsTable, Has, chainOf, othersOf}
 use Rattle.demands.specs.Others.{SameSegment, Agrees, Besides, SameBesides, Unmoved, Reordered, SameWork, RegroupedTasks}
 use Rattle.demands.proofs.Regroupings.{grouped-actives, grouped-defers, grouped-first}
-use Rattle.demands.proofs.Chains.{own-row, latency-is, misses-are, latency-absent, misses-absent, bears, absent-or-there, none-bears, own-bears, one-bears, others-bear}
+use Rattle.demands.proofs.Chains.{own-row, latency-is, tested-are, latency-absent, misses-absent, bears, absent-or-there, none-bears, own-bears, one-bears, others-bear}
 
 -- chains that agree against b are alike to it
 agrees-alike : (b : Row) {a c : Row} → Agrees b a c → Alike (viewOf a b) (viewOf c b)
@@ -57,9 +58,9 @@ module _ {s r : List ℕ} {id : ℕ} (one : Has s id) (two : Has r id) (row : ch
         ∙ ap (λ x. boundOf x (map (λ a. viewOf a x) (othersOf r id)) .answer) row
         ∙ sym (latency-is two);
     misses = λ k.
-        misses-are one k ∙ alike-misses b alike k
+        tested-are one byWindows k ∙ alike-misses b alike k
         ∙ ap (λ x. missesBeside x (map (λ a. viewOf a x) (othersOf r id)) (overloads x (othersOf r id)) k) row
-        ∙ sym (misses-are two k);
+        ∙ sym (tested-are two byWindows k);
   }
 
 -- the latency answers are equal, and the miss answers are equal for every k, refusals included

@@ -16,7 +16,7 @@ use Rattle.segments.specs.View.{View}
 use Rattle.windows.specs.Demand.{viewsOf, others}
 use Rattle.windows.proofs.Besides.{others-good}
 use Rattle.misses.specs.Overloads.{Overload}
-use Rattle.misses.specs.Bad.{byWindows}
+use Rattle.misses.specs.Bad.{Test, byWindows}
 use Rattle.misses.specs.Misses.{overloadsOf, testedAt, testedIn, testedOf, missesAt, missesOf}
 use Rattle.misses.specs.declared.Answer.{Answer}
 use Rattle.misses.specs.declared.Answer.the-variants.{Misses, Refused}
@@ -43,13 +43,13 @@ module _ (s : List ℕ) (id : ℕ) where
   absent = eqb chain (tableOf s .count)
 
   -- never more than the run
-  answer-within : (k : ℕ) → Within k (missesOf s id k)
+  pub answer-within : (test : Test) (k : ℕ) → Within k (testedOf test s id k)
   unfolding testedOf testedIn testedAt _when_else_ absent
-  answer-within k = by (readTable s .verdict) absent
+  answer-within test k = by (readTable s .verdict) absent
     where
-      by : (v : Verdict) (t : Bool) → Within k (byVerdict Refused v (Refused 12 when t else missesAt (tableOf s) chain k))
+      by : (v : Verdict) (t : Bool) → Within k (byVerdict Refused v (Refused 12 when t else testedAt test (tableOf s) chain k))
       by Accepted true = tt
-      by Accepted false = beside-within byWindows b views os k
+      by Accepted false = beside-within test b views os k
       by (Faulty n place) t = tt
 
   -- never fewer in a longer run
@@ -64,14 +64,14 @@ module _ (s : List ℕ) (id : ℕ) where
       by (Faulty n place) e t = tt
 
 pub within-run : (s : List ℕ) (id k : ℕ) {n : ℕ} → missesOf s id k ≡ Misses n → n ≤ k
-within-run s id k e = subst (Within k) e (answer-within s id k)
+within-run s id k e = subst (Within k) e (answer-within s id byWindows k)
 
 pub longer-run : (s : List ℕ) → Bytes s → (id : ℕ) {k long n r : ℕ} → k ≤ long → missesOf s id k ≡ Misses n → missesOf s id long ≡ Misses r → n ≤ r
 longer-run s bytes id {k} {long} {n} {r} longer e f = subst (NoMore (Misses n)) f (subst (λ a. NoMore a (missesOf s id long)) e (answer-rises s id bytes k long longer))
 
 -- the report's last column
 pub last-column : (s : List ℕ) (id : ℕ) → LastColumn (missedText (missesOf s id missRun))
-last-column s id = by (missesOf s id missRun) (answer-within s id missRun)
+last-column s id = by (missesOf s id missRun) (answer-within s id byWindows missRun)
   where
     by : (a : Answer) → Within missRun a → LastColumn (missedText a)
     by (Misses n) h = inl (n, h, refl)

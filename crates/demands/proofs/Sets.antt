@@ -18,6 +18,7 @@ use Rattle.segments.specs.View.{View}
 use Rattle.windows.specs.Demand.{demandOf, typical}
 use Rattle.windows.specs.Window.{Solution, windowOf}
 use Rattle.windows.specs.Latency.{longer}
+use Rattle.windows.specs.Sieve.{due}
 use Rattle.windows.specs.declared.Window.the-variants.{At}
 use Rattle.windows.proofs.Growth.{Paced}
 use Rattle.windows.proofs.Least.{window-only, window-at}
@@ -27,6 +28,7 @@ use Rattle.misses.specs.Overloads.{Piece}
 use Rattle.misses.specs.Sets.{members, agree, together, allowed, setCost}
 use Rattle.misses.specs.Bad.{withCost, over, bad, byWindows}
 use Rattle.misses.specs.Misses.{badOf}
+use Rattle.misses.specs.Sieve.{called, bySieve}
 use Rattle.misses.proofs.Bools.{and-left, and-right}
 use Rattle.misses.proofs.Masks.{members-in, members-out}
 use Rattle.misses.proofs.Together.{agree-turn}
@@ -34,7 +36,7 @@ use Rattle.misses.proofs.Turning.{bit-zero}
 use Rattle.windows.proofs.Sweeps.{some-one, some-found}
 use Rattle.misses.proofs.Existence.{combination-window}
 use Rattle.demands.specs.Figures.{Exactly, Closes}
-use Rattle.demands.specs.Misses.{pieceOf, Combination, marked, pieces, full, IsBad}
+use Rattle.demands.specs.Misses.{pieceOf, Combination, marked, pieces, full, without, IsBad, IsCalled}
 use Rattle.demands.proofs.Equation.{viewed, equation-is, unmarked-is}
 
 -- two of one chain are of one segment
@@ -116,7 +118,7 @@ pub combination-allowed : (ps : List Piece) (m : ℕ) → Combination ps m → a
 unfolding allowed
 combination-allowed ps m c = ap₂ _&&_ (lt-ltb _ _ (c .below)) (together-all ps m (λ i j h k x y. one-agree (pieceOf ps i) (pieceOf ps j) (c .one i j h k x y)))
 
-typical-paced : (vs : List View) → Paced vs → Paced (typical vs)
+pub typical-paced : (vs : List View) → Paced vs → Paced (typical vs)
 unfolding typical
 typical-paced [] h = tt
 typical-paced (v ∷ vs) h = when-cases Paced _ (λ e. (h .0, typical-paced vs (h .1))) (λ e. typical-paced vs (h .1))
@@ -155,3 +157,37 @@ module _ (b : Row) (l : List Row) (good : GoodRow b) (rows : All GoodRow l) (pac
 
   pub bad-means : (m : ℕ) → Exactly (badOf byWindows b (viewed b l) (marked b l) close m ≡ true) (IsBad b l close m)
   bad-means m = (is-bad m, bad-is m)
+
+-- and called bad is what it says
+module _ (b : Row) (l : List Row) (close : ℕ) where
+  abbrev demand : ℕ → ℕ → ℕ → ℕ
+  demand m = withCost (demandOf b (typical (viewed b l))) (setCost (members (pieces b l) m))
+
+  abbrev passes : ℕ → ℕ → Bool
+  passes m q = ltb (due (distances b) (b .deadline) q) (demand m q (due (distances b) (b .deadline) q))
+
+  pub called-means : (m : ℕ) → Exactly (badOf bySieve b (viewed b l) (marked b l) close m ≡ true) (IsCalled b l close m)
+  unfolding badOf bad called
+  called-means m = (is-called, called-is)
+    where
+      same : demandOf b (typical (viewed b l)) ≡ without b l
+      same = unmarked-is b l
+
+      is-called : badOf bySieve b (viewed b l) (marked b l) close m ≡ true → IsCalled b l close m
+      is-called e =
+          let a = and-left (allowed (pieces b l) m) _ e in
+          let f = some-found (passes m) close (and-right (allowed (pieces b l) m) _ e) in
+          let t = due (distances b) (b .deadline) (f .0) in
+          record {
+            combination = allowed-combination (pieces b l) m a;
+            q = f .0;
+            low = f .1;
+            high = f .2;
+            above = subst (λ d. t < withCost d (setCost (members (pieces b l) m)) (f .0) t) same (ltb-true _ _ (f .3));
+          }
+
+      called-is : IsCalled b l close m → badOf bySieve b (viewed b l) (marked b l) close m ≡ true
+      called-is h =
+          let t = due (distances b) (b .deadline) (h .q) in
+          ap₂ _&&_ (combination-allowed (pieces b l) m (h .combination))
+          (some-one (passes m) close (h .q) (h .low) (h .high) (lt-ltb _ _ (subst (λ d. t < withCost d (setCost (members (pieces b l) m)) (h .q) t) (sym same) (h .above))))

@@ -1,5 +1,5 @@
 -- The starred cases of 01, 'Misses': the bad sets of the sample, and its answers for k = 10, 11 and 1. Assumes nothing.
-use Prim.Native.Nat.{ℕ, zero, suc, _+_, _*_, _-_, _≤_, _<_, max, min}
+use Prim.Native.Nat.{ℕ, zero, suc, _+_, _*_, _-_, _≤_, _<_, min}
 use mathlib.Core.Path.{_≡_, refl, ap, ap₂, sym, _∙_}
 use mathlib.Core.Bool.{Bool, true, false, _&&_, _||_}
 use mathlib.Core.List.{List, [], _∷_}
@@ -8,8 +8,8 @@ use native.Mathlib.Omega.{arith}
 use native.Mathlib.Nat.{mul-zero}
 use borrow.Author.Tests.{le-leb, lt-leb, lt-ltb, le-ltb, ne-eqb}
 use lib.Dec.{eqb, ltb, leb, lit≤}
-use lib.IntN.{negsuc}
-use lib.ListN.{getD}
+use lib.IntN.{ℤ, negsuc}
+use lib.ListN.{length, getD}
 use Rattle.search.specs.Choice.{_when_else_}
 use Rattle.search.specs.Find.{first, last}
 use Rattle.search.specs.Lists.{sumOf, mostOf, some, every}
@@ -18,6 +18,7 @@ use Rattle.table.specs.Limits.{horizon}
 use Rattle.table.specs.Record.{distances}
 use Rattle.table.specs.Find.{rowOf, findOf}
 use Rattle.table.specs.declared.Row.{Row}
+use Rattle.table.specs.declared.Table.{Table}
 use Rattle.table.specs.declared.Reading.{Reading}
 use Rattle.arrivals.specs.Arrivals.{asListed, δ, η, largest}
 use Rattle.table.specs.code.Good.{GoodDistances}
@@ -28,27 +29,26 @@ use Rattle.segments.specs.Actives.{startOf, numbered, inOrder, actives}
 use Rattle.segments.specs.View.{View, viewOf}
 use Rattle.windows.specs.Demand.{termOf, countedPart, demandOf, typical, others, viewsOf}
 use Rattle.windows.specs.Window.{windowOf}
-use Rattle.windows.specs.Latency.{long, ends, latencyAt, upTo, latencyTo, lateTo, longer, marginOf, endsWith, boundOf}
+use Rattle.windows.specs.Latency.{upTo, longer, boundOf}
 use Rattle.windows.specs.declared.Window.{Window}
 use Rattle.windows.specs.declared.Window.the-variants.{At, Nothing}
 use Rattle.windows.specs.declared.Answer.the-variants.{Figures}
 use Rattle.windows.proofs.Least.{window-at, window-none}
-use Rattle.windows.proofs.Walks.{Open, windows-end}
 use Rattle.packing.specs.Packing.{sumTo}
 use Rattle.packing.specs.Most.{mostUses}
 use Rattle.packing.specs.code.Plain.{reach}
 use Rattle.packing.proofs.Laws.{most-same}
 use Rattle.misses.specs.Overloads.{Overload, overloads, Piece, piecesFrom, piecesOf, capacitiesOf}
 use Rattle.misses.specs.Sets.{members, together, allowed, setCost}
-use Rattle.misses.specs.Bad.{withCost, over, bad, byWindows}
-use Rattle.misses.specs.Misses.{earlyOf, badOf, roomOf, packingFigure, missesOf, missesAt, testedIn}
+use Rattle.misses.specs.Bad.{withCost, over, bad, Test, byWindows}
+use Rattle.misses.specs.Misses.{earlyOf, badOf, roomOf, packingFigure, missedOf, testedAt, testedIn, testedOf, overloadsOf, missesOf}
 use Rattle.misses.specs.declared.Answer.the-variants.{Misses}
 use Rattle.misses.proofs.Prices.{allowed-past}
 use Rattle.misses.proofs.Starts.{starts}
 use Rattle.misses.proofs.Answers.{tested-accepted, chain-found, at-bound, counts, missed-packed}
 use Rattle.demands.specs.Starred.{sample}
-use Rattle.demands.proofs.Tables.{sampled, sample-reads}
-use Rattle.demands.proofs.StarredWindows.{sample-window}
+use Rattle.demands.proofs.Tables.{Reads, sampled, sample-reads}
+use Rattle.demands.proofs.StarredWindows.{bound-closes, sample-window}
 
 -- any two of three combinations of bits, and all three, with the same capacity each
 abbrev anyTwo : ℕ → Bool
@@ -92,7 +92,7 @@ unfolding sampled overloads capacitiesOf actives inOrder numbered startOf parts 
 room t = refl
 
 -- a list of one distance
-single : (d : ℕ) → 1 ≤ d → d ≤ 10000000 → GoodDistances (d ∷ [])
+pub single : (d : ℕ) → 1 ≤ d → d ≤ 10000000 → GoodDistances (d ∷ [])
 single d low high = record {
   some = lit≤ tt;
   few = lit≤ tt;
@@ -127,7 +127,7 @@ window-past d limit h = go (windowOf d) refl
     go (At t) e = let a = window-at d t e in lt-ltb limit t (omega (arith, a .solves, h t (a .low)))
     go Nothing e = refl
 
-window-within : (d : ℕ → ℕ) (limit s : ℕ) → 1 ≤ s → s ≤ limit → limit ≤ horizon → s ≡ d s → longer (windowOf d) limit ≡ false
+pub window-within : (d : ℕ → ℕ) (limit s : ℕ) → 1 ≤ s → s ≤ limit → limit ≤ horizon → s ≡ d s → longer (windowOf d) limit ≡ false
 window-within d limit s low high far solves = go (windowOf d) refl
   where
     go : (w : Window) → windowOf d ≡ w → longer w limit ≡ false
@@ -175,16 +175,8 @@ bad-sets m = bad-is m ∙ ⊎-elim (low-sets m)
 
 -- the full analysis: K is 1, and the only activation is late by 24
 bounds : boundOf b views ≡ record { answer = Figures 1 64 1 (negsuc 23); last = 64 }
-unfolding boundOf Open latencyTo lateTo latencyAt upTo mostOf sumOf sampled δ asListed _when_else_
-bounds =
-    let d = demandOf b views in
-    let ds = distances b in
-    let e = sample-window in
-    let latency : latencyTo d ds 1 ≡ 64 = ap (λ w. max (long w - δ ds 1) 0) e in
-    let late : lateTo d ds 40 1 ≡ 1 = ap (λ w. (1 when ltb 40 (long w - δ ds 1) else 0) + 0) e in
-    windows-end d ds 40 1 (lit≤ tt) (lit≤ tt) (ap (λ w. ends w (δ ds 2)) e) (λ q l m. absurd (omega arith))
-    ∙ ap (endsWith d ds 40 1) e
-    ∙ ap₂ (λ x y. record { answer = Figures 1 x y (marginOf 40 x); last = 64 }) latency late
+unfolding sampled δ asListed _when_else_
+bounds = bound-closes sample-reads 1 0 finds (lit≤ tt) 64 sample-window (lit≤ tt)
 
 -- a chain of the list 1000 starts once in up to 1000, and twice in up to 2000
 once : (t : ℕ) → 1 ≤ t → t ≤ 1000 → η (1000 ∷ []) t ≡ 1
@@ -207,16 +199,25 @@ no-excess : (n : ℕ) → n ≤ 40 → some (ltb 40) (n ∷ n ∷ n ∷ []) ≡ 
 unfolding some
 no-excess n h = rw (le-ltb 40 n h)
 
+-- a query that nothing refuses, where K is 1 and its activation is late
+module _ {s : List ℕ} {t : Table} (a : Reads s t) (id chain : ℕ) (found : findOf t id ≡ chain) (there : chain < t .count) (test : Test) (k x : ℕ) (margin : ℤ)
+    (early : earlyOf (rowOf t chain) k ≡ 0) (bound : boundOf (rowOf t chain) (viewsOf t chain) ≡ record { answer = Figures 1 x 1 margin; last = x }) where
+  pub tested-counts : length (piecesOf (overloadsOf t chain)) ≤ 6 → some (starts x) (overloadsOf t chain) ≡ false
+      → some (ltb 40) (roomOf (rowOf t chain) (overloadsOf t chain) k x) ≡ false
+      → testedOf test s id k ≡ Misses (missedOf test (rowOf t chain) (viewsOf t chain) (overloadsOf t chain) k 1 x 1)
+  tested-counts few once within =
+      tested-accepted test s id k (ap (λ (r : Reading). r .verdict) (a .reads))
+      ∙ ap (λ (r : Reading). testedIn test (r .table) id k) (a .reads)
+      ∙ chain-found test t id k (λ e. omega (arith, e, found, there))
+      ∙ ap (λ j. testedAt test t j k) found
+      ∙ sym (at-bound test t chain k early _ (sym bound))
+      ∙ counts test (rowOf t chain) (viewsOf t chain) (overloadsOf t chain) k 1 x 1 x (λ e. omega (arith, e)) few once within
+
 answers : (k n uses : ℕ) → earlyOf b k ≡ 0 → η (1000 ∷ []) (largest b k + 64) + 1 ≡ n → n ≤ 40 → mostUses anyTwo (each n) ≡ uses → missesOf sample 1 k ≡ Misses (min k uses)
 unfolding sampled packingFigure
 answers k n uses early e few most =
     let r = rooms k n e in
-    tested-accepted byWindows sample 1 k (ap (λ (x : Reading). x .verdict) (sample-reads .reads))
-    ∙ ap (λ (x : Reading). testedIn byWindows (x .table) 1 k) (sample-reads .reads)
-    ∙ chain-found byWindows sampled 1 k (λ x. omega (arith, x, finds))
-    ∙ ap (λ j. missesAt sampled j k) finds
-    ∙ sym (at-bound byWindows sampled 0 k early _ (sym bounds))
-    ∙ counts byWindows b views os k 1 64 1 64 (λ x. omega (arith, x)) (rw pieces (lit≤ tt)) starts-once (ap (some (ltb 40)) r ∙ no-excess n few)
+    tested-counts sample-reads 1 0 finds (lit≤ tt) byWindows k 64 (negsuc 23) early bounds (rw pieces (lit≤ tt)) starts-once (ap (some (ltb 40)) r ∙ no-excess n few)
     ∙ ap Misses (missed-packed byWindows b views os k 1 64 1 (bad-sets 0))
     ∙ ap (λ u. Misses (min k (1 * u))) (most-same (badOf byWindows b views os 1) anyTwo (λ i. getD (roomOf b os k 64) i 0) (each n) (λ m l h. bad-sets m) (λ i h. ap (λ l. getD l i 0) r) ∙ most)
     ∙ ap Misses (omega arith)

@@ -40,7 +40,7 @@ use Rattle.demands.proofs.Tables.{Reads, read-table, sampled, edgeTable
 read-good : {s : List ℕ} {t : Table} → Reads s t → GoodTable t
 read-good a = subst GoodTable (ap (λ (r : Reading). r .table) (a .reads)) (table-good (read-table a))
 
-abbrev demandAt : Table → ℕ → ℕ → ℕ → ℕ
+abbrev pub demandAt : Table → ℕ → ℕ → ℕ → ℕ
 demandAt t chain = demandOf (rowOf t chain) (viewsOf t chain)
 
 module _ {s : List ℕ} {t : Table} (a : Reads s t) (id chain : ℕ) (found : findOf t id ≡ chain) (there : chain < t .count) where
@@ -62,19 +62,21 @@ module _ {s : List ℕ} {t : Table} (a : Reads s t) (id chain : ℕ) (found : fi
       ∙ ap (λ j. boundOf (rowOf t j) (viewsOf t j) .answer) found
 
   -- the figures where the first window closes, and the refusal where there is none
-  closes : (x : ℕ) → windowOf (demandAt t chain 1) ≡ At x → x ≤ δ (distances (rowOf t chain)) 2
-      → latencyOf s id ≡ Figures 1 x (overOf x (rowOf t chain .deadline)) (marginOf (rowOf t chain .deadline) x)
+  pub bound-closes : (x : ℕ) → windowOf (demandAt t chain 1) ≡ At x → x ≤ δ (distances (rowOf t chain)) 2
+      → boundOf (rowOf t chain) (viewsOf t chain) ≡ record { answer = Figures 1 x (overOf x (rowOf t chain .deadline)) (marginOf (rowOf t chain .deadline) x); last = x }
   unfolding boundOf
-  closes x e h =
+  bound-closes x e h =
       let ds = distances (rowOf t chain) in
       let dl = rowOf t chain .deadline in
       let best : x ≡ max 0 (x - 0) = omega arith in
       let whole : x - 0 ≡ x = omega arith in
       let count : 0 + overOf (x - 0) dl ≡ overOf x dl = omega (arith, ap (λ y. overOf y dl) whole) in
-      answered
-      ∙ ap (λ (w : Windows). w .answer)
-      (sym (walk-close (demandAt t chain) ds dl growing (walk-start (demandAt t chain) ds dl (read-good a .row chain there .list)) (lit≤ tt) e best refl refl h))
-      ∙ ap (λ n. Figures 1 x n (marginOf dl x)) count
+      sym (walk-close (demandAt t chain) ds dl growing (walk-start (demandAt t chain) ds dl (read-good a .row chain there .list)) (lit≤ tt) e best refl refl h)
+      ∙ ap (λ n. record { answer = Figures 1 x n (marginOf dl x); last = x }) count
+
+  closes : (x : ℕ) → windowOf (demandAt t chain 1) ≡ At x → x ≤ δ (distances (rowOf t chain)) 2
+      → latencyOf s id ≡ Figures 1 x (overOf x (rowOf t chain .deadline)) (marginOf (rowOf t chain .deadline) x)
+  closes x e h = answered ∙ ap (λ (w : Windows). w .answer) (bound-closes x e h)
 
   refuses : windowOf (demandAt t chain 1) ≡ Nothing → latencyOf s id ≡ Refused 16
   unfolding boundOf
@@ -109,7 +111,7 @@ module _ {s : List ℕ} {t : Table} (a : Reads s t) (id chain : ℕ) (found : fi
   one-turn : (x : ℕ) → demandAt t chain 1 1 ≡ x → demandAt t chain 1 x ≡ x → x ≤ horizon → windowOf (demandAt t chain 1) ≡ At x
   one-turn x e f h = stop a id chain found there x (step a id chain found there 1 x (under-one (demandAt t chain 1)) e) h f
 
-  two-turns : (x y : ℕ) → demandAt t chain 1 1 ≡ x → demandAt t chain 1 x ≡ y → demandAt t chain 1 y ≡ y → y ≤ horizon → windowOf (demandAt t chain 1) ≡ At y
+  pub two-turns : (x y : ℕ) → demandAt t chain 1 1 ≡ x → demandAt t chain 1 x ≡ y → demandAt t chain 1 y ≡ y → y ≤ horizon → windowOf (demandAt t chain 1) ≡ At y
   two-turns x y e f g h = stop a id chain found there y (step a id chain found there x y (step a id chain found there 1 x (under-one (demandAt t chain 1)) e) f) h g
 
 -- chain 1: B(1) = 64

@@ -1,4 +1,4 @@
--- The tables of the starred cases and the witness as they are read: their bytes are bytes, and their rows are these. Assumes nothing.
+-- The tables of the starred cases and the witnesses as they are read: their bytes are bytes, and their rows are these. Assumes nothing.
 use Prim.Native.Nat.{ℕ, zero, suc}
 use mathlib.Core.Path.{_≡_, refl, ap}
 use mathlib.Core.Bool.{Bool, true, false, _&&_}
@@ -19,6 +19,7 @@ use Rattle.table.specs.declared.Row.{Row}
 use Rattle.table.specs.declared.Table.{Table}
 use Rattle.table.specs.declared.Reading.{Reading}
 use Rattle.demands.specs.Chains.{IsTable}
+use Rattle.demands.specs.Sieve.{twice}
 use Rattle.demands.specs.Starred.{sample, edge, past}
 use Rattle.demands.specs.Witness.{altered}
 
@@ -64,7 +65,7 @@ pub record Reads (s : List ℕ) (t : Table) : Type 0 where
 pub read-table : {s : List ℕ} {t : Table} → Reads s t → IsTable s
 read-table {s} a = record { bytes = small-bytes s (a .are); accepted = ap (λ (r : Reading). r .verdict) (a .reads) }
 
--- the sample, 'At the edge' and one tick more, and the witness beside the sample
+-- the sample, 'At the edge' and one tick more, the witness beside the sample, and the table on which the sieve differs
 unfoldable pub sampled : Table
 sampled = record {
   count = 4;
@@ -98,6 +99,17 @@ alteration = record {
       ∷ replicate 12 blank;
 }
 
+unfoldable pub twiceTable : Table
+twiceTable = record {
+  count = 3;
+  tasks = 4;
+  row =
+      chain 1 0 0 10 100 (100 ∷ []) ((5, 2) ∷ [])
+      ∷ chain 2 0 0 100 0 (8 ∷ []) ((9, 5) ∷ [])
+      ∷ chain 3 1 1 100 0 (1000 ∷ []) ((8, 1) ∷ (1, 1) ∷ [])
+      ∷ replicate 13 blank;
+}
+
 pub sample-reads : Reads sample sampled
 unfolding small sample sampled readTable records start unless chainFault headFault identityFault timesFault countsFault listFault distancesFault fallFault lastFault gapFault gapShort tasksFault taskFault taskMarkFault taskRestFault valuesFault endFault _then_ markOf word spaced rowAt findOf first _when_else_
 sample-reads = record { are = refl; reads = refl }
@@ -113,3 +125,7 @@ past-reads = record { are = refl; reads = refl }
 pub altered-reads : Reads altered alteration
 unfolding small altered alteration readTable records start unless chainFault headFault identityFault timesFault countsFault listFault distancesFault fallFault lastFault gapFault gapShort tasksFault taskFault taskMarkFault taskRestFault valuesFault endFault _then_ markOf word spaced rowAt findOf first _when_else_
 altered-reads = record { are = refl; reads = refl }
+
+pub twice-reads : Reads twice twiceTable
+unfolding small twice twiceTable readTable records start unless chainFault headFault identityFault timesFault countsFault listFault distancesFault fallFault lastFault gapFault gapShort tasksFault taskFault taskMarkFault taskRestFault valuesFault endFault _then_ markOf word spaced rowAt findOf first _when_else_
+twice-reads = record { are = refl; reads = refl }

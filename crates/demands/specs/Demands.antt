@@ -27,7 +27,8 @@ use Rattle.demands.specs.Merges.{MergeOfCopies}
 use Rattle.demands.specs.Rows.{RowsAndTables}
 use Rattle.demands.specs.Arrivals.{ArrivalRules}
 use Rattle.demands.specs.Figures.{Exactly}
-use Rattle.demands.specs.Misses.{MeansOf, Says, LastColumn, Right}
+use Rattle.demands.specs.Misses.{MeansOf, SaysMissed, LastColumn, Right}
+use Rattle.demands.specs.Sieve.{SecondWays}
 use Rattle.demands.specs.Others.{Besides, SameBesides, Unmoved, Reordered, SameWork, RegroupedTasks, DeadlineOrGap, SameCall}
 use Rattle.demands.specs.Starred.{sample}
 use Rattle.demands.specs.Witness.{altered}
@@ -58,11 +59,13 @@ pub record Demand2 : Type 0 where
   pub only : {s : List ℕ} {id : ℕ} → Has s id → (a : Latency) → MeansOf s id a → a ≡ latencyOf s id
   -- the miss count is the smaller of k and the late activations per window times the greatest feasible packing of bad combinations; it is
   -- k where a deadline is missed without any overload (02, request 3)
-  pub misses : {s : List ℕ} {id : ℕ} → Has s id → (k : ℕ) (a : Missed) → Exactly (missesOf s id k ≡ a) (Says (chainOf s id) (othersOf s id) k a)
+  pub misses : {s : List ℕ} {id : ℕ} → Has s id → (k : ℕ) (a : Missed) → Exactly (missesOf s id k ≡ a) (SaysMissed (chainOf s id) (othersOf s id) k a)
   -- so it never exceeds the run, nor 10 in the report's last column, and never falls as the run grows
   pub within-run : (s : List ℕ) (id k : ℕ) {n : ℕ} → missesOf s id k ≡ Misses n → n ≤ k
   pub last-column : (s : List ℕ) (id : ℕ) → LastColumn (missedText (missesOf s id missRun))
   pub longer-run : (s : List ℕ) → Bytes s → (id : ℕ) {k long n r : ℕ} → k ≤ long → missesOf s id k ≡ Misses n → missesOf s id long ≡ Misses r → n ≤ r
+  -- and it comes out the same by the plain engine; the sieve is never below it, refused alike (02, request 6)
+  pub second-ways : SecondWays
   -- the report prints a figure in decimal: the digits read back as the figure, and the first is no 0 but in 0 itself
   pub printed : (n : ℕ) → (valueFrom 0 (decimal n) ≡ n) × (0 < n → 48 < getD (decimal n) 0 0)
   -- an active segment is handed back as the records of its tasks

@@ -16,6 +16,7 @@ use Rattle.segments.specs.Query.{segmentOf, HandedBack, numberOf as segmentNumb
 use Rattle.segments.specs.declared.Answer.{Answer as Segment}
 use Rattle.windows.specs.Latency.{latencyOf, numberOf as latencyNumber}
 use Rattle.misses.specs.Misses.{missesOf, numberOf as missesNumber, valuesOf as missesFigures}
+use Rattle.misses.specs.Sieve.{atMostOf, numberOf as atMostNumber, valuesOf as atMostFigures}
 use Rattle.saving.specs.Save.{Saves, numberOf as saveNumber}
 use Rattle.merging.specs.Versions.{Versions}
 use Rattle.merging.specs.Merge.{Merges, foundOf, foundNumber, foundValues, Chosen, numberOf as mergeNumber}
@@ -23,7 +24,7 @@ use Rattle.writing.specs.Rows.{Typed}
 use Rattle.writing.specs.Write.{RowsRefusal, Writes, numberOf as writeNumber}
 use Rattle.writing.specs.Fill.{Fills, numberOf as fillNumber}
 use Rattle.report_text.specs.Report.{Reported}
-use Rattle.editor.specs.Entry.{latencyFigures, LatencyEntry, MissesEntry, SegmentEntry, SaveEntry, CheckEntry, MergeEntry, ConflictEntry, ReadEntry, WriteEntry, RecordEntry, ReportEntry, version}
+use Rattle.editor.specs.Entry.{latencyFigures, LatencyEntry, MissesEntry, PlainEntry, AtMostEntry, SegmentEntry, SaveEntry, CheckEntry, MergeEntry, ConflictEntry, ReadEntry, WriteEntry, RecordEntry, ReportEntry, version}
 
 -- n lies between low and high, both included
 abbrev pub Between : ℕ → ℕ → ℕ → Type 0
@@ -104,6 +105,9 @@ pub record EveryEntry : Type 0 where
   -- `windows::latency`, `misses::misses`
   pub latency : (s : List ℕ) (id : ℕ) → Query (λ a. a ≡ latencyOf s id) LatencyRefusal 4 latencyNumber latencyFigures
   pub misses : (s : List ℕ) (id k : ℕ) → Query (λ a. a ≡ missesOf s id k) MissesRefusal 1 missesNumber missesFigures
+  -- `misses::misses_plain`, `misses::at_most`
+  pub misses-plain : (s : List ℕ) (id k : ℕ) → Query (λ a. a ≡ missesOf s id k) MissesRefusal 1 missesNumber missesFigures
+  pub at-most : (s : List ℕ) (id k : ℕ) → Query (λ a. a ≡ atMostOf s id k) MissesRefusal 1 atMostNumber atMostFigures
   -- `segments::segment`, `segments::segment_part`
   pub segment : (s : List ℕ) (id against number : ℕ) → Query (λ a. a ≡ segmentOf s id against number) SegmentRefusal 2 segmentNumber segmentFigures
   pub part : (table : RefT (List ℕ)) (id against number : ℕ) → OnePart table (segmentOf (now table) id against number)
@@ -120,9 +124,11 @@ pub record EveryEntry : Type 0 where
   pub record-place : (s : List ℕ) (id : ℕ) → Query (λ a. a ≡ locatedOf s id) RecordRefusal 2 locatedNumber locatedFigures
   -- `report_text::report`
   pub report : (s before : List ℕ) → OneResult (Reported s before)
-  -- `mishtodran_latency`, `mishtodran_misses`, `mishtodran_record`, `mishtodran_segment`
+  -- `mishtodran_latency`, `mishtodran_misses`, `mishtodran_misses_plain`, `mishtodran_misses_at_most`, `mishtodran_record`, `mishtodran_segment`
   pub latency-entry : (s : List ℕ) (id : ℕ) (before : List ℕ) → Call (LatencyEntry s id before) (AtEntry LatencyRefusal) (λ r. r) before
   pub misses-entry : (s : List ℕ) (id k : ℕ) (before : List ℕ) → Call (MissesEntry s id k before) (AtEntry MissesRefusal) (λ r. r) before
+  pub plain-entry : (s : List ℕ) (id k : ℕ) (before : List ℕ) → Call (PlainEntry s id k before) (AtEntry MissesRefusal) (λ r. r) before
+  pub at-most-entry : (s : List ℕ) (id k : ℕ) (before : List ℕ) → Call (AtMostEntry s id k before) (AtEntry MissesRefusal) (λ r. r) before
   pub record-entry : (s : List ℕ) (id : ℕ) (before : List ℕ) → Call (RecordEntry s id before) (AtEntry RecordRefusal) (λ r. r) before
   pub segment-entry : (s : List ℕ) (id against number : ℕ) (before : List ℕ) → Call (SegmentEntry s id against number before) (AtEntry SegmentRefusal) (λ r. r) before
   -- `mishtodran_conflict`

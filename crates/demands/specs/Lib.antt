@@ -6,6 +6,7 @@ pub mod Arrivals
 pub mod Equation
 pub mod Figures
 pub mod Misses
+pub mod Sieve
 pub mod Others
 pub mod Merges
 pub mod Rows

@@ -68,6 +68,14 @@ module _ (b : Row) (l : List Row) where
     pub window : Solution (withCost without (setCost (members pieces m)) q) t
     pub late : δ (distances b) q + b .deadline < t
 
+  -- one that the sieve calls bad (02, request 6): with the set's costs added once, for some q ≤ K the demand at t = δ(q) + deadline is above t
+  pub record IsCalled (close m : ℕ) : Type 0 where
+    pub combination : Combination pieces m
+    pub q : ℕ
+    pub low : 1 ≤ q
+    pub high : q ≤ close
+    pub above : δ (distances b) q + b .deadline < withCost without (setCost (members pieces m)) q (δ (distances b) q + b .deadline)
+
   -- before any window: k in 1 to 1,000, no overload chain, a known gap
   pub record MayAsk (k : ℕ) : Type 0 where
     pub low : 1 ≤ k
@@ -92,7 +100,7 @@ module _ (b : Row) (l : List Row) where
   abbrev pub AtMostSix : Type 0
   AtMostSix = length pieces ≤ maxOverloads
 
-  -- no overload chain may start more than once in the last window; no capacity above 40; no miss without any overload
+  -- no overload chain may start more than once in the last window; no capacity above 40
   module _ {k : ℕ} (f : Figured k) where
     abbrev pub Once : Type 0
     Once = All (λ o. η (o .list) (lastOf f) ≤ 1) marked
@@ -100,39 +108,50 @@ module _ (b : Row) (l : List Row) where
     abbrev pub Capped : Type 0
     Capped = (i : ℕ) → i < length pieces → capacityOf k (f .latency) i ≤ maxCapacity
 
-    abbrev pub Fine : Type 0
-    Fine = IsBad (f .close) 0 → ⊥
+  -- by what makes a combination bad, for q up to K
+  module _ (Bad : ℕ → ℕ → Type 0) where
+    module _ {k : ℕ} (f : Figured k) where
+      -- no miss without any overload
+      abbrev pub Fine : Type 0
+      Fine = Bad (f .close) 0 → ⊥
 
-    -- the most uses that a packing of the bad combinations has, no active segment beyond its capacity: reached by one, exceeded by none
-    pub record Most (uses : ℕ) : Type 0 where
-      pub bad : ℕ → Bool
-      pub is : (m : ℕ) → Exactly (bad m ≡ true) (IsBad (f .close) m)
-      pub most : IsMost bad (capacityOf k (f .latency)) uses
+      -- the most uses that a packing of the bad combinations has, no active segment beyond its capacity: reached by one, exceeded by none
+      pub record Most (uses : ℕ) : Type 0 where
+        pub bad : ℕ → Bool
+        pub is : (m : ℕ) → Exactly (bad m ≡ true) (Bad (f .close) m)
+        pub most : IsMost bad (capacityOf k (f .latency)) uses
 
-  -- what each answer says, in document 01's order as document 02, request 3, has changed it
-  pub data Says (k : ℕ) : Answer → Type 0 where
-    -- k outside 1 to 1,000
-    run : (k < 1) ⊎ (maxRun < k) → Says k (Refused 13)
-    -- asked of an overload chain
-    overload : 1 ≤ k → k ≤ maxRun → (b .overload ≡ 0 → ⊥) → Says k (Refused 14)
-    -- asked of a chain with gap 0
-    gap : 1 ≤ k → k ≤ maxRun → b .overload ≡ 0 → b .gap ≡ 0 → Says k (Refused 15)
-    -- a needed window has no solution
-    window : MayAsk k → NoWindow full (distances b) → Says k (Refused 16)
-    -- no close by activation 1,024
-    close : MayAsk k → NoClose full (distances b) → Says k (Refused 17)
-    -- zero late activations
-    none : (f : Figured k) → f .late ≡ 0 → Says k (Misses 0)
-    -- over 6 overload active segments
-    many : (f : Figured k) → 1 ≤ f .late → (AtMostSix → ⊥) → Says k (Refused 18)
-    -- an overload chain may start more than once in the last window
-    again : (f : Figured k) → 1 ≤ f .late → AtMostSix → (Once f → ⊥) → Says k (Refused 19)
-    -- a capacity above 40
-    above : (f : Figured k) → 1 ≤ f .late → AtMostSix → Once f → (Capped f → ⊥) → Says k (Refused 21)
-    -- a miss without any overload: all of them
-    always : (f : Figured k) → 1 ≤ f .late → AtMostSix → Once f → Capped f → IsBad (f .close) 0 → Says k (Misses k)
-    -- the smaller of k and the packing figure: late times the most uses that any packing has
-    packed : (f : Figured k) (uses : ℕ) → 1 ≤ f .late → AtMostSix → Once f → Capped f → Fine f → Most f uses → Says k (Misses (min k (f .late * uses)))
+    -- what each answer says, in document 01's order as document 02, request 3, has changed it
+    pub data Says (k : ℕ) : Answer → Type 0 where
+      -- k outside 1 to 1,000
+      run : (k < 1) ⊎ (maxRun < k) → Says k (Refused 13)
+      -- asked of an overload chain
+      overload : 1 ≤ k → k ≤ maxRun → (b .overload ≡ 0 → ⊥) → Says k (Refused 14)
+      -- asked of a chain with gap 0
+      gap : 1 ≤ k → k ≤ maxRun → b .overload ≡ 0 → b .gap ≡ 0 → Says k (Refused 15)
+      -- a needed window has no solution
+      window : MayAsk k → NoWindow full (distances b) → Says k (Refused 16)
+      -- no close by activation 1,024
+      close : MayAsk k → NoClose full (distances b) → Says k (Refused 17)
+      -- zero late activations
+      none : (f : Figured k) → f .late ≡ 0 → Says k (Misses 0)
+      -- over 6 overload active segments
+      many : (f : Figured k) → 1 ≤ f .late → (AtMostSix → ⊥) → Says k (Refused 18)
+      -- an overload chain may start more than once in the last window
+      again : (f : Figured k) → 1 ≤ f .late → AtMostSix → (Once f → ⊥) → Says k (Refused 19)
+      -- a capacity above 40
+      above : (f : Figured k) → 1 ≤ f .late → AtMostSix → Once f → (Capped f → ⊥) → Says k (Refused 21)
+      -- a miss without any overload: all of them
+      always : (f : Figured k) → 1 ≤ f .late → AtMostSix → Once f → Capped f → Bad (f .close) 0 → Says k (Misses k)
+      -- the smaller of k and the packing figure: late times the most uses that any packing has
+      packed : (f : Figured k) (uses : ℕ) → 1 ≤ f .late → AtMostSix → Once f → Capped f → Fine f → Most f uses → Says k (Misses (min k (f .late * uses)))
+
+  -- the miss count, by the bad combinations; and by those that the sieve calls bad
+  abbrev pub SaysMissed : ℕ → Answer → Type 0
+  SaysMissed k a = Says IsBad k a
+
+  abbrev pub SaysAtMost : ℕ → Answer → Type 0
+  SaysAtMost k a = Says IsCalled k a
 
 -- what the report has for the misses: a number up to 10, or `r` and a refusal
 abbrev pub LastColumn : List ℕ → Type 0
@@ -145,4 +164,4 @@ MeansOf s id a = Means (full (chainOf s id) (othersOf s id)) (distances (chainOf
 -- the answers for a chain of an accepted table are those of the words
 pub record Right (s : List ℕ) (id : ℕ) : Type 0 where
   pub latency : MeansOf s id (latencyOf s id)
-  pub misses : (k : ℕ) (a : Answer) → Exactly (missesOf s id k ≡ a) (Says (chainOf s id) (othersOf s id) k a)
+  pub misses : (k : ℕ) (a : Answer) → Exactly (missesOf s id k ≡ a) (SaysMissed (chainOf s id) (othersOf s id) k a)

@@ -6,7 +6,7 @@ use mathlib.Core.Bool.{Bool, true, false, _&&_}
 use mathlib.Core.List.{List, map}
 use mathlib.Core.Logic.{⊎-elim}
 use native.Mathlib.Omega.{arith}
-use native.Mathlib.Nat.{mul-le-mul-left, le-refl}
+use native.Mathlib.Nat.{mul-le-mul-left, le-refl, eq-or-lt-of-le}
 use borrow.Author.Tests.{lt-ltb, ltb-true}
 use lib.Dec.{ltb, eqb}
 use lib.IntN.{ℤ}
@@ -29,6 +29,7 @@ use Rattle.windows.specs.declared.Answer.the-variants.{Figures, Refused as Unbo
 use Rattle.windows.specs.declared.Window.the-variants.{At}
 use Rattle.windows.proofs.Least.{Grows, window-at, window-fits}
 use Rattle.windows.proofs.Growth.{Paced, demand-growing}
+use Rattle.windows.proofs.Closing.{Closes, answer-closed}
 use Rattle.windows.proofs.Sweeps.{some-one, some-found}
 use Rattle.packing.proofs.Laws.{most-rises}
 use Rattle.misses.specs.Overloads.{Overload, overloads, piecesOf}
@@ -131,3 +132,20 @@ module _ (test wider : Test) (b : Row) (views : List View) (os : List Overload) 
       by : (x : Bound) → boundOf b views .answer ≡ x → Bounded (byBound test b views os k x (boundOf b views .last)) (byBound wider b views os k x (boundOf b views .last))
       by (Figures close latency late margin) e = figures-bounded close latency late (calls close latency late margin e) (boundOf b views .last)
       by (Unbounded n) e = Bounded.alike
+
+-- the sieve beside the windows, for a chain b beside the others
+pub sieve-bounded : (b : Row) (l : List Row) → GoodRow b → All GoodRow l → Paced (typical (map (λ a. viewOf a b) l)) → (k : ℕ)
+    → Bounded (testedBeside byWindows b (map (λ a. viewOf a b) l) (overloads b l) k) (testedBeside bySieve b (map (λ a. viewOf a b) l) (overloads b l) k)
+unfolding boundOf
+sieve-bounded b l good rows paced k =
+    beside-bounded byWindows bySieve b (map (λ a. viewOf a b) l) (overloads b l) k
+    (λ close latency late margin e. bad-called b l good rows paced (λ q low high. there close (answer-closed demand (distances b) (b .deadline) e .closes) q low high))
+  where
+    demand : ℕ → ℕ → ℕ
+    demand = demandOf b (map (λ a. viewOf a b) l)
+
+    there : (close : ℕ) {t : ℕ} → Closes demand (distances b) close t → (q : ℕ) → 1 ≤ q → q ≤ close → (s : ℕ) × (windowOf (demand q) ≡ At s)
+    there close {t} c q low high = ⊎-elim
+        (λ e. (t, ap (λ q. windowOf (demand q)) e ∙ c .last))
+        (λ h. let r = c .reach q low h in (r .0, r .1))
+        (eq-or-lt-of-le high)
