@@ -19,9 +19,11 @@
  * Duration: every call ends; how soon is measured, not proved. On an x86-64 machine of 2 GHz, a check, a segment, a
  * record or a save takes about a microsecond at most, a read, a write, a merge or its conflicts a few, and any call on
  * an ordinary table less than a millisecond. The slowest tables that we know have chains that take nearly all of the
- * time, so that a window is climbed to in millions of steps: there a latency or misses take some tenths of a second, and
- * a report, which asks for both of every chain, may take seconds. An editor that must not stand still makes these calls
- * in a thread of its own.
+ * time, so that a window is climbed to in millions of steps: there a latency, misses or their bound by
+ * mishtodran_misses_at_most take some tenths of a second, and a report, which asks for latency and misses of every chain,
+ * may take seconds. An editor that must not stand still makes these calls in a thread of its own.
+ * mishtodran_misses_plain is apart: it goes through every packing, and may take longer than anyone waits. No other entry
+ * calls it.
  */
 #ifndef MISHTODRAN_H
 #define MISHTODRAN_H
@@ -35,7 +37,7 @@ extern "C" {
 
 /* The version of this header; mishtodran_version gives that of the library. An editor compares them at its start: where
  * they differ, an answer, a refusal or an entry may. CHANGELOG.md says which. */
-#define MISHTODRAN_VERSION 5
+#define MISHTODRAN_VERSION 6
 
 /* The limits. A table beyond one of them is refused, and so is a k. */
 enum {
@@ -182,6 +184,8 @@ enum {
     MISHTODRAN_CHECK_BYTES = 8,
     MISHTODRAN_LATENCY_BYTES = 16,
     MISHTODRAN_MISSES_BYTES = 4,
+    MISHTODRAN_MISSES_PLAIN_BYTES = 4,
+    MISHTODRAN_MISSES_AT_MOST_BYTES = 4,
     MISHTODRAN_SEGMENT_BYTES = 8,
     MISHTODRAN_SAVE_BYTES = 4,
     MISHTODRAN_MERGE_BYTES = 4,
@@ -222,6 +226,27 @@ uint32_t mishtodran_latency(const uint8_t *table, size_t table_len, uint32_t id,
  * Refuses with 27, then a table's number, 12, 13, 14, 15, 16 or 17, 18, 19, 21. */
 uint32_t mishtodran_misses(const uint8_t *table, size_t table_len, uint32_t id, uint32_t k,
                            uint8_t *answer, size_t answer_len);
+
+/* The same bound as mishtodran_misses, found a second way: 4 bytes of answer. An engine goes through every packing of the
+ * bad combinations of overload active segments, in a plain order and without leaving any out, and takes the most uses
+ * that it meets. It may take very long where capacities are large: the packings grow with the product of the numbers of
+ * uses. The sample has 16 of them for k = 10 and 194,481 for k = 390; six active segments that may be used 40 times each
+ * have more than could ever be gone through. It is there to compare with where these are few.
+ * Returns and answers what mishtodran_misses does, on every call: refuses with 27, then a table's number, 12, 13, 14, 15,
+ * 16 or 17, 18, 19, 21. Refused, it is as quick. */
+uint32_t mishtodran_misses_plain(const uint8_t *table, size_t table_len, uint32_t id, uint32_t k,
+                                 uint8_t *answer, size_t answer_len);
+
+/* At most so many misses: a number that the answer of mishtodran_misses to the same call does not exceed, 4 bytes of
+ * answer. It may be larger, so it is to be shown as 'at most' and never as that answer. It comes from the sufficient test
+ * of a published work: for each of the K activations, demand is worked out once, at the soonest that it can come plus the
+ * deadline, and where it is above that the combination is called bad. A good combination may be called bad, a bad one is
+ * never called good. The number never exceeds k. It is 0 where no activation is late, and k where the empty combination
+ * is called bad, though no deadline may be missed without overload.
+ * Refuses with 27, then a table's number, 12, 13, 14, 15, 16 or 17, 18, 19, 21: where mishtodran_misses does, with the
+ * same number. */
+uint32_t mishtodran_misses_at_most(const uint8_t *table, size_t table_len, uint32_t id, uint32_t k,
+                                   uint8_t *answer, size_t answer_len);
 
 /* Where active segment `number` (from 1) of chain `id` against chain `against` stands in the table: 8 bytes of
  * answer, its offset from the table's first byte and its length in bytes.
