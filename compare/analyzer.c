@@ -579,6 +579,8 @@ bool plain_climbs_take(const uint8_t *table, size_t table_len, uint64_t steps)
 
 /* ---- Misses ---- */
 
+enum { MOST_COMBINATIONS = 1 << MOST_OVERLOAD_SEGMENTS };
+
 /* One bit of a combination. */
 struct overload_segment {
     const struct chain *chain;
@@ -655,12 +657,29 @@ static bool is_bad(struct load load, uint64_t K, uint64_t combination_cost)
     return false;
 }
 
-/* The bad combinations among all that are allowed; how many there are. */
-static unsigned gather_bad(const struct load *load, uint64_t K, const struct overload *overload, uint8_t bad[64])
+/* Whether the sufficient test of document 000, section V.C, calls a combination bad: for some q up to K the demand at
+   t = δ(q) + deadline is above t, which may lie above the horizon. `load` is without the overload chains. */
+static bool is_called_bad(struct load load, uint64_t K, uint64_t combination_cost)
+{
+    load.extra = combination_cost;
+    for (uint64_t q = 1; q <= K; q++) {
+        uint64_t t = smallest_distance(load.b, q) + load.b->deadline;
+        if (demand(&load, q, t) > t)
+            return true;
+    }
+    return false;
+}
+
+/* One of the two tests. */
+typedef bool bad_test(struct load load, uint64_t K, uint64_t combination_cost);
+
+/* The combinations, among all that are allowed, that a test finds bad; how many there are. */
+static unsigned gather_bad(const struct load *load, uint64_t K, const struct overload *overload, bad_test *test,
+                           uint8_t bad[MOST_COMBINATIONS])
 {
     unsigned count = 0;
     for (unsigned combination = 0; combination < 1u << overload->count; combination++)
-        if (is_allowed(overload, combination) && is_bad(*load, K, cost_of_combination(overload, combination)))
+        if (is_allowed(overload, combination) && test(*load, K, cost_of_combination(overload, combination)))
             bad[count++] = (uint8_t)combination;
     return count;
 }
@@ -674,6 +693,82 @@ static bool set_capacities(struct overload *overload, uint64_t reach)
             return false;
     }
     return true;
+}
+
+/* ---- The room of a packing ---- */
+
+/* All of the capacities. */
+static void give_all(const struct overload *overload, unsigned room[MOST_OVERLOAD_SEGMENTS])
+{
+    for (unsigned i = 0; i < MOST_OVERLOAD_SEGMENTS; i++)
+        room[i] = i < overload->count ? (unsigned)overload->bit[i].capacity : 0;
+}
+
+/* How often a set can be used in the room that is left. */
+static unsigned room_for(const unsigned *room, unsigned set)
+{
+    unsigned least = UINT32_MAX;
+    for (unsigned i = 0; i < MOST_OVERLOAD_SEGMENTS; i++)
+        if (holds(set, i) && room[i] < least)
+            least = room[i];
+    return least;
+}
+
+static void use(unsigned *room, unsigned set, unsigned times)
+{
+    for (unsigned i = 0; i < MOST_OVERLOAD_SEGMENTS; i++)
+        if (holds(set, i))
+            room[i] -= times;
+}
+
+static void give_back(unsigned *room, unsigned set, unsigned times)
+{
+    for (unsigned i = 0; i < MOST_OVERLOAD_SEGMENTS; i++)
+        if (holds(set, i))
+            room[i] += times;
+}
+
+/* ---- Every packing ---- */
+
+/* The bad combinations, all of them, and how many packings may still be met. */
+struct every_packing {
+    const uint8_t *bad;
+    unsigned count;
+    unsigned room[MOST_OVERLOAD_SEGMENTS]; /* what is left of the capacities */
+    unsigned best;
+    uint64_t left;
+};
+
+/* Meets the packing that stands, of so many uses, then each that has more of the combinations from `from` on. */
+static void meet_from(struct every_packing *every, unsigned from, unsigned uses)
+{
+    if (every->left == 0)
+        return;
+    every->left--;
+    if (uses > every->best)
+        every->best = uses;
+    for (unsigned i = from; i < every->count; i++) {
+        if (room_for(every->room, every->bad[i]) == 0)
+            continue;
+        use(every->room, every->bad[i], 1);
+        meet_from(every, i, uses + 1);
+        give_back(every->room, every->bad[i], 1);
+    }
+}
+
+/* Meets every packing once, or so many of them where there are more. */
+static struct every_packing meet_packings(const struct overload *overload, const uint8_t *bad, unsigned count,
+                                          uint64_t most)
+{
+    struct every_packing every = {.bad = bad, .count = count, .left = most};
+    give_all(overload, every.room);
+    meet_from(&every, 0, 0);
+    return every;
+}
+
+static unsigned most_uses_of_every(const struct overload *overload, const uint8_t *bad, unsigned count)
+{
+    return meet_packings(overload, bad, count, UINT64_MAX).best;
 }
 
 /* ---- The greatest packing ---- */
@@ -770,30 +865,6 @@ static unsigned bound(const struct packing *packing, unsigned from)
     return lowest;
 }
 
-/* How often a set can be used in the room that is left. */
-static unsigned room_for(const struct packing *packing, unsigned set)
-{
-    unsigned least = UINT32_MAX;
-    for (unsigned i = 0; i < MOST_OVERLOAD_SEGMENTS; i++)
-        if (holds(set, i) && packing->room[i] < least)
-            least = packing->room[i];
-    return least;
-}
-
-static void use(struct packing *packing, unsigned set, unsigned times)
-{
-    for (unsigned i = 0; i < MOST_OVERLOAD_SEGMENTS; i++)
-        if (holds(set, i))
-            packing->room[i] -= times;
-}
-
-static void give_back(struct packing *packing, unsigned set, unsigned times)
-{
-    for (unsigned i = 0; i < MOST_OVERLOAD_SEGMENTS; i++)
-        if (holds(set, i))
-            packing->room[i] += times;
-}
-
 /* Depth first: each set as often as it fits, then once less, and so on. */
 static void pack(struct packing *packing, unsigned from, unsigned uses)
 {
@@ -802,10 +873,10 @@ static void pack(struct packing *packing, unsigned from, unsigned uses)
     if (from == packing->count || uses + bound(packing, from) <= packing->best)
         return;
     unsigned set = packing->set[from];
-    for (unsigned times = room_for(packing, set) + 1; times-- > 0;) {
-        use(packing, set, times);
+    for (unsigned times = room_for(packing->room, set) + 1; times-- > 0;) {
+        use(packing->room, set, times);
         pack(packing, from + 1, uses + times);
-        give_back(packing, set, times);
+        give_back(packing->room, set, times);
     }
 }
 
@@ -813,11 +884,9 @@ static unsigned most_uses(const struct overload *overload, const uint8_t *bad, u
 {
     struct packing packing;
     packing.count = packing.best = 0;
-    memset(packing.room, 0, sizeof packing.room);
     memset(packing.cuts, 0, sizeof packing.cuts);
     keep_smallest(bad, count, &packing);
-    for (unsigned i = 0; i < overload->count; i++)
-        packing.room[i] = (unsigned)overload->bit[i].capacity;
+    give_all(overload, packing.room);
     for (unsigned weights = 1; weights < 1u << 2 * overload->count; weights++)
         note_cuts(&packing, weights);
     pack(&packing, 0, 0);
@@ -834,29 +903,35 @@ static uint32_t latency_of(const struct table *table, uint32_t id, const struct 
     return analyze(table, *b, figures);
 }
 
-/* Late times the most uses of any packing, for a chain whose late activations are more than none. */
-static uint32_t figure_of_late(const struct table *table, const struct chain *b, uint32_t k,
-                               const struct figures *figures, uint64_t *figure)
-{
+/* What a miss query comes down to where nothing is refused. Without a late activation the rest is not looked at, and with
+   the empty set bad no packing is. */
+struct miss_case {
+    uint64_t late;
+    bool empty_is_bad;
     struct overload overload;
-    if (gather_overload(table, b, &overload))
+    unsigned count; /* of bad combinations */
+    uint8_t bad[MOST_COMBINATIONS];
+};
+
+/* The case of a chain whose late activations are more than none. */
+static uint32_t case_of_late(const struct table *table, const struct chain *b, uint32_t k,
+                             const struct figures *figures, bad_test *test, struct miss_case *found)
+{
+    if (gather_overload(table, b, &found->overload))
         return 18;
     if (overload_starts_again(table, figures->last_window))
         return 19;
-    if (!set_capacities(&overload, (uint64_t)(k - 1) * b->gap + figures->latency))
+    if (!set_capacities(&found->overload, (uint64_t)(k - 1) * b->gap + figures->latency))
         return 21;
     struct load load = load_of(table, b, false);
-    *figure = PLAIN_NO_MOST;
-    if (is_bad(load, figures->K, 0))
-        return 0; /* the empty set takes no room, so it can be used without end */
-    uint8_t bad[64];
-    unsigned count = gather_bad(&load, figures->K, &overload, bad);
-    *figure = figures->late * most_uses(&overload, bad, count);
+    found->empty_is_bad = test(load, figures->K, 0);
+    if (!found->empty_is_bad)
+        found->count = gather_bad(&load, figures->K, &found->overload, test, found->bad);
     return 0;
 }
 
-/* The packing figure: 0 where nothing is late, no most where the empty set is bad. */
-static uint32_t figure_of(const struct table *table, uint32_t id, uint32_t k, uint64_t *figure)
+/* The case of a query, its combinations tested in this way. */
+static uint32_t case_of(const struct table *table, uint32_t id, uint32_t k, bad_test *test, struct miss_case *found)
 {
     const struct chain *b = find_chain(table, id);
     if (!b)
@@ -871,15 +946,41 @@ static uint32_t figure_of(const struct table *table, uint32_t id, uint32_t k, ui
     uint32_t refusal = analyze(table, b, &figures);
     if (refusal)
         return refusal;
-    *figure = 0;
-    return figures.late == 0 ? 0 : figure_of_late(table, b, k, &figures, figure);
+    found->late = figures.late;
+    return found->late == 0 ? 0 : case_of_late(table, b, k, &figures, test, found);
+}
+
+/* A way to a count of misses: the test of a combination, and the engine that finds the most uses. */
+struct way {
+    bad_test *test;
+    unsigned (*most_uses)(const struct overload *overload, const uint8_t *bad, unsigned count);
+};
+
+static const struct way by_windows = {is_bad, most_uses};
+static const struct way by_every_packing = {is_bad, most_uses_of_every};
+static const struct way by_sieve = {is_called_bad, most_uses};
+
+/* The packing figure: 0 where nothing is late, no most where the empty set is bad. */
+static uint32_t figure_of(const struct table *table, uint32_t id, uint32_t k, const struct way *way, uint64_t *figure)
+{
+    struct miss_case found;
+    uint32_t refusal = case_of(table, id, k, way->test, &found);
+    if (refusal)
+        return refusal;
+    if (found.late == 0)
+        *figure = 0;
+    else if (found.empty_is_bad)
+        *figure = PLAIN_NO_MOST; /* it takes no room, so it can be used without end */
+    else
+        *figure = found.late * way->most_uses(&found.overload, found.bad, found.count);
+    return 0;
 }
 
 /* The smaller of k and the packing figure. */
-static uint32_t misses_of(const struct table *table, uint32_t id, uint32_t k, uint32_t *misses)
+static uint32_t misses_of(const struct table *table, uint32_t id, uint32_t k, const struct way *way, uint32_t *misses)
 {
     uint64_t figure;
-    uint32_t refusal = figure_of(table, id, k, &figure);
+    uint32_t refusal = figure_of(table, id, k, way, &figure);
     if (refusal)
         return refusal;
     *misses = figure < k ? (uint32_t)figure : k;
@@ -1250,26 +1351,64 @@ uint32_t plain_latency(const uint8_t *table, size_t table_len, uint32_t id, uint
     return 0;
 }
 
-uint32_t plain_misses(const uint8_t *table, size_t table_len, uint32_t id, uint32_t k, uint8_t *answer,
-                      size_t answer_len)
+static uint32_t answer_misses(struct lent table, uint32_t id, uint32_t k, const struct way *way, uint8_t *answer,
+                              size_t answer_len)
 {
     struct table read;
     uint32_t misses;
     if (answer_len < 4)
         return 27;
-    uint32_t refusal = read_table(table, table_len, &read).number;
+    uint32_t refusal = read_table(table.bytes, table.length, &read).number;
     if (!refusal)
-        refusal = misses_of(&read, id, k, &misses);
+        refusal = misses_of(&read, id, k, way, &misses);
     if (!refusal)
         put32(answer, misses);
     return refusal;
 }
 
-uint32_t plain_figure(const uint8_t *table, size_t table_len, uint32_t id, uint32_t k, uint64_t *figure)
+uint32_t plain_misses(const uint8_t *table, size_t table_len, uint32_t id, uint32_t k, uint8_t *answer,
+                      size_t answer_len)
+{
+    return answer_misses((struct lent){table, table_len}, id, k, &by_windows, answer, answer_len);
+}
+
+uint32_t plain_misses_plain(const uint8_t *table, size_t table_len, uint32_t id, uint32_t k, uint8_t *answer,
+                            size_t answer_len)
+{
+    return answer_misses((struct lent){table, table_len}, id, k, &by_every_packing, answer, answer_len);
+}
+
+uint32_t plain_misses_at_most(const uint8_t *table, size_t table_len, uint32_t id, uint32_t k, uint8_t *answer,
+                              size_t answer_len)
+{
+    return answer_misses((struct lent){table, table_len}, id, k, &by_sieve, answer, answer_len);
+}
+
+static uint32_t read_figure(struct lent table, uint32_t id, uint32_t k, const struct way *way, uint64_t *figure)
 {
     struct table read;
-    uint32_t refusal = read_table(table, table_len, &read).number;
-    return refusal ? refusal : figure_of(&read, id, k, figure);
+    uint32_t refusal = read_table(table.bytes, table.length, &read).number;
+    return refusal ? refusal : figure_of(&read, id, k, way, figure);
+}
+
+uint32_t plain_figure(const uint8_t *table, size_t table_len, uint32_t id, uint32_t k, uint64_t *figure)
+{
+    return read_figure((struct lent){table, table_len}, id, k, &by_windows, figure);
+}
+
+uint32_t plain_figure_at_most(const uint8_t *table, size_t table_len, uint32_t id, uint32_t k, uint64_t *figure)
+{
+    return read_figure((struct lent){table, table_len}, id, k, &by_sieve, figure);
+}
+
+bool plain_packings_exceed(const uint8_t *table, size_t table_len, uint32_t id, uint32_t k, uint64_t limit)
+{
+    struct table read;
+    struct miss_case found;
+    if (read_table(table, table_len, &read).number || case_of(&read, id, k, is_bad, &found) || found.late == 0 ||
+        found.empty_is_bad)
+        return false;
+    return meet_packings(&found.overload, found.bad, found.count, limit + 1).left == 0;
 }
 
 uint32_t plain_segment(const uint8_t *table, size_t table_len, uint32_t chain, uint32_t against, uint32_t number,
@@ -1407,7 +1546,7 @@ static void report_chain(struct text *text, const struct table *table, uint32_t 
         return;
     }
     uint32_t misses = 0;
-    refusal = misses_of(table, id, 10, &misses);
+    refusal = misses_of(table, id, 10, &by_windows, &misses);
     snprintf(line, sizeof line, "%" PRIu32 " %" PRIu64 " %" PRIu64 " %" PRIu64 " %" PRId64 " %s%" PRIu32 "\n", id,
              figures.K, figures.latency, figures.late, (int64_t)b->deadline - (int64_t)figures.latency,
              refusal ? "r" : "", refusal ? refusal : misses);

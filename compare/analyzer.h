@@ -14,6 +14,10 @@
 uint32_t plain_latency(const uint8_t *table, size_t table_len, uint32_t id, uint8_t *answer, size_t answer_len);
 uint32_t plain_misses(const uint8_t *table, size_t table_len, uint32_t id, uint32_t k, uint8_t *answer,
                       size_t answer_len);
+uint32_t plain_misses_plain(const uint8_t *table, size_t table_len, uint32_t id, uint32_t k, uint8_t *answer,
+                            size_t answer_len);
+uint32_t plain_misses_at_most(const uint8_t *table, size_t table_len, uint32_t id, uint32_t k, uint8_t *answer,
+                              size_t answer_len);
 uint32_t plain_segment(const uint8_t *table, size_t table_len, uint32_t chain, uint32_t against, uint32_t number,
                        uint8_t *answer, size_t answer_len);
 uint32_t plain_check(const uint8_t *table, size_t table_len, uint8_t *answer, size_t answer_len);
@@ -45,8 +49,14 @@ extern uint64_t plain_most_arrivals;
 bool plain_climbs_take(const uint8_t *table, size_t table_len, uint64_t steps);
 
 /* What a miss query answers before k limits it: late times the most uses of any packing, 0 where nothing is late. Where
-   the empty set is bad there is no most. Refused as the query is. */
+   the empty set is bad there is no most. Refused as the query is. The second is that of the sieve, with the combinations
+   that it calls bad. */
 #define PLAIN_NO_MOST UINT64_MAX
 uint32_t plain_figure(const uint8_t *table, size_t table_len, uint32_t id, uint32_t k, uint64_t *figure);
+uint32_t plain_figure_at_most(const uint8_t *table, size_t table_len, uint32_t id, uint32_t k, uint64_t *figure);
+
+/* Whether an engine that goes through every packing of the bad combinations meets more than `limit`, which is below
+   UINT64_MAX. It meets none where the query is refused, nothing is late or the empty set is bad. */
+bool plain_packings_exceed(const uint8_t *table, size_t table_len, uint32_t id, uint32_t k, uint64_t limit);
 
 #endif

@@ -13,6 +13,18 @@ uint32_t mishtodran_misses(const uint8_t *table, size_t table_len, uint32_t id, 
     return plain_misses(table, table_len, id, k, answer, answer_len);
 }
 
+uint32_t mishtodran_misses_plain(const uint8_t *table, size_t table_len, uint32_t id, uint32_t k, uint8_t *answer,
+                                 size_t answer_len)
+{
+    return plain_misses_plain(table, table_len, id, k, answer, answer_len);
+}
+
+uint32_t mishtodran_misses_at_most(const uint8_t *table, size_t table_len, uint32_t id, uint32_t k, uint8_t *answer,
+                                   size_t answer_len)
+{
+    return plain_misses_at_most(table, table_len, id, k, answer, answer_len);
+}
+
 uint32_t mishtodran_segment(const uint8_t *table, size_t table_len, uint32_t id, uint32_t against, uint32_t number,
                             uint8_t *answer, size_t answer_len)
 {
