@@ -14,16 +14,35 @@
 #include <stdlib.h>
 #include <string.h>
 
-enum { LATENCY, MISSES, SEGMENT, RECORD, CHECK, SAVE, MERGE, CONFLICT, READ, WRITE, REPORT, ENTRIES };
+enum {
+    LATENCY,
+    MISSES,
+    MISSES_PLAIN,
+    MISSES_AT_MOST,
+    SEGMENT,
+    RECORD,
+    CHECK,
+    SAVE,
+    MERGE,
+    CONFLICT,
+    READ,
+    WRITE,
+    REPORT,
+    ENTRIES
+};
 enum { LONGEST_RECORD = 4096, ANSWER_ROOM = 32, TEXT_ROOM = MISHTODRAN_LONGEST_REPORT + 32, NUMBERS = 33 };
 enum { MERGE_ROOM = 2 * MISHTODRAN_MOST_TABLE_BYTES + 64 }; /* more than any merge takes */
 enum { WRITE_ROOM = MISHTODRAN_MOST_TABLE_BYTES + 64, READ_ROOM = MISHTODRAN_MOST_CHAINS + 4 };
-enum { MANY_ARRIVALS = 1000000 }; /* of one chain in a window: too many to be counted one by one */
+enum { MANY_ARRIVALS = 1000000 };  /* of one chain in a window: too many to be counted one by one */
+enum { MOST_PACKINGS = 100000 };   /* of a call that the engine which goes through every packing is asked */
 
-static const char *const entry_name[] = {"latency",  "misses", "segment", "record", "check", "save", "merge",
-                                         "conflict", "read",   "write",   "report"};
-static const size_t answer_bytes[] = {16, 4, 8, 8, 8};
-static const char *const with_many[] = {"latency, over a million arrivals", "misses, over a million arrivals"};
+static const char *const entry_name[] = {"latency", "misses", "misses plain", "misses at most", "segment",
+                                         "record",  "check",  "save",         "merge",          "conflict",
+                                         "read",    "write",  "report"};
+static const size_t answer_bytes[] = {16, 4, 4, 4, 8, 8, 8};
+static const char *const with_many[] = {"latency, over a million arrivals", "misses, over a million arrivals",
+                                        "misses plain, over a million arrivals",
+                                        "misses at most, over a million arrivals"};
 
 /* What decides a merge: one of its tables, or all of them together where each is accepted. */
 enum { ANCESTOR, FIRST, SECOND, TOGETHER, DECIDERS };
@@ -41,13 +60,25 @@ static const char *const ground_name[] = {"no activation late",
                                           "k, a miss and no overload chain",
                                           "21 before a miss without overload"};
 
+/* What the number that misses do not exceed comes from, and how it stands to them. */
+enum { OF_NONE_LATE, AS_MISSES, ABOVE_MISSES, K_BY_USES, K_BY_EMPTY, K_WITHOUT_OVERLOAD, AT_MOST_GROUNDS };
+static const char *const at_most_name[] = {"no activation late",
+                                           "the misses themselves",
+                                           "above the misses and below k",
+                                           "k, and above the misses, by uses",
+                                           "k, the empty set called bad though it is not",
+                                           "k, a miss without overload"};
+
 /* How often each entry has returned each number, and how often with many arrivals in a window; how often the check has
-   answered it, a merge has returned it because of what, and the misses have come from what. */
+   answered it, a merge has returned it because of what, the misses and the number that they do not exceed have come from
+   what, and the engine that goes through every packing was left out because there are too many. */
 static uint64_t met[ENTRIES][NUMBERS];
 static uint64_t met_with_many[ENTRIES][NUMBERS];
 static uint64_t answered[NUMBERS];
 static uint64_t decided[DECIDERS][NUMBERS];
 static uint64_t ground_met[GROUNDS];
+static uint64_t at_most_met[AT_MOST_GROUNDS];
+static uint64_t plain_left_out;
 
 static void print_hex(const char *what, const uint8_t *bytes, size_t length)
 {
@@ -116,6 +147,10 @@ static uint32_t ask_proved(const struct generated *table, const struct query *qu
         return mishtodran_latency(table->bytes, table->length, number[0], answer, query->answer_len);
     case MISSES:
         return mishtodran_misses(table->bytes, table->length, number[0], number[1], answer, query->answer_len);
+    case MISSES_PLAIN:
+        return mishtodran_misses_plain(table->bytes, table->length, number[0], number[1], answer, query->answer_len);
+    case MISSES_AT_MOST:
+        return mishtodran_misses_at_most(table->bytes, table->length, number[0], number[1], answer, query->answer_len);
     case RECORD:
         return mishtodran_record(table->bytes, table->length, number[0], answer, query->answer_len);
     case CHECK:
@@ -134,6 +169,10 @@ static uint32_t ask_plain(const struct generated *table, const struct query *que
         return plain_latency(table->bytes, table->length, number[0], answer, query->answer_len);
     case MISSES:
         return plain_misses(table->bytes, table->length, number[0], number[1], answer, query->answer_len);
+    case MISSES_PLAIN:
+        return plain_misses_plain(table->bytes, table->length, number[0], number[1], answer, query->answer_len);
+    case MISSES_AT_MOST:
+        return plain_misses_at_most(table->bytes, table->length, number[0], number[1], answer, query->answer_len);
     case RECORD:
         return plain_record(table->bytes, table->length, number[0], answer, query->answer_len);
     case CHECK:
@@ -221,8 +260,60 @@ static unsigned ground_of(const struct generated *table, uint32_t id, uint32_t k
     return figure == k ? EXACTLY_K : ABOVE_K;
 }
 
-/* The misses of both, 0 where they are refused. Refused with 21, the empty set is bad where there is no most for k = 1:
-   then no capacity is above 2, since 19 comes before. */
+static void stop_at_misses(const struct generated *table, const struct query *query, const struct outcome *exact,
+                           const struct outcome *other)
+{
+    printf("%s(%" PRIu32 ", %" PRIu32 ") does not go with the misses\n", entry_name[query->entry], query->number[0],
+           query->number[1]);
+    printf("family: %s %s\n", table->family, table->damage);
+    print_hex("table", table->bytes, table->length);
+    print_outcome("misses", exact);
+    print_outcome(entry_name[query->entry], other);
+    exit(1);
+}
+
+/* Asks both for the misses through every packing, unless these are too many: they are the misses. */
+static void ask_misses_plain(const struct generated *table, uint32_t id, uint32_t k, const struct outcome *exact)
+{
+    const struct query query = {MISSES_PLAIN, {id, k, 0}, answer_bytes[MISSES_PLAIN]};
+    if (plain_packings_exceed(table->bytes, table->length, id, k, MOST_PACKINGS)) {
+        plain_left_out++;
+        return;
+    }
+    struct outcome found = ask(table, query);
+    if (!same(&found, exact))
+        stop_at_misses(table, &query, exact, &found);
+}
+
+/* What a number comes from that the misses do not exceed. Where it is k, the figure of the sieve tells. */
+static unsigned at_most_ground(const struct generated *table, uint32_t id, uint32_t k, uint32_t misses,
+                               uint32_t at_most)
+{
+    uint64_t figure = 0;
+    if (late_of(table, id) == 0)
+        return OF_NONE_LATE;
+    plain_figure_at_most(table->bytes, table->length, id, k, &figure);
+    if (figure == PLAIN_NO_MOST)
+        return figure_of(table, id, k) == PLAIN_NO_MOST ? K_WITHOUT_OVERLOAD : K_BY_EMPTY;
+    if (at_most == misses)
+        return AS_MISSES;
+    return at_most < k ? ABOVE_MISSES : K_BY_USES;
+}
+
+/* Asks both for a number that the misses do not exceed: it is refused as they are, and no smaller. */
+static void ask_misses_at_most(const struct generated *table, uint32_t id, uint32_t k, const struct outcome *exact)
+{
+    const struct query query = {MISSES_AT_MOST, {id, k, 0}, answer_bytes[MISSES_AT_MOST]};
+    struct outcome found = ask(table, query);
+    uint32_t misses = get32(exact->answer), at_most = get32(found.answer);
+    if (found.returned != exact->returned || (found.returned == 0 && (at_most < misses || at_most > k)))
+        stop_at_misses(table, &query, exact, &found);
+    if (found.returned == 0)
+        at_most_met[at_most_ground(table, id, k, misses, at_most)]++;
+}
+
+/* The misses of both, 0 where they are refused; the other two entries that answer with misses go with them. Refused with
+   21, the empty set is bad where there is no most for k = 1: then no capacity is above 2, since 19 comes before. */
 static uint32_t ask_misses(const struct generated *table, uint32_t id, uint32_t k)
 {
     struct outcome outcome = ask(table, (struct query){MISSES, {id, k, 0}, answer_bytes[MISSES]});
@@ -231,6 +322,8 @@ static uint32_t ask_misses(const struct generated *table, uint32_t id, uint32_t 
         ground_met[ground_of(table, id, k, misses)]++;
     if (outcome.returned == 21 && figure_of(table, id, 1) == PLAIN_NO_MOST)
         ground_met[CAPACITY_FIRST]++;
+    ask_misses_plain(table, id, k, &outcome);
+    ask_misses_at_most(table, id, k, &outcome);
     return misses;
 }
 
@@ -298,6 +391,20 @@ static void ask_segments(const struct generated *table, const struct places *pla
         }
 }
 
+/* With answer buffers of other lengths: of the second of six ids for k = 10, or of the first where the packings are too
+   many; and of any of them for k = 0. */
+static void ask_with_lengths(struct source *source, const struct generated *table, unsigned entry,
+                             const uint32_t ids[6])
+{
+    size_t whole = answer_bytes[entry];
+    const size_t lengths[] = {0, whole - 1, whole + 1, ANSWER_ROOM};
+    bool many = entry == MISSES_PLAIN && plain_packings_exceed(table->bytes, table->length, ids[1], 10, MOST_PACKINGS);
+    for (unsigned i = 0; i < 4; i++) {
+        ask(table, (struct query){entry, {ids[many ? 0 : 1], 10, 1}, lengths[i]});
+        ask(table, (struct query){entry, {ids[draw(source, 0, 5)], 0, 0}, lengths[i]});
+    }
+}
+
 /* Ids that are not there or almost, run lengths far outside, and answer buffers of other lengths. */
 static void ask_oddly(struct source *source, const struct generated *table, const struct places *places)
 {
@@ -306,21 +413,15 @@ static void ask_oddly(struct source *source, const struct generated *table, cons
     for (unsigned i = 0; i < 6; i++) {
         ask_whole(table, LATENCY, ids[i], 0, 0);
         ask_whole(table, RECORD, ids[i], 0, 0);
-        ask_whole(table, MISSES, ids[i], one_in(source, 2) ? 0 : 1001, 0);
-        ask_whole(table, MISSES, ids[i], 1u << 16 | 10, 0);
+        ask_misses(table, ids[i], one_in(source, 2) ? 0 : 1001);
+        ask_misses(table, ids[i], 1u << 16 | 10);
         ask_whole(table, SEGMENT, known, ids[i], (uint32_t)draw(source, 0, 1) * 99);
         ask_whole(table, SEGMENT, ids[i], known, (uint32_t)draw(source, 0, 1) * 99);
         ask_whole(table, SEGMENT, ids[i], ids[draw(source, 0, 5)], 1);
         ask_whole(table, SEGMENT, ids[i], ids[i], (uint32_t)draw(source, 0, 2));
     }
-    for (unsigned entry = LATENCY; entry <= RECORD; entry++) {
-        size_t whole = answer_bytes[entry];
-        const size_t lengths[] = {0, whole - 1, whole + 1, ANSWER_ROOM};
-        for (unsigned i = 0; i < 4; i++) {
-            ask(table, (struct query){entry, {known, 10, 1}, lengths[i]});
-            ask(table, (struct query){entry, {ids[draw(source, 0, 5)], 0, 0}, lengths[i]});
-        }
-    }
+    for (unsigned entry = LATENCY; entry <= RECORD; entry++)
+        ask_with_lengths(source, table, entry, ids);
 }
 
 /* With answer buffers too short, just long enough and longer. */
@@ -991,7 +1092,7 @@ static void ask_reports(struct source *source, const struct generated *table)
 
 /* ---- All tables ---- */
 
-/* Spoils an accepted table again and again: reading has many faults, and a check, a record and a read cost little. */
+/* Spoils an accepted table again and again: reading has many faults, and what a refused table is asked costs little. */
 static void ask_spoiled(struct source *source, struct generated *table, const struct places *places)
 {
     const struct generated accepted = *table;
@@ -1000,6 +1101,7 @@ static void ask_spoiled(struct source *source, struct generated *table, const st
         spoil_together(source, table, places->chains);
         ask_whole(table, CHECK, 0, 0, 0);
         ask_whole(table, RECORD, places->id[0], 0, 0);
+        ask_misses(table, places->id[0], 10);
         read_rows(table, draw(source, 0, READ_ROOM), 4);
     }
 }
@@ -1047,7 +1149,8 @@ static void print_counts(const char *what, const uint64_t counts[NUMBERS])
     puts(" calls");
 }
 
-static const uint8_t of_misses[] = {0, 12, 13, 14, 15, 16, 17, 18, 19, 21, 27};
+static const uint8_t of_misses[] = {0,  1,  2,  3,  4,  5,  6,  7,  9,  10, 11, 12, 13,
+                                    14, 15, 16, 17, 18, 19, 21, 27, 28, 29, 30, 31};
 static const uint8_t of_many[] = {0, 16};
 static const uint8_t of_table[] = {1, 2, 3, 4, 5, 6, 7, 9, 10, 11, 28, 29, 30, 31};
 static const uint8_t of_merge[] = {0, 1, 9, 11, 24, 32};
@@ -1067,29 +1170,40 @@ static bool lacks(const char *what, const uint64_t counts[NUMBERS], const uint8_
     return missing;
 }
 
-/* Whether the misses have not come from all that they can come from. */
-static bool lacks_ground(void)
+/* Whether an entry's answers have not come from all that they can come from. */
+static bool lacks_one_of(unsigned entry, const char *const *names, const uint64_t *counts, unsigned length)
 {
     bool missing = false;
-    for (unsigned ground = 0; ground < GROUNDS; ground++)
-        if (ground_met[ground] == 0) {
-            printf("misses: never '%s'\n", ground_name[ground]);
+    for (unsigned ground = 0; ground < length; ground++)
+        if (counts[ground] == 0) {
+            printf("%s: never '%s'\n", entry_name[entry], names[ground]);
             missing = true;
         }
     return missing;
 }
 
-/* Whether no latency or no misses with many arrivals were answered, or none refused. */
-static bool lacks_many(void)
+static bool lacks_ground(void)
 {
-    bool missing = lacks(with_many[LATENCY], met_with_many[LATENCY], of_many, sizeof of_many);
-    return lacks(with_many[MISSES], met_with_many[MISSES], of_many, sizeof of_many) || missing;
+    bool missing = lacks_one_of(MISSES, ground_name, ground_met, GROUNDS);
+    return lacks_one_of(MISSES_AT_MOST, at_most_name, at_most_met, AT_MOST_GROUNDS) || missing;
 }
 
-/* Whether misses, a check, a merge, a read, a write or a record have not given a number that they can give. */
+/* Whether no latency, no misses or nothing like them with many arrivals were answered, or none refused. */
+static bool lacks_many(void)
+{
+    bool missing = false;
+    for (unsigned entry = LATENCY; entry <= MISSES_AT_MOST; entry++)
+        missing |= lacks(with_many[entry], met_with_many[entry], of_many, sizeof of_many);
+    return missing;
+}
+
+/* Whether one of the three for misses, a check, a merge, a read, a write or a record has not given a number that it can
+   give. */
 static bool lacks_number(void)
 {
-    bool missing = lacks("misses", met[MISSES], of_misses, sizeof of_misses);
+    bool missing = false;
+    for (unsigned entry = MISSES; entry <= MISSES_AT_MOST; entry++)
+        missing |= lacks(entry_name[entry], met[entry], of_misses, sizeof of_misses);
     missing |= lacks("answered by check", answered, of_table, sizeof of_table);
     for (unsigned by = ANCESTOR; by <= SECOND; by++)
         missing |= lacks(decided_by[by], decided[by], of_table, sizeof of_table);
@@ -1103,13 +1217,16 @@ static void print_met(void)
 {
     for (unsigned entry = 0; entry < ENTRIES; entry++)
         print_counts(entry_name[entry], met[entry]);
-    for (unsigned entry = LATENCY; entry <= MISSES; entry++)
+    for (unsigned entry = LATENCY; entry <= MISSES_AT_MOST; entry++)
         print_counts(with_many[entry], met_with_many[entry]);
     print_counts("answered by check", answered);
     for (unsigned by = 0; by < DECIDERS; by++)
         print_counts(decided_by[by], decided[by]);
     for (unsigned ground = 0; ground < GROUNDS; ground++)
         printf("misses, %s: %" PRIu64 " calls\n", ground_name[ground], ground_met[ground]);
+    for (unsigned ground = 0; ground < AT_MOST_GROUNDS; ground++)
+        printf("misses at most, %s: %" PRIu64 " calls\n", at_most_name[ground], at_most_met[ground]);
+    printf("misses plain, left out for over %d packings: %" PRIu64 " calls\n", MOST_PACKINGS, plain_left_out);
 }
 
 int main(int count, char **words)

@@ -620,6 +620,126 @@ static struct made_table refused_misses(struct source *source)
     return table;
 }
 
+/* ---- Chains that come again between the end of a window and the deadline ---- */
+
+/* Comes again this long after its first activation, and then not for a long time. */
+static void come_again(struct made_chain *chain, uint64_t after, uint64_t far)
+{
+    chain->listed = 2;
+    chain->distance[0] = least(after, LATEST);
+    chain->distance[1] = least(after + far, LATEST);
+}
+
+/* A chain that brings the cost of its first task with each activation where b has a floor of 3: a free one, or a deferred
+   one that is asynchronous. */
+static void add_returning(struct source *source, struct made_table *table, uint32_t dearest)
+{
+    struct made_chain *chain = add_chain(table, 1000, 0, LATEST);
+    bool deferred = one_in(source, 4);
+    chain->asynchronous = deferred || one_in(source, 2);
+    add_task(chain, 9, (uint32_t)draw(source, 1, one_in(source, 3) ? dearest : 5 * dearest));
+    if (deferred)
+        add_task(chain, 1, (uint32_t)draw(source, 1, dearest));
+}
+
+/* b with a floor of 3 and a tail of 5; if it is asynchronous, mostly with a first part. */
+static void add_sieved(struct source *source, struct made_table *table, uint32_t dearest)
+{
+    struct made_chain *b = add_chain(table, 1, 0, LATEST);
+    b->asynchronous = one_in(source, 2);
+    if (!one_in(source, 4))
+        add_task(b, 6, (uint32_t)draw(source, 1, 4 * dearest));
+    add_task(b, 3, (uint32_t)draw(source, 1, dearest));
+    add_task(b, 5, (uint32_t)draw(source, 1, dearest));
+}
+
+/* Overload of so few active segments that its packings are few. */
+static void add_few_segments(struct source *source, struct made_table *table, uint32_t dearest)
+{
+    for (unsigned left = (unsigned)draw(source, one_in(source, 4) ? 1 : 2, 4); left > 0;) {
+        struct made_chain *chain = add_chain(table, 1000, 0, LATEST);
+        unsigned segments = (unsigned)draw(source, 1, one_in(source, 2) ? 1 : left);
+        chain->overload = true;
+        chain->asynchronous = one_in(source, 2);
+        fill_segments(source, chain, segments, dearest);
+        left -= segments;
+    }
+}
+
+/* A deadline for the first chain: what it needs without overload where the others come again, and some of the overload more.
+   There demand may be above it for a combination whose window ends before they do; and where it is shorter, for the empty
+   one. Within the latencies with and without overload. */
+static void sieve_deadline(struct source *source, struct made_table *table, uint64_t needed, uint64_t overload)
+{
+    uint32_t high = latency_of(table, 0), low = latency_without_overload(table, 0);
+    if (high == 0 || low == 0)
+        return;
+    uint64_t deadline = needed + draw(source, 0, overload / 4);
+    if (one_in(source, 3))
+        deadline = draw(source, low, one_in(source, 3) ? high : needed);
+    table->chain[0].deadline = deadline < high ? (uint32_t)deadline : high - (high > 1);
+}
+
+/* Others, and now and then b itself, come again at about the time at which b's window ends with some of the overload. */
+static struct made_table sieved(struct source *source)
+{
+    static const uint32_t costs[] = {4, 20, 1000};
+    struct made_table table = {0};
+    uint32_t dearest = pick(source, costs, 3), far = 500 * dearest;
+    unsigned others = one_in(source, 6) ? 0 : (unsigned)draw(source, 1, 2);
+    add_sieved(source, &table, dearest);
+    for (unsigned i = 0; i < others; i++)
+        add_returning(source, &table, dearest);
+    add_few_segments(source, &table, dearest);
+    struct made_chain *b = &table.chain[0];
+    b->distance[0] = far;
+    if (one_in(source, 5))
+        bring_together(source, b);
+    uint64_t window = latency_without_overload(&table, 0), overload = latency_of(&table, 0) - window, needed = window;
+    for (unsigned i = 1; i <= others; i++) {
+        come_again(&table.chain[i], window + draw(source, overload / 3, overload), far);
+        needed += table.chain[i].task[0].cost;
+    }
+    if (b->listed == 1 && (others == 0 || one_in(source, 6))) {
+        come_again(b, window + draw(source, 0, overload), far);
+        needed += b->task[0].cost;
+    }
+    b->gap = one_in(source, 4) ? LATEST : least_gap(b);
+    sieve_deadline(source, &table, needed, overload);
+    return table;
+}
+
+/* An overload chain of this cost that comes once in a window. */
+static void add_rare(struct made_table *table, uint64_t cost)
+{
+    struct made_chain *rare = add_chain(table, 1000, 0, LATEST);
+    rare->overload = true;
+    split_cost(rare, 9, cost);
+}
+
+/* Two activations of b, of which the second's deadline lies past the horizon, where another chain comes again; both windows
+   end before it. */
+static struct made_table past_horizon(struct source *source)
+{
+    struct made_table table = {0};
+    uint64_t cost = draw(source, 1, 900), between = draw(source, 2000, 5000);
+    uint32_t deadline = LATEST - (uint32_t)draw(source, cost + 1, between - 1);
+    struct made_chain *b = add_chain(&table, deadline, 0, LATEST);
+    b->listed = 2;
+    b->distance[0] = (uint32_t)between;
+    b->distance[1] = LATEST;
+    b->asynchronous = one_in(source, 2);
+    split_cost(b, 4, cost);
+    b->gap = one_in(source, 4) ? LATEST : least_gap(b);
+    uint64_t other = one_in(source, 6) ? draw(source, 1, 4000) : draw(source, 3000000, 5200000);
+    split_cost(add_chain(&table, 1000, 0, LATEST - (uint32_t)draw(source, 0, 1)), 6, other);
+    uint64_t overload = deadline - cost - other + draw(source, 1, LATEST - deadline - cost);
+    uint64_t part = draw(source, overload / 4, overload / 2);
+    add_rare(&table, part);
+    add_rare(&table, overload - part);
+    return table;
+}
+
 /* ---- Chains that come millions of times in a window ---- */
 
 /* So many distances up to this last one: the others are 0, all alike, or any. */
@@ -659,14 +779,6 @@ static void defer(struct made_chain *chain, unsigned segments)
     for (unsigned i = 0; i < segments; i++)
         add_task(chain, 4, 1);
     split_cost(chain, 1, LATEST * 8 / 10);
-}
-
-/* An overload chain of this cost that comes once in a window. */
-static void add_rare(struct made_table *table, uint64_t cost)
-{
-    struct made_chain *rare = add_chain(table, 1000, 0, LATEST);
-    rare->overload = true;
-    split_cost(rare, 9, cost);
 }
 
 /* A dear chain with a floor of 4 and a tail of 5. Some of its activations may come together; now and then they are frequent
@@ -1204,12 +1316,13 @@ struct family {
 };
 
 static const struct family families[] = {
-    {"of the documents", 2, documented}, {"light", 25, some_light},
+    {"of the documents", 2, documented}, {"light", 19, some_light},
     {"full", 4, full_table},             {"heavy", 5, heavy_table},
     {"close to one", 5, close_to_one},   {"backlog", 7, backlog},
     {"horizon", 6, horizon},             {"exact horizon", 3, exact_horizon},
     {"limits", 6, at_limits},            {"wrong count", 4, wrong_count},
-    {"packing", 18, some_packing},       {"refused misses", 5, refused_misses},
+    {"packing", 14, some_packing},       {"refused misses", 5, refused_misses},
+    {"sieved", 8, sieved},               {"past the horizon", 2, past_horizon},
     {"frequent", 6, frequent},           {"at arrivals", 4, at_arrivals},
 };
 
