@@ -17,7 +17,21 @@
 #include <string.h>
 #include <time.h>
 
-enum { LATENCY, MISSES, SEGMENT, RECORD, CHECK, SAVE, MERGE, CONFLICT, READ, WRITE, REPORT };
+enum {
+    LATENCY,
+    MISSES,
+    MISSES_PLAIN,
+    MISSES_AT_MOST,
+    SEGMENT,
+    RECORD,
+    CHECK,
+    SAVE,
+    MERGE,
+    CONFLICT,
+    READ,
+    WRITE,
+    REPORT
+};
 enum { MOST_CALLS = 512, MOST_TABLES = 32, ROUNDS = 200 };
 
 static const double LEAST_SECONDS = 0.005; /* of one run: many short ones find a quiet moment */
@@ -55,6 +69,8 @@ struct bench_case {
 struct side {
     uint32_t (*latency)(const uint8_t *, size_t, uint32_t, uint8_t *, size_t);
     uint32_t (*misses)(const uint8_t *, size_t, uint32_t, uint32_t, uint8_t *, size_t);
+    uint32_t (*misses_plain)(const uint8_t *, size_t, uint32_t, uint32_t, uint8_t *, size_t);
+    uint32_t (*misses_at_most)(const uint8_t *, size_t, uint32_t, uint32_t, uint8_t *, size_t);
     uint32_t (*segment)(const uint8_t *, size_t, uint32_t, uint32_t, uint32_t, uint8_t *, size_t);
     uint32_t (*record)(const uint8_t *, size_t, uint32_t, uint8_t *, size_t);
     uint32_t (*check)(const uint8_t *, size_t, uint8_t *, size_t);
@@ -68,12 +84,16 @@ struct side {
     uint32_t (*report)(const uint8_t *, size_t, uint8_t *, size_t, uint8_t *, size_t);
 };
 
-static const struct side proved = {mishtodran_latency,  mishtodran_misses, mishtodran_segment, mishtodran_record,
-                                   mishtodran_check,    mishtodran_save,   mishtodran_merge,
-                                   mishtodran_conflict, mishtodran_read,   mishtodran_write,   mishtodran_report};
-static const struct side plain = {plain_latency,  plain_misses, plain_segment, plain_record,
-                                  plain_check,    plain_save,   plain_merge,
-                                  plain_conflict, plain_read,   plain_write,   plain_report};
+static const struct side proved = {mishtodran_latency,        mishtodran_misses,   mishtodran_misses_plain,
+                                   mishtodran_misses_at_most, mishtodran_segment,  mishtodran_record,
+                                   mishtodran_check,          mishtodran_save,     mishtodran_merge,
+                                   mishtodran_conflict,       mishtodran_read,     mishtodran_write,
+                                   mishtodran_report};
+static const struct side plain = {plain_latency,        plain_misses,  plain_misses_plain,
+                                  plain_misses_at_most, plain_segment, plain_record,
+                                  plain_check,          plain_save,    plain_merge,
+                                  plain_conflict,       plain_read,    plain_write,
+                                  plain_report};
 
 /* The deadline of a table's first chain becomes another, and then what it was. */
 static uint32_t save_and_back(const struct side *side, const struct call *call, uint8_t *answer)
@@ -113,6 +133,10 @@ static uint32_t run_call(const struct side *side, const struct call *call, struc
         return side->latency(bytes, length, call->number[0], answer, 16);
     case MISSES:
         return side->misses(bytes, length, call->number[0], call->number[1], answer, 4);
+    case MISSES_PLAIN:
+        return side->misses_plain(bytes, length, call->number[0], call->number[1], answer, 4);
+    case MISSES_AT_MOST:
+        return side->misses_at_most(bytes, length, call->number[0], call->number[1], answer, 4);
     case SEGMENT:
         return side->segment(bytes, length, call->number[0], call->number[1], call->number[2], answer, 8);
     case RECORD:
@@ -486,6 +510,27 @@ static void slow_cases(void)
     shape_cases();
 }
 
+/* ---- Misses a second way, and a number that they do not exceed ---- */
+
+/* For k = 390 the sample's capacities are 40: no longer run has an answer. */
+static void second_way_cases(struct source *source)
+{
+    tables_used = 0;
+    struct stored *sample = keep(sample_table());
+    struct stored *study = keep(case_study());
+    struct stored *full = keep(full_table(source));
+    struct stored *overloaded = keep(long_backlog(100000, 6));
+    struct stored *crowded = keep(long_backlog(20000, 6));
+    measure_one("at most, sample, k 10", MISSES_AT_MOST, sample, 1, 10, 0);
+    measure_one("at most, case study, k 3", MISSES_AT_MOST, study, 2, 3, 0);
+    measure_all("at most, full table, k 10", MISSES_AT_MOST, full, 1, 10);
+    measure_one("at most, K near 1,024, six segments, few", MISSES_AT_MOST, overloaded, 1, 10, 0);
+    measure_one("at most, K near 1,024, six segments, many", MISSES_AT_MOST, crowded, 1, 10, 0);
+    measure_one("every packing, sample, k 10", MISSES_PLAIN, sample, 1, 10, 0);
+    measure_one("every packing, case study, k 3", MISSES_PLAIN, study, 2, 3, 0);
+    measure_one("every packing, sample, k 390", MISSES_PLAIN, sample, 1, 390, 0);
+}
+
 /* ---- Growth ---- */
 
 /* So many chains with so many tasks and listed distances each; the first has the lowest priority. */
@@ -583,6 +628,7 @@ int main(int count, char **words)
     merge_cases(&source);
     row_cases(&source);
     slow_cases();
+    second_way_cases(&source);
     growth_cases();
     bisected_cases();
     return 0;
