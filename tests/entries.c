@@ -26,7 +26,21 @@ enum {
 /* What is packed for the length of junk, and for a slice that is lent as in the case before. */
 enum { JUNK = 65535, AS_BEFORE = 65534 };
 
-enum { LATENCY, MISSES, SEGMENT, SAVE, REPORT, CHECK, MERGE, CONFLICT, READ, WRITE, RECORD };
+enum {
+    LATENCY,
+    MISSES,
+    SEGMENT,
+    SAVE,
+    REPORT,
+    CHECK,
+    MERGE,
+    CONFLICT,
+    READ,
+    WRITE,
+    RECORD,
+    MISSES_PLAIN,
+    MISSES_AT_MOST
+};
 enum { TABLE, OLD, NEW, TEXT, ANSWER, SLICES };
 /* What a merge, and the question for its conflicts, lend in these places; what a write, and what a read. */
 enum { ANCESTOR = TABLE, FIRST = OLD, SECOND = NEW, BUFFER = TEXT };
@@ -264,6 +278,20 @@ static uint32_t call_with_rows(const struct entry_case *given, bool at_end)
                             slice[BUFFER].length, answer, slice[ANSWER].length);
 }
 
+/* Three entries that take the same. */
+static uint32_t call_misses(const struct entry_case *given, bool at_end)
+{
+    const uint8_t *table = lent(given, TABLE, at_end);
+    uint8_t *answer = lent(given, ANSWER, at_end);
+    size_t table_len = given->slice[TABLE].length, answer_len = given->slice[ANSWER].length;
+    uint32_t id = (uint32_t)given->number[0], k = (uint32_t)given->number[1];
+    if (given->entry == MISSES_PLAIN)
+        return mishtodran_misses_plain(table, table_len, id, k, answer, answer_len);
+    if (given->entry == MISSES_AT_MOST)
+        return mishtodran_misses_at_most(table, table_len, id, k, answer, answer_len);
+    return mishtodran_misses(table, table_len, id, k, answer, answer_len);
+}
+
 static uint32_t call(const struct entry_case *given, bool at_end)
 {
     called_from = __builtin_frame_address(0);
@@ -276,7 +304,9 @@ static uint32_t call(const struct entry_case *given, bool at_end)
     case LATENCY:
         return mishtodran_latency(table, table_len, (uint32_t)number[0], answer, answer_len);
     case MISSES:
-        return mishtodran_misses(table, table_len, (uint32_t)number[0], (uint32_t)number[1], answer, answer_len);
+    case MISSES_PLAIN:
+    case MISSES_AT_MOST:
+        return call_misses(given, at_end);
     case SEGMENT:
         return mishtodran_segment(table, table_len, (uint32_t)number[0], (uint32_t)number[1], (uint32_t)number[2],
                                   answer, answer_len);

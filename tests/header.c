@@ -359,6 +359,8 @@ static bool answers_hold(void)
     return FITS(CHECK, mishtodran_check(table, used, answer, length)) &&
            FITS(LATENCY, mishtodran_latency(table, used, 1, answer, length)) &&
            FITS(MISSES, mishtodran_misses(table, used, 1, 1, answer, length)) &&
+           FITS(MISSES_PLAIN, mishtodran_misses_plain(table, used, 1, 1, answer, length)) &&
+           FITS(MISSES_AT_MOST, mishtodran_misses_at_most(table, used, 1, 1, answer, length)) &&
            FITS(SEGMENT, mishtodran_segment(table, used, 1, 1, 1, answer, length)) &&
            FITS(SAVE, mishtodran_save(table, sizeof table, used, old, sizeof old, old, sizeof old, answer, length)) &&
            FITS(MERGE, mishtodran_merge(table, used, table, used, table, used, text, sizeof text, answer, length)) &&

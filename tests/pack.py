@@ -62,11 +62,15 @@ BURSTS = stored(
 DEFERRED = ((9, 1), (1, 1))
 
 
+def split(priority, cost):
+    """Tasks of one priority that cost this much together."""
+    whole, rest = divmod(cost, 1_000_000)
+    return [(priority, 1_000_000)] * whole + [(priority, rest)] * (rest > 0)
+
+
 def below(cost, distances, kind=0, tasks=((9, 1),)):
     """Chain 1 of this cost below chain 2, of cost 1 and with these distances: the window is the least t = cost + η(t)."""
-    whole, rest = divmod(cost, 1_000_000)
-    return stored(chain(1, 0, 0, TIME, TIME, [TIME], [(5, 1_000_000)] * whole + [(5, rest)] * (rest > 0)),
-                  chain(2, kind, 0, 1000, 0, distances, tasks))
+    return stored(chain(1, 0, 0, TIME, TIME, [TIME], split(5, cost)), chain(2, kind, 0, 1000, 0, distances, tasks))
 
 
 def first_part(cost, distances, deadline):
@@ -175,11 +179,14 @@ def answered(form, rc, figures):
 
 
 def told_by_sieve(case):
-    """What a case of sieve.jsonl tells of latency and of misses, each as a case of the query's own file."""
-    latency, misses = case["latency"], case["misses"]
+    """What a case of sieve.jsonl tells of latency, of misses, and of a number that these do not exceed, each as a case of a query's
+    own file."""
+    latency, misses, at_most = case["latency"], case["misses"], case["sieve"]
     asked = {"table": case["table"], "id": case["id"]}
     return {"latency": {"tag": "latency", **asked, **answered("<IIIi", latency["rc"], latency.get("latency"))},
-            "misses": {"tag": "misses", **asked, "k": case["k"], **answered("<I", misses["rc"], [misses.get("misses")])}}
+            "misses": {"tag": "misses", **asked, "k": case["k"], **answered("<I", misses["rc"], [misses.get("misses")])},
+            "misses_at_most": {"tag": "at most", **asked, "k": case["k"],
+                               **answered("<I", at_most["rc"], [at_most.get("misses")])}}
 
 
 def queries(name):
@@ -272,6 +279,62 @@ MISSES = [
     (reaching(2, 1), 1, 5, 2), (reaching(2, 1), 1, 6, 3), (reaching(2, 1), 1, 8, 4), (reaching(2, 1), 1, 13, 5),
     (reaching(2, 1), 1, 15, 5), (reaching(2, 1), 1, 16, 6), (reaching(4, 2), 1, 4, 3), (reaching(4, 2), 1, 7, 5),
     (reaching(4, 2), 1, 8, 6), (reaching(5, 4), 1, 5, 4), (reaching(5, 4), 1, 8, 6),
+]
+
+
+def returning(deadline, after=35, kind=0, tasks=((9, 20),), own=(1000,)):
+    """Chain 1 of cost 10 below chain 2, which comes again so long after its first activation, and below overload of 4 and of 7.
+    Where chain 2 is free, of cost 20: up to 35 a window is 10 + 20 long and what is set, past it 20 more, and so is the demand;
+    the window is 30 without overload, 34 with 4, 57 with 7, 61 with both."""
+    return stored(chain(1, 0, 0, deadline, 1000, own, [(5, 10)]), chain(2, kind, 0, 1000, 0, [after, 1000], tasks),
+                  chain(3, 0, 1, 1000, 0, [TIME], [(9, 4)]), chain(4, 0, 1, 1000, 0, [TIME], [(9, 7)]))
+
+
+def three_returning(deadline):
+    """Three activations of chain 1, 5 and 9 after the first, and chain 2 again at 55: B(3) is 50 without overload, 54 with 4, 77
+    with 7, 81 with both; the demand at δ(3) + deadline is 70 and what is set."""
+    return returning(deadline, 55, own=(5, 9, 999))
+
+
+def returning_itself(deadline):
+    """An asynchronous chain of cost 10 that comes again at 40 with its first part of 4, against overload of 29 twice: B(1) is 39
+    with one of them, and 72 with both; B(2) is 78 with both. The demand at a deadline past 40 is 14 and what is set."""
+    return stored(chain(1, 1, 0, deadline, 1000, [40, 1000], [(9, 4), (5, 6)]),
+                  *(chain(i, 0, 1, 1000, 0, [TIME], [(9, 29)]) for i in (2, 3)))
+
+
+def past_horizon(cost):
+    """Two activations of chain 1, of 100, and 5,000 apart, against overload of this cost twice and chain 2, which makes B(1)
+    9,999,600 long and B(2) 9,999,700. The second's deadline is at 10,004,000, where chain 2 has come again."""
+    return stored(chain(1, 0, 0, TIME - 1000, TIME // 2, [5000, TIME], [(5, 100)]),
+                  chain(2, 0, 0, 1000, 0, [TIME], split(9, TIME - 500 - 2 * cost)),
+                  *(chain(i, 0, 1, 1000, 0, [TIME], split(9, cost)) for i in (3, 4)))
+
+
+FIRST_OF_TWO = ((9, 20), (1, 1))  # deferred below a floor of 5
+
+# (table, id, k, misses, a number that the sieve says they do not exceed)
+AT_MOST = [
+    # the demand for 4 alone, 54, is the deadline, or a tick above it: 4 and 7 alone are called bad, and 4 is not
+    (returning(54), 1, 10, 2, 2), (returning(53), 1, 10, 2, 4), (returning(53), 1, 3, 2, 3), (returning(53), 1, 2, 2, 2),
+    (returning(53), 1, 1, 1, 1),
+    # the demand without overload, 50, is the deadline, or a tick above it: all activations, though 7 alone is bad
+    (returning(50), 1, 10, 2, 4), (returning(49), 1, 10, 2, 10), (returning(49), 1, 1, 1, 1), (returning(49), 1, 1000, 2, 1000),
+    # a deadline at which chain 2 comes again, and one just past it
+    (returning(35), 1, 10, 2, 2), (returning(36), 1, 10, 2, 10),
+    # 7 alone is not bad, and not called so; nothing late; a miss without overload
+    (returning(57), 1, 10, 2, 2), (returning(61), 1, 10, 0, 0), (returning(29), 1, 10, 10, 10),
+    # chain 2 deferred: asynchronous, 20 more once and 20 with each arrival; synchronous, 20 once
+    (returning(74, 55, 1, FIRST_OF_TWO), 1, 10, 2, 2), (returning(73, 55, 1, FIRST_OF_TWO), 1, 10, 2, 4),
+    (returning(69, 55, 1, FIRST_OF_TWO), 1, 10, 2, 10), (returning(36, 35, 0, FIRST_OF_TWO), 1, 10, 2, 2),
+    (returning(33, 35, 0, FIRST_OF_TWO), 1, 10, 4, 4),
+    # the third activation alone decides
+    (three_returning(65), 1, 10, 2, 2), (three_returning(64), 1, 10, 2, 4), (three_returning(61), 1, 10, 2, 4),
+    (three_returning(60), 1, 10, 2, 10),
+    # a chain's own next activation
+    (returning_itself(43), 1, 10, 2, 2), (returning_itself(42), 1, 10, 2, 4),
+    # 10,003,998 and 10,004,001 at 10,004,000: 4 uses of both together, and 8 of each alone
+    (past_horizon(3_331_734), 1, 5, 4, 4), (past_horizon(3_331_733), 1, 5, 4, 5), (past_horizon(3_331_733), 1, 10, 7, 10),
 ]
 
 

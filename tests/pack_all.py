@@ -11,6 +11,7 @@ import sys
 import pack
 import pack_entries
 import pack_merge
+import pack_misses
 import pack_save
 import pack_write
 from stored import TOP
@@ -62,6 +63,8 @@ def main(words):
             return 0 if all([check(*file) for file in found]) else 1
         for file in found:
             write(*file)
+        print(f"{pack_misses.left_out()} miss queries have over {pack_misses.MOST_PACKINGS} packings: mishtodran_misses_plain is "
+              "not asked")
         return 0
     except OSError as error:
         say(f"{error.filename}: {error.strerror}")

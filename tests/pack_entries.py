@@ -6,9 +6,12 @@ order decides (orders.py), and answer buffers too short for each of them. Every 
 with its conflicts one after the other, and the writes of pack_write.py. Last, every table and every result is read into rows, too
 few of them too, its records are found, and the rows that were read are written back.
 
+A miss query of any of these is asked of the other two entries that answer with misses too (pack_misses.py).
+
 Packed, little-endian: for each case the entry (1 byte: 0 latency, 1 misses, 2 segment, 3 save, 4 report, 5 check, 6 merge,
-7 conflict, 8 read, 9 write, 10 record); its name (1 byte of length, text); three numbers (8 bytes each: id; id, k; a, b, n; used;
-none; none; none; above; how many rows are filled, which is not lent; none; id); what it returns (4 bytes); then the slices.
+7 conflict, 8 read, 9 write, 10 record, 11 misses plain, 12 misses at most); its name (1 byte of length, text); three numbers (8
+bytes each: id; id, k; a, b, n; used; none; none; none; above; how many rows are filled, which is not lent; none; id; id, k; id, k);
+what it returns (4 bytes); then the slices.
 Before the call, the table or buffer, the old record, the new record, the text and the answer: 2 bytes of length and the bytes;
 or 65,535 and 2 bytes of length, for as many bytes of junk (`lent`); or 65,534 alone, where they are those of the case before.
 After it the table or buffer, the text and the answer: 2 bytes, how many of the first bytes to compare with those that follow;
@@ -22,6 +25,7 @@ from collections import namedtuple
 import orders
 import pack
 import pack_merge
+import pack_misses
 import pack_write
 from merged import conflicts, first_fault, merge, next_conflict
 from records import fixed_part
@@ -30,7 +34,7 @@ from written import ROW, in_memory, rows_of, write
 
 JUNK, AS_BEFORE = 65535, 65534
 ANSWER_BYTES = {"latency": 16, "misses": 4, "segment": 8, "save": 4, "report": 4, "check": 8, "merge": 4, "conflict": 4,
-                "read": 4, "write": 4, "record": 8}
+                "read": 4, "write": 4, "record": 8, "misses_plain": 4, "misses_at_most": 4}
 ENTRIES = [*ANSWER_BYTES]
 
 # A call of an entry, what it returns, and the slices lent to it, in the order in which they are packed: `before` all of them,
@@ -128,6 +132,17 @@ def reports(name, turn, table, told):
     return found
 
 
+# ---- Misses a second way, and a number that they do not exceed ----
+
+def of_misses(entry, found):
+    """Each of these queries, with what is told of it; and 27 before it."""
+    for turn, (query, told) in enumerate(found):
+        answer, (table, *numbers) = lent(ANSWER_BYTES[entry] + turn % 3), query.asked
+        after = written(struct.pack("<I", told.answer), answer) if told.number == 0 else None
+        yield call(entry, f"{entry}, {query.name}", numbers, told.number, table, answer, after)
+        yield call(entry, f"{entry}, 27 before {query.name}", numbers, 27, table, lent(turn % 4))
+
+
 # ---- Cases by the documents' words ----
 
 def documented():
@@ -135,7 +150,7 @@ def documented():
         answer = lent(16 + 3)
         after = written(struct.pack("<IIIi", k, latency, late, margin), answer) if rc == 0 else None
         yield call("latency", f"by the words: chain {ident}", (ident,), rc, table, answer, after)
-    for table, ident, k, misses in pack.MISSES:
+    for table, ident, k, misses in pack.MISSES + [one[:4] for one in pack.AT_MOST]:
         name = f"by the words: chain {ident}, k {k}, misses {misses}"
         yield call("misses", name, (ident, k), 0, table, lent(4), struct.pack("<I", misses))
     for turn, (table, told) in enumerate(pack.REPORTS, 1):
@@ -172,8 +187,8 @@ def short_answers():
             answer = lent(0 if turn % 5 == 0 else ANSWER_BYTES[entry] - 1)
             yield call(entry, f"27 before {name}", numbers, 27, table, answer, old=old, new=new)
     for number, table in orders.REFUSED.items():
-        for entry, numbers in (("latency", (1,)), ("misses", (1, 10)), ("segment", (1, 2, 1)), ("save", (len(table),)),
-                               ("check", ())):
+        for entry, numbers in (("latency", (1,)), ("misses", (1, 10)), ("misses_plain", (1, 10)), ("misses_at_most", (1, 10)),
+                               ("segment", (1, 2, 1)), ("save", (len(table),)), ("check", ())):
             yield call(entry, f"27 before {number}", numbers, 27, table, lent(ANSWER_BYTES[entry] - 1))
         yield call("report", f"27 before 24, a table refused {number}", (), 27, table, lent(3), text=lent(9))
 
@@ -314,12 +329,14 @@ def of_files():
         for turn, case in enumerate(pack.cases(name), 1):
             yield from of_file(name, turn, case)
     for turn, case in enumerate(pack.cases("sieve"), 1):
-        for told in pack.told_by_sieve(case).values():
-            yield from of_file("sieve", turn, told)
+        told = pack.told_by_sieve(case)
+        for query in ("latency", "misses"):
+            yield from of_file("sieve", turn, told[query])
 
 
 def calls():
-    return [*of_files(), *documented(), *two_refusals(), *short_answers(), *checks(), *merges(), *writes(), *rows_and_records()]
+    return [*of_files(), *documented(), *two_refusals(), *short_answers(), *of_misses("misses_plain", pack_misses.plain()),
+            *of_misses("misses_at_most", pack_misses.at_most()), *checks(), *merges(), *writes(), *rows_and_records()]
 
 
 def everything():
