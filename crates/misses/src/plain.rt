@@ -6,6 +6,7 @@ use crate::Packings;
 use crate::asking::judged;
 use crate::counting::flag;
 use crate::pricing::prices;
+use crate::pricing::sets_of;
 use crate::settling::over;
 use odometer::most_uses;
 use packing::COMBINATIONS;
@@ -26,24 +27,25 @@ ghost use Rattle.misses.specs.Misses.{missesOf};
 ghost use Rattle.misses.specs.declared.Answer.the-variants.{Misses};
 ghost use Rattle.misses.specs.code.Held.{missedAt};
 ghost use Rattle.misses.specs.code.Judged.{Ready};
-ghost use Rattle.misses.specs.code.Settling.{overWith, beyond, Tries};
+ghost use Rattle.misses.specs.code.Settling.{overWith, Costs, Tries};
 ghost use Rattle.misses.specs.code.Packings.{LeadsTo};
 
-// The flags of all sets, each by its own windows. A set that is no combination has the price 0, as the empty set has, which is not
-// bad where anything is packed.
+// The flags of the sets that there are, each by its own windows. A set that is no combination has the price 0, as the empty set has,
+// which is not bad where anything is packed.
 fn flags_by_windows(
     s: &[u8],
     own: Own,
     held: &[u64; Own::HELD],
     close: u32,
     costs: &[u64; COMBINATIONS],
+    sets: usize,
 ) -> [u8; COMBINATIONS]
-    requires { ⌜ Tries (loadOf (now s) own (now held)) close × ((m : ℕ) → m < combinations → getD (now costs) m 0 < beyond) ⌝ }
+    requires { ⌜ Tries (loadOf (now s) own (now held)) close × (overWith (loadOf (now s) own (now held)) close 0 ≡ false) × Costs (now costs) sets ⌝ }
     ensures { λ r. ⌜ ((m : ℕ) → m < combinations → getD r m 0 ≡ (1 when overWith (loadOf (now (s .entry)) own (now (held .entry))) close (getD (now (costs .entry)) m 0) else 0)) ⌝ }
 {
     let mut out = [0u8; COMBINATIONS];
     let mut m: usize = 0;
-    while m < COMBINATIONS {
+    while m < sets {
         out[m] = flag(over(s, own, held, close, costs[m]));
         m += 1;
     }
@@ -77,7 +79,7 @@ impl Packings {
             return Packings::settled(Answer::Misses(k));
         }
         let costs = prices(p);
-        let bad = flags_by_windows(s, own, &held, f.close, &costs);
+        let bad = flags_by_windows(s, own, &held, f.close, &costs, sets_of(p.count));
         let capacity = p.capacity;
         Packings {
             open: true,

@@ -7,10 +7,11 @@ ghost use mathlib.Core.Path.{_≡_};
 ghost use Prim.Native.Nat.{_-_, _≤_};
 ghost use lib.Dec.{eqb};
 ghost use Rattle.search.specs.Choice.{_when_else_};
+ghost use Rattle.table.specs.Limits.{horizon};
 ghost use Rattle.table.specs.Record.{rowAt, distances};
 ghost use Rattle.table.specs.code.Taken.{Stands};
 ghost use Rattle.arrivals.specs.Arrivals.{η};
-ghost use Rattle.windows.specs.code.Load.{latest, loadOf, heldOf, Held};
+ghost use Rattle.windows.specs.code.Load.{loadOf, heldOf, Held};
 ghost use Rattle.windows.specs.code.Climb.{Behind, CountsHeld, Climbs, Climbed};
 
 // How far a is past b, 0 if it is not.
@@ -21,8 +22,8 @@ pub fn past(a: u64, b: u64) -> u64
 }
 
 // η(t) of the chain at `at`, which is no less than `before`; not counted where its first part counts nothing.
-pub fn own_count(s: &[u8], at: usize, part: u64, t: u64, before: u64) -> u64
-    requires { ⌜ Stands (now s) at × (t ≤ latest) × (before ≤ η (distances (rowAt (now s) at)) t) ⌝ }
+fn own_count(s: &[u8], at: usize, part: u64, t: u64, before: u64) -> u64
+    requires { ⌜ Stands (now s) at × (t ≤ horizon) × (before ≤ η (distances (rowAt (now s) at)) t) ⌝ }
     ensures { λ r. ⌜ r ≡ (before when eqb part 0 else η (distances (rowAt (now (s .entry)) at)) t) ⌝ }
 {
     if part == 0 {
@@ -32,14 +33,14 @@ pub fn own_count(s: &[u8], at: usize, part: u64, t: u64, before: u64) -> u64
 }
 
 // What the n chains held add in t. Each one's arrivals are no fewer than those counted before.
-pub fn held_sum(
+fn held_sum(
     s: &[u8],
     held: &[u64; Own::HELD],
     n: usize,
     t: u64,
     counts: &mut [u64; Own::COUNTS],
 ) -> u64
-    requires { ⌜ Held (now s) (now held) n × (t ≤ latest) × Behind (now s) (now held) 0 n t (now counts) ⌝ }
+    requires { ⌜ Held (now s) (now held) n × (t ≤ horizon) × Behind (now s) (now held) 0 n t (now counts) ⌝ }
     ensures { λ r. ⌜ (r ≡ heldOf (now (s .entry)) (now (held .entry)) n t) × CountsHeld (now (s .entry)) (now (held .entry)) n t (now (counts .entry)) (now (counts .exit)) ⌝ }
 {
     let mut sum: u64 = 0;

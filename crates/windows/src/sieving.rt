@@ -1,27 +1,39 @@
 // From which cost on a set is called bad by the sufficient test of document 000, section V.C: demand is worked out once for each
 // activation, at the t where it is due.
 use crate::Own;
-use crate::climbing::held_sum;
-use crate::climbing::own_count;
 use crate::climbing::past;
 use arrivals::delta;
+use arrivals::eta_from;
+use table::Table;
 use table::deadline_at;
 ghost use mathlib.Core.Path.{_≡_};
 ghost use Prim.Native.Nat.{_≤_, min};
 ghost use Rattle.table.specs.Limits.{maxActivations};
-ghost use Rattle.windows.specs.code.Load.{latest, loadOf, demandIn, Sound};
+ghost use Rattle.windows.specs.code.Load.{latest, loadOf, heldOf, demandIn, Held, Sound};
 ghost use Rattle.windows.specs.code.Called.{Starts, CalledFrom};
+
+// What the n chains held add in t. The counts of one activation are not kept for the next, whose t is far from it.
+fn held_at(s: &[u8], held: &[u64; Own::HELD], n: usize, t: u64) -> u64
+    requires { ⌜ Held (now s) (now held) n × (t ≤ latest) ⌝ }
+    ensures { λ r. ⌜ r ≡ heldOf (now (s .entry)) (now (held .entry)) n t ⌝ }
+{
+    let mut sum: u64 = 0;
+    let mut i: usize = 0;
+    while i < n {
+        sum = sum + eta_from(s, held[Table::CHAINS + i] as usize, t, 0) * held[i];
+        i += 1;
+    }
+    sum
+}
 
 // The demand for q activations in t.
 fn demand(s: &[u8], own: Own, held: &[u64; Own::HELD], q: u64, t: u64) -> u64
     requires { ⌜ Sound (loadOf (now s) own (now held)) × (q ≤ maxActivations) × (t ≤ latest) ⌝ }
     ensures { λ r. ⌜ r ≡ demandIn (loadOf (now (s .entry)) own (now (held .entry))) q t ⌝ }
 {
-    let mut counts = [0u64; Own::COUNTS];
-    let mine = own_count(s, own.at, own.part, t, 0);
-    let more = past(mine, q) * own.part;
+    let more = past(eta_from(s, own.at, t, 0), q) * own.part;
     let fixed = q * own.cost + own.once;
-    fixed + more + held_sum(s, held, own.count, t, &mut counts)
+    fixed + more + held_at(s, held, own.count, t)
 }
 
 // The smaller of two numbers.

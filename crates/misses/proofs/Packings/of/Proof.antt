@@ -18,7 +18,7 @@ use Rattle.misses.specs.code.Held.{Few}
 use Rattle.misses.specs.code.Settling.{overWith, Tries}
 use Rattle.misses.specs.declared.Answer.the-variants.{Misses}
 use Rattle.misses.proofs.Packs.{flags-tell}
-use Rattle.misses.proofs.Missed.{missed-few, missed-tries, missed-over, missed-within, missed-without, missed-counts}
+use Rattle.misses.proofs.Missed.{missed-few, missed-tries, missed-over, missed-costs, missed-without, missed-counts}
 use Rattle.misses.proofs.Leading.{leads-settled}
 use Rattle.misses.proofs.Packings.of.Statement.{statement}
 use Rattle.misses.proofs.Packings.of.Tie as tie
@@ -69,17 +69,20 @@ returns c =
 prices-requires : tie.Need-prices-requires
 prices-requires c κs = few (loaded c)
 
+sets-of-requires : tie.Need-sets-of-requires
+sets-of-requires c κs = few (loaded (c .before .before .before)) .few
+
 flags-by-windows-requires : tie.Need-flags-by-windows-requires
 flags-by-windows-requires c κs =
-    let l = loaded (c .before .before .before) in
-    let prices = c .before .before .prices in
-    (tries l, missed-within (start l .pre) (prices .result) (prices .ensures))
+    let e = c .before .before .before .before in
+    let l = loaded e in
+    (tries l, fine e, missed-costs (start l .pre) _ (c .before .before .before .prices .ensures) _ (c .sets-of .ensures))
 
 returns-2 : tie.Need-returns-2
 returns-2 c =
     let flags = c .before .flags-by-windows in
-    let prices = c .before .before .before .before .prices in
-    let e = c .before .before .before .before .before in
+    let prices = c .before .before .before .before .before .prices in
+    let e = c .before .before .before .before .before .before in
     let l = loaded e in
     record {
       settled = λ shut. absurd (true-not-false refl shut);
@@ -97,5 +100,6 @@ of-spec =
     settled-requires
     returns
     prices-requires
+    sets-of-requires
     flags-by-windows-requires
     returns-2)

@@ -63,7 +63,7 @@ element-copy-out-own-count : tie.Need-element-copy-out-own-count Inv-loop μ-loo
 element-copy-out-own-count c = omega (arith, c .before .loop .inv .1 .held .size)
 
 own-count-requires : tie.Need-own-count-requires Inv-loop μ-loop
-own-count-requires c κs = let h = c .before .before in (start h .pre .sound .stands, omega (arith, c .before .loop-test .taken), h .loop .inv .1 .own)
+own-count-requires c κs = let h = c .before .before in (start h .pre .sound .stands, c .before .loop-test .taken, h .loop .inv .1 .own)
 
 element-write-counts : tie.Need-element-write-counts Inv-loop μ-loop
 element-write-counts c = omega (arith, head c .loop .inv .1 .held .size)
@@ -101,7 +101,7 @@ held-sum-requires : tie.Need-held-sum-requires Inv-loop μ-loop
 held-sum-requires c κs =
     let o = c .before .before .before in
     let ok = s o .pre .sound in
-    (ok .held, near o, behind-own (head o .loop .inv .1 .held) (ok .held .few) _)
+    (ok .held, o .before .before .loop-test .taken, behind-own (head o .loop .inv .1 .held) (ok .held .few) _)
 
 -- all parts are there
 module _ (c : tie.After-held-sum Inv-loop μ-loop) where

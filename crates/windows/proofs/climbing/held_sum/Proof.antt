@@ -67,7 +67,7 @@ adds-le c =
     let more = c .before .before .before .loop-test .taken in
     let a = start (head c) .args in
     let p = start (head c) .pre in
-    turns-le (p .0 .stands i more .good .list) (c .eta-from .result) (heldRate (a .held .now) i) (a .t) (le-of-eq (c .eta-from .ensures)) (p .0 .cheap i more) (p .1)
+    turns-le (p .0 .stands i more .good .list) (c .eta-from .result) (heldRate (a .held .now) i) (a .t) (le-of-eq (c .eta-from .ensures)) (p .0 .cheap i more) (omega (arith, p .1))
 
 mul-sum : tie.Need-mul-sum Inv-loop μ-loop
 mul-sum c = omega arith
