@@ -16,15 +16,12 @@ use Rattle.arrivals.specs.Arrivals.{largest}
 use Rattle.segments.specs.View.{View}
 use Rattle.windows.specs.Demand.{viewsOf}
 use Rattle.search.specs.Lists.{some}
-use Rattle.search.proofs.Choice.{true-not-false}
 use Rattle.misses.specs.Overloads.{Overload, overloads, piecesOf}
 use Rattle.misses.specs.Bad.{Test}
 use Rattle.misses.specs.Misses.{roomOf, overloadsOf}
 use Rattle.misses.specs.code.Held.{gathered, Asked, Admitted, figuresAt, missedAt}
-use Rattle.misses.specs.code.Judged.{Judges}
 use Rattle.misses.specs.declared.Figures.{Figures}
 use Rattle.misses.specs.declared.Pieces.{Pieces}
-use Rattle.misses.specs.declared.Judged.{Judged}
 use Rattle.misses.specs.declared.Answer.{Answer}
 use Rattle.misses.specs.declared.Answer.the-variants.{Misses, Refused}
 use Rattle.misses.proofs.Held.{beside-others, held-count, held-size, held-above}
@@ -100,20 +97,3 @@ module _ {t : Table} (good : GoodTable t) (chain : ℕ) (there : chain < t .coun
 
           pub judged-missed : (test : Test) → Misses (missedAt test t chain k f) ≡ answer test
           judged-missed test = sym (counts test b views os k close latency late last some-late few (sym twice ∙ once) (above ∙ within))
-
--- an answer settles the query whatever the test
-pub judges-settled : {s : List ℕ} {k : ℕ} {answer : Test → Answer} {j : Judged} {a : Answer} → (j .open ≡ false) × (j .answer ≡ a) → ((test : Test) → a ≡ answer test)
-    → Judges s k answer j
-judges-settled e f = record {
-  settled = λ shut test. e .1 ∙ f test;
-  ready = λ o. absurd (true-not-false o (e .0));
-  counts = λ o. absurd (true-not-false o (e .0));
-}
-
--- what is judged of one is judged of another with the same answers
-pub judges-same : {s : List ℕ} {k : ℕ} {answer other : Test → Answer} {j : Judged} → Judges s k answer j → ((test : Test) → answer test ≡ other test) → Judges s k other j
-judges-same g f = record {
-  settled = λ shut test. g .settled shut test ∙ f test;
-  ready = g .ready;
-  counts = λ o test. g .counts o test ∙ f test;
-}

@@ -1,4 +1,4 @@
--- How many are missed of an open query: by a test of costs, whatever flags the sets whose costs are bad. Assumes nothing.
+-- How many are missed where nothing is refused: by a test of costs, whatever flags the sets whose costs are bad. Assumes nothing.
 use Prim.Native.Nat.{ℕ, _+_, _*_, _^_, _≤_, _<_, min}
 use mathlib.Core.Path.{_≡_, ap, ap₂, sym, fun-ext, _∙_}
 use mathlib.Core.Bool.{Bool, true, false}
@@ -27,9 +27,9 @@ use Rattle.misses.specs.Bad.{bad, Test, byWindows}
 use Rattle.misses.specs.Misses.{badOf, roomOf, packingFigure, overloadsOf}
 use Rattle.misses.specs.Sieve.{bySieve}
 use Rattle.misses.specs.code.Held.{piecesIn, priceOf, Few, missedAt}
-use Rattle.misses.specs.code.Judged.{Ready}
+use Rattle.misses.specs.code.Packings.{Sized, Ready}
 use Rattle.misses.specs.code.Settling.{overWith, calledWith, beyond, Costs, Tries}
-use Rattle.misses.specs.declared.Judged.{Judged}
+use Rattle.misses.specs.declared.Figures.{Figures}
 use Rattle.misses.specs.declared.Pieces.{Pieces}
 use Rattle.misses.proofs.Prices.{price-past}
 use Rattle.misses.proofs.Packs.{price-within, bad-none, bad-price}
@@ -37,24 +37,18 @@ use Rattle.misses.proofs.Held.{held-count, held-pieces, held-above, hel
 use Rattle.misses.proofs.Loading.{loads-over, loads-called, loads-room}
 use Rattle.misses.proofs.Answers.{missed-all, missed-packed}
 
-module _ {s : List ℕ} {k : ℕ} {j : Judged} (ready : Ready s k j) where
+module _ {s : List ℕ} {chain k : ℕ} {f : Figures} {p : Pieces} (ready : Ready s chain k f p) where
   abbrev t : Table
   t = tableOf s
 
-  abbrev chain : ℕ
-  chain = j .chain
-
   abbrev close : ℕ
-  close = j .figures .close
+  close = f .close
 
   abbrev latency : ℕ
-  latency = j .figures .latency
+  latency = f .latency
 
   abbrev late : ℕ
-  late = j .figures .late
-
-  abbrev p : Pieces
-  p = j .pieces
+  late = f .late
 
   abbrev b : Row
   b = rowOf t chain
@@ -68,6 +62,9 @@ module _ {s : List ℕ} {k : ℕ} {j : Judged} (ready : Ready s k j) where
   good : GoodTable t
   good = ready .taken .good
 
+  pub missed-sized : Sized k late
+  missed-sized = record { low = ready .asked .low; high = ready .asked .high; some = ready .admitted .late; few = ready .asked .count }
+
   few-pieces : length (piecesOf os) ≤ maxOverloads
   few-pieces = omega (arith, ready .admitted .few, held-count (largest b k + latency) os p (ready .admitted .all))
 
@@ -80,7 +77,7 @@ module _ {s : List ℕ} {k : ℕ} {j : Judged} (ready : Ready s k j) where
     unfolding badOf
     empty = bad-none _ (piecesOf os) ∙ sym (same 0)
 
-    pub missed-without : costly 0 ≡ true → k ≡ missedAt test t chain k (j .figures)
+    pub missed-without : costly 0 ≡ true → k ≡ missedAt test t chain k f
     missed-without e = sym (missed-all test b views os k close latency late (empty ∙ e))
 
     module _ (fine : costly 0 ≡ false) (costs : List ℕ) (prices : (m : ℕ) → m < combinations → getD costs m 0 ≡ priceOf (piecesIn p) m) where
@@ -95,7 +92,7 @@ module _ {s : List ℕ} {k : ℕ} {j : Judged} (ready : Ready s k j) where
 
       -- whatever flags the sets with bad costs
       pub missed-counts : (flag : ℕ → Bool) → ((m : ℕ) → m < combinations → flag m ≡ costly (getD costs m 0))
-          → min k (late * mostUses flag (capacity (p .capacity))) ≡ missedAt test t chain k (j .figures)
+          → min k (late * mostUses flag (capacity (p .capacity))) ≡ missedAt test t chain k f
       unfolding packingFigure
       missed-counts flag flags =
           ap (λ n. min k (late * n)) (most-is flags)

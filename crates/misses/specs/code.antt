@@ -1,4 +1,3 @@
 pub mod Held
-pub mod Judged
 pub mod Settling
 pub mod Packings

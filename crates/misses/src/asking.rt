@@ -1,8 +1,12 @@
-// The miss query before combinations are looked at: over the bytes of an accepted table, and over any.
+// What a miss query leaves to be packed: over the bytes of an accepted table, and over any.
 use crate::Answer;
 use crate::Figures;
-use crate::Judged;
+use crate::How;
+use crate::Packings;
 use crate::Pieces;
+use crate::testing::by_each;
+use crate::testing::by_lowest;
+use crate::testing::by_sieve;
 use arrivals::eta_up_to;
 use table::Table;
 use table::Verdict;
@@ -18,7 +22,6 @@ use windows::Answer as Bound;
 use windows::Windows;
 use windows::bound;
 ghost use mathlib.Core.Path.{_≡_};
-ghost use mathlib.Core.Bool.{false};
 ghost use mathlib.Core.List.{[], _∷_};
 ghost use Prim.Native.Nat.{_+_, _≤_, _<_};
 ghost use lib.Dec.{ltb};
@@ -34,8 +37,9 @@ ghost use Rattle.windows.specs.Latency.{boundAt};
 ghost use Rattle.search.specs.Lists.{some};
 ghost use Rattle.misses.specs.Overloads.{overloads};
 ghost use Rattle.misses.specs.Misses.{earlyOf, testedAt, testedIn, testedOf};
-ghost use Rattle.misses.specs.code.Held.{Asked, figuresAt};
-ghost use Rattle.misses.specs.code.Judged.{Judges};
+ghost use Rattle.misses.specs.declared.Answer.the-variants.{Misses};
+ghost use Rattle.misses.specs.code.Held.{Asked, figuresAt, missedAt};
+ghost use Rattle.misses.specs.code.Packings.{testOf, Ready, LeadsTo};
 
 // 13, 14 or 15, what is refused of the chain at `b` before any window; 0 for none of them.
 fn early(s: &[u8], b: usize, k: u32) -> u32
@@ -98,33 +102,25 @@ fn above(capacity: &[u8; Table::OVERLOADS]) -> bool
     false
 }
 
-impl Judged {
-    // Nothing is open: that is the answer.
-    fn settled(answer: Answer) -> Self
-        ensures { λ r. ⌜ (r .open ≡ false) × (r .answer ≡ answer) ⌝ }
-    {
-        Judged {
-            open: false,
-            answer,
-            chain: 0,
-            figures: Figures {
-                close: 0,
-                latency: 0,
-                late: 0,
-                last: 0,
-            },
-            pieces: Pieces::none(),
-        }
+// What is to be packed where nothing is refused.
+fn open(s: &[u8], chain: usize, k: u32, f: Figures, p: Pieces, how: How) -> Packings
+    requires { ⌜ Ready (now s) chain k f p ⌝ }
+    ensures { λ r. ⌜ LeadsTo k (Misses (missedAt (testOf how) (tableOf (now (s .entry))) chain k f)) r ⌝ }
+{
+    match how {
+        How::Lowest => by_lowest(s, chain, k, f, p),
+        How::Each => by_each(s, chain, k, f, p),
+        How::Sieve => by_sieve(s, chain, k, f, p),
     }
 }
 
-// What the figures of the full analysis leave open in a run of k activations.
-fn by_figures(s: &[u8], chain: usize, k: u32, f: Figures) -> Judged
+// What the figures of the full analysis leave to be packed in a run of k activations.
+fn by_figures(s: &[u8], chain: usize, k: u32, f: Figures, how: How) -> Packings
     requires { ⌜ Taken (now s) × (chain < tableOf (now s) .count) × Asked (rowOf (tableOf (now s)) chain) k f ⌝ }
-    ensures { λ r. ⌜ Judges (now (s .entry)) k (λ test. figuresAt test (tableOf (now (s .entry))) chain k f) r ⌝ }
+    ensures { λ r. ⌜ LeadsTo k (figuresAt (testOf how) (tableOf (now (s .entry))) chain k f) r ⌝ }
 {
     if f.late == 0 {
-        return Judged::settled(Answer::Misses(0));
+        return Packings::settled(Answer::Misses(0));
     }
     let b = place(s, chain);
     let p = Pieces::of(
@@ -133,28 +129,22 @@ fn by_figures(s: &[u8], chain: usize, k: u32, f: Figures) -> Judged
         (k - 1) as u64 * gap_at(s, b) as u64 + f.latency as u64,
     );
     if Table::OVERLOADS < p.count {
-        return Judged::settled(Answer::Refused(18));
+        return Packings::settled(Answer::Refused(18));
     }
     if any_again(s, f.last) {
-        return Judged::settled(Answer::Refused(19));
+        return Packings::settled(Answer::Refused(19));
     }
     let capacity = p.capacity;
     if above(&capacity) {
-        return Judged::settled(Answer::Refused(21));
+        return Packings::settled(Answer::Refused(21));
     }
-    Judged {
-        open: true,
-        answer: Answer::Misses(0),
-        chain,
-        figures: f,
-        pieces: p,
-    }
+    open(s, chain, k, f, p, how)
 }
 
-// 16 or 17, or what the figures leave open, where nothing is refused before any window.
-fn by_bound(s: &[u8], chain: usize, k: u32, w: Windows) -> Judged
+// 16 or 17, or what the figures leave, where nothing is refused before any window.
+fn by_bound(s: &[u8], chain: usize, k: u32, w: Windows, how: How) -> Packings
     requires { ⌜ Taken (now s) × (chain < tableOf (now s) .count) × (earlyOf (rowOf (tableOf (now s)) chain) k ≡ 0) × (w ≡ boundAt (tableOf (now s)) chain) ⌝ }
-    ensures { λ r. ⌜ Judges (now (s .entry)) k (λ test. testedAt test (tableOf (now (s .entry))) chain k) r ⌝ }
+    ensures { λ r. ⌜ LeadsTo k (testedAt (testOf how) (tableOf (now (s .entry))) chain k) r ⌝ }
 {
     let answer = w.answer;
     match answer {
@@ -170,44 +160,44 @@ fn by_bound(s: &[u8], chain: usize, k: u32, w: Windows) -> Judged
                 late,
                 last: w.last,
             };
-            by_figures(s, chain, k, f)
+            by_figures(s, chain, k, f, how)
         }
-        Bound::Refused(n) => Judged::settled(Answer::Refused(n)),
+        Bound::Refused(n) => Packings::settled(Answer::Refused(n)),
     }
 }
 
-// The query of the chain of that number in a run of k activations, where its windows are worked out already.
-pub fn judged_with(s: &[u8], chain: usize, k: u32, w: Windows) -> Judged
+// What is to be packed for the chain of that number in a run of k activations, where its windows are worked out already.
+pub fn packings_with(s: &[u8], chain: usize, k: u32, w: Windows, how: How) -> Packings
     requires { ⌜ Taken (now s) × (chain < tableOf (now s) .count) × (w ≡ boundAt (tableOf (now s)) chain) ⌝ }
-    ensures { λ r. ⌜ Judges (now (s .entry)) k (λ test. testedAt test (tableOf (now (s .entry))) chain k) r ⌝ }
+    ensures { λ r. ⌜ LeadsTo k (testedAt (testOf how) (tableOf (now (s .entry))) chain k) r ⌝ }
 {
     match early(s, place(s, chain), k) {
-        0 => by_bound(s, chain, k, w),
-        n => Judged::settled(Answer::Refused(n)),
+        0 => by_bound(s, chain, k, w, how),
+        n => Packings::settled(Answer::Refused(n)),
     }
 }
 
-// The query of the chain with the id, of an accepted table.
-fn judged_in(s: &[u8], id: u32, k: u32) -> Judged
+// For the chain with the id, of an accepted table.
+fn packings_in(s: &[u8], id: u32, k: u32, how: How) -> Packings
     requires { ⌜ Taken (now s) ⌝ }
-    ensures { λ r. ⌜ Judges (now (s .entry)) k (λ test. testedIn test (tableOf (now (s .entry))) id k) r ⌝ }
+    ensures { λ r. ⌜ LeadsTo k (testedIn (testOf how) (tableOf (now (s .entry))) id k) r ⌝ }
 {
     let chain = find(s, id);
     if chain == count(s) {
-        return Judged::settled(Answer::Refused(12));
+        return Packings::settled(Answer::Refused(12));
     }
     match early(s, place(s, chain), k) {
-        0 => by_bound(s, chain, k, bound(s, chain)),
-        n => Judged::settled(Answer::Refused(n)),
+        0 => by_bound(s, chain, k, bound(s, chain), how),
+        n => Packings::settled(Answer::Refused(n)),
     }
 }
 
-// The query of the chain with the id in a run of k activations, of a stored table.
-pub fn judged(table: &[u8], id: u32, k: u32) -> Judged
-    ensures { λ r. ⌜ Judges (now (table .entry)) k (λ test. testedOf test (now (table .entry)) id k) r ⌝ }
+// For the chain with the id in a run of k activations, of a stored table.
+pub fn packings_of(table: &[u8], id: u32, k: u32, how: How) -> Packings
+    ensures { λ r. ⌜ LeadsTo k (testedOf (testOf how) (now (table .entry)) id k) r ⌝ }
 {
     match judge(table) {
-        Verdict::Accepted => judged_in(table, id, k),
-        Verdict::Refused(n, _) => Judged::settled(Answer::Refused(n)),
+        Verdict::Accepted => packings_in(table, id, k, how),
+        Verdict::Refused(n, _) => Packings::settled(Answer::Refused(n)),
     }
 }

@@ -1,91 +1,44 @@
-// How many deadlines are missed, where the query is open: the bad combinations, packed; and the miss query.
+// The engines over what is to be packed, and the miss query: by the ordinary engine, by the plain one, and by the sieve.
 use crate::Answer;
-use crate::Judged;
-use crate::asking::judged;
-use crate::asking::judged_with;
-use crate::pricing::prices;
-use crate::pricing::sets_of;
-use crate::settling::lowest_bad;
-use crate::settling::over;
-use packing::COMBINATIONS;
+use crate::How;
+use crate::Packings;
+use crate::Sieved;
+use crate::asking::packings_of;
+use crate::asking::packings_with;
+use odometer::most_uses;
 use packing::uses_up_to;
-use table::Table;
-use windows::Others;
-use windows::Own;
 use windows::Windows;
-use windows::load;
 ghost use mathlib.Core.Path.{_≡_};
-ghost use Prim.Native.Nat.{ℕ, _*_, _≤_, _<_, min};
-ghost use lib.Dec.{leb};
-ghost use lib.ListN.{getD};
-ghost use Rattle.search.specs.Choice.{_when_else_};
-ghost use Rattle.table.specs.Limits.{maxRun, maxActivations};
+ghost use mathlib.Core.Bool.{true};
+ghost use Prim.Native.Nat.{_*_, _<_, min};
 ghost use Rattle.table.specs.code.Taken.{Taken};
 ghost use Rattle.table.specs.Read.{tableOf};
 ghost use Rattle.windows.specs.Latency.{boundAt};
-ghost use Rattle.packing.specs.Packing.{combinations};
-ghost use Rattle.packing.specs.Most.{mostUses};
-ghost use Rattle.packing.specs.Most.{capacity as capacityIn};
-ghost use Rattle.misses.specs.Bad.{byWindows};
 ghost use Rattle.misses.specs.Misses.{missesAt, missesOf};
-ghost use Rattle.misses.specs.code.Held.{missedAt};
-ghost use Rattle.misses.specs.code.Judged.{Ready};
+ghost use Rattle.misses.specs.Sieve.{asSieved, atMostOf};
+ghost use Rattle.misses.specs.code.Packings.{packedAnswer, Sized, LeadsTo};
 
-// 1 for a set that is bad.
-pub fn flag(bad: bool) -> u8
-    ensures { λ r. ⌜ r ≡ (1 when bad else 0) ⌝ }
+// Late times the uses, up to k.
+pub fn figure(k: u32, late: u32, uses: u32) -> u32
+    ensures { λ r. ⌜ r ≡ min k (late * uses) ⌝ }
 {
-    if bad { 1 } else { 0 }
+    let all = late as u64 * uses as u64;
+    if (k as u64) < all { k } else { all as u32 }
 }
 
-// The flags of all sets, by what they cost. The lowest bad cost is above 0, so a set that is no combination, whose price is 0, has
-// no flag; nor has the empty set, which the packing never looks at.
-fn flags(costs: &[u64; COMBINATIONS], lowest: u64) -> [u8; COMBINATIONS]
-    ensures { λ r. ⌜ ((m : ℕ) → m < combinations → getD r m 0 ≡ (1 when leb lowest (getD (now (costs .entry)) m 0) else 0)) ⌝ }
+// The answer by the ordinary engine. No more uses are looked for than the fewest that reach k.
+fn packed(k: u32, p: Packings) -> Answer
+    requires { ⌜ (p .open ≡ true → Sized k (p .late)) ⌝ }
+    ensures { λ r. ⌜ r ≡ packedAnswer k p ⌝ }
 {
-    let mut out = [0u8; COMBINATIONS];
-    let mut m: usize = 0;
-    while m < COMBINATIONS {
-        out[m] = flag(lowest <= costs[m]);
-        m += 1;
+    if p.open {
+        let late = p.late;
+        let bad = p.bad;
+        let capacity = p.capacity;
+        let enough = (k - 1) / late + 1;
+        return Answer::Misses(figure(k, late, uses_up_to(&bad, &capacity, enough)));
     }
-    out
-}
-
-// How many are missed in a run of k activations where sets from the lowest bad cost on are bad: late times the most uses any packing
-// has of them, up to k. No more uses are looked for than the fewest that reach k.
-pub fn packed(
-    costs: &[u64; COMBINATIONS],
-    lowest: u64,
-    capacity: &[u8; Table::OVERLOADS],
-    k: u32,
-    late: u32,
-) -> u32
-    requires { ⌜ (1 ≤ k) × (k ≤ maxRun) × (1 ≤ late) × (late ≤ maxActivations) ⌝ }
-    ensures { λ r. ⌜ r ≡ min k (late * mostUses (λ m. leb lowest (getD (now (costs .entry)) m 0)) (capacityIn (now (capacity .entry)))) ⌝ }
-{
-    let bad = flags(costs, lowest);
-    let enough = (k - 1) / late + 1;
-    let figure = late * uses_up_to(&bad, capacity, enough);
-    if k < figure { k } else { figure }
-}
-
-// How many deadlines are missed in a run of k activations, by the windows of the combinations.
-fn missed(s: &[u8], k: u32, j: Judged) -> u32
-    requires { ⌜ Ready (now s) k j ⌝ }
-    ensures { λ r. ⌜ r ≡ missedAt byWindows (tableOf (now (s .entry))) (j .chain) k (j .figures) ⌝ }
-{
-    let f = j.figures;
-    let p = j.pieces;
-    let mut held = [0u64; Own::HELD];
-    let own = load(s, j.chain, Others::Typical, &mut held);
-    if over(s, own, &held, f.close, 0) {
-        return k;
-    }
-    let costs = prices(p);
-    let lowest = lowest_bad(s, own, &held, f.close, &costs, sets_of(p.count));
-    let capacity = p.capacity;
-    packed(&costs, lowest, &capacity, k, f.late)
+    p.answer
 }
 
 // The misses of the chain of that number in a run of k activations, where its windows are worked out already.
@@ -93,20 +46,49 @@ pub fn misses_with(s: &[u8], chain: usize, k: u32, w: Windows) -> Answer
     requires { ⌜ Taken (now s) × (chain < tableOf (now s) .count) × (w ≡ boundAt (tableOf (now s)) chain) ⌝ }
     ensures { λ r. ⌜ r ≡ missesAt (tableOf (now (s .entry))) chain k ⌝ }
 {
-    let j = judged_with(s, chain, k, w);
-    if j.open {
-        return Answer::Misses(missed(s, k, j));
-    }
-    j.answer
+    packed(k, packings_with(s, chain, k, w, How::Lowest))
 }
 
 // The misses of the chain with the id in a run of k activations, of a stored table.
 pub fn misses(table: &[u8], id: u32, k: u32) -> Answer
     ensures { λ r. ⌜ r ≡ missesOf (now (table .entry)) id k ⌝ }
 {
-    let j = judged(table, id, k);
-    if j.open {
-        return Answer::Misses(missed(table, k, j));
+    packed(k, packings_of(table, id, k, How::Lowest))
+}
+
+// What the plain engine has to go through for the misses of the chain with the id in a run of k activations, of a stored table.
+pub fn packings_for(table: &[u8], id: u32, k: u32) -> Packings
+    ensures { λ r. ⌜ LeadsTo k (missesOf (now (table .entry)) id k) r ⌝ }
+{
+    packings_of(table, id, k, How::Each)
+}
+
+// The misses of the chain with the id in a run of k activations, of a stored table. It may take very long.
+pub fn misses_plain(table: &[u8], id: u32, k: u32) -> Answer
+    ensures { λ r. ⌜ r ≡ missesOf (now (table .entry)) id k ⌝ }
+{
+    let p = packings_for(table, id, k);
+    if p.open {
+        let bad = p.bad;
+        let capacity = p.capacity;
+        return Answer::Misses(figure(k, p.late, most_uses(&bad, &capacity)));
     }
-    j.answer
+    p.answer
+}
+
+// An answer by the sieve, told as such.
+fn as_sieved(answer: Answer) -> Sieved
+    ensures { λ r. ⌜ r ≡ asSieved answer ⌝ }
+{
+    match answer {
+        Answer::Misses(n) => Sieved::AtMost(n),
+        Answer::Refused(n) => Sieved::Refused(n),
+    }
+}
+
+// How many deadlines the chain with the id misses at most in a run of k activations, of a stored table.
+pub fn at_most(table: &[u8], id: u32, k: u32) -> Sieved
+    ensures { λ r. ⌜ r ≡ atMostOf (now (table .entry)) id k ⌝ }
+{
+    as_sieved(packed(k, packings_of(table, id, k, How::Sieve)))
 }

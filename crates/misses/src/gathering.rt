@@ -34,7 +34,7 @@ fn capacity(s: &[u8], a: usize, t: u64) -> u8
 
 impl Pieces {
     // No overload chain.
-    pub fn none() -> Self
+    fn none() -> Self
         ensures { λ r. ⌜ r ≡ heldAs 0 [] [] ⌝ }
     {
         Pieces {

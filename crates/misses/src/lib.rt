@@ -3,18 +3,17 @@
 mod asking;
 mod counting;
 mod gathering;
-mod plain;
 mod pricing;
 mod settling;
-mod sieving;
+mod testing;
 
+pub use counting::at_most;
+pub use counting::figure;
 pub use counting::misses;
+pub use counting::misses_plain;
 pub use counting::misses_with;
+pub use counting::packings_for;
 use packing::COMBINATIONS;
-pub use plain::figure;
-pub use plain::misses_plain;
-pub use plain::packings_for;
-pub use sieving::at_most;
 use table::Table;
 
 // What the miss query answers: how many deadlines are missed, or the refusal's number.
@@ -48,18 +47,15 @@ struct Pieces {
     capacity: [u8; Table::OVERLOADS],
 }
 
-// A miss query before combinations are looked at: settled, it has its answer; open, it goes by the chain of that number, the figures and
-// the active segments.
-struct Judged {
-    open: bool,
-    answer: Answer,
-    chain: usize,
-    figures: Figures,
-    pieces: Pieces,
+// How the costs of sets are tested: by the lowest bad one, each by its own windows, or by the sieve.
+enum How {
+    Lowest,
+    Each,
+    Sieve,
 }
 
-// What the plain engine has to go through: settled, the query has its answer; open, these are the bad combinations by flags, and the
-// capacities, and each use in a packing counts `late` times.
+// What is to be packed for a miss query: settled, it has its answer, and nothing is; open, these are the bad combinations by flags, and
+// the capacities, and each use in a packing counts `late` times.
 pub struct Packings {
     pub open: bool,
     pub answer: Answer,

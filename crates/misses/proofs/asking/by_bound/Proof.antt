@@ -7,12 +7,12 @@ use Rattle.table.specs.declared.Table.{Table}
 use Rattle.table.specs.Read.{tableOf}
 use Rattle.windows.specs.Demand.{viewsOf}
 use Rattle.windows.specs.declared.Answer.{Answer as Bound}
-use Rattle.misses.specs.Bad.{Test}
 use Rattle.misses.specs.Misses.{overloadsOf, byBound}
+use Rattle.misses.specs.code.Packings.{testOf}
 use Rattle.misses.specs.declared.Answer.{Answer}
 use Rattle.misses.proofs.Limits.{asked}
 use Rattle.misses.proofs.Answers.{at-bound}
-use Rattle.misses.proofs.Judging.{judges-settled, judges-same}
+use Rattle.misses.proofs.Leading.{leads-settled, leads-same}
 use Rattle.misses.proofs.asking.by_bound.Statement.{statement}
 use Rattle.misses.proofs.asking.by_bound.Tie as tie
 
@@ -20,8 +20,8 @@ abbrev t : tie.Start → Table
 t s = tableOf (now (s .args .s))
 
 -- what an answer of the windows gives
-abbrev given : tie.Start → Test → Bound → Answer
-given s test x = byBound test (rowOf (t s) (s .args .chain)) (viewsOf (t s) (s .args .chain)) (overloadsOf (t s) (s .args .chain)) (s .args .k) x (s .args .w .last)
+abbrev given : tie.Start → Bound → Answer
+given s x = byBound (testOf (s .args .how)) (rowOf (t s) (s .args .chain)) (viewsOf (t s) (s .args .chain)) (overloadsOf (t s) (s .args .chain)) (s .args .k) x (s .args .w .last)
 
 enum-known-answer : tie.Need-enum-known-answer
 enum-known-answer c = search needs
@@ -41,14 +41,14 @@ settled-requires c κs = search needs
 returns : tie.Need-returns
 returns c =
     let s = c .before .before .before .before .before in
-    judges-same (c .by-figures .ensures)
-    (λ test. ap (given s test) (sym (c .before .before .answer .given .1)) ∙ at-bound test (t s) (s .args .chain) (s .args .k) (s .pre .2) (s .args .w) (s .pre .3))
+    leads-same (c .by-figures .ensures)
+    (ap (given s) (sym (c .before .before .answer .given .1)) ∙ at-bound (testOf (s .args .how)) (t s) (s .args .chain) (s .args .k) (s .pre .2) (s .args .w) (s .pre .3))
 
 returns-2 : tie.Need-returns-2
 returns-2 c =
     let s = c .before .before .before .before .before in
-    judges-settled (c .settled .ensures)
-    (λ test. ap (given s test) (sym (c .before .before .answer2 .given .1)) ∙ at-bound test (t s) (s .args .chain) (s .args .k) (s .pre .2) (s .args .w) (s .pre .3))
+    leads-settled (c .settled .ensures)
+    (ap (given s) (sym (c .before .before .answer2 .given .1)) ∙ at-bound (testOf (s .args .how)) (t s) (s .args .chain) (s .args .k) (s .pre .2) (s .args .w) (s .pre .3))
 
 pub by-bound-spec : {M : Type 1} → statement M
 by-bound-spec =

@@ -1,6 +1,6 @@
 -- Each refusal settles the query, in the documents' order (`Judging`).
 use Prim.Native.Nat.{_+_, _*_, _-_, _≤_}
-use mathlib.Core.Path.{_≡_, refl, ap, ap₂, _∙_}
+use mathlib.Core.Path.{_≡_, ap, ap₂, _∙_}
 use mathlib.Core.Bool.{false}
 use native.Mathlib.Omega.{arith}
 use native.Mathlib.Nat.{mul-le-mul}
@@ -16,11 +16,12 @@ use Rattle.table.specs.code.Taken.{Stands}
 use Rattle.table.specs.Read.{tableOf}
 use Rattle.table.proofs.Stands.{row-there, stands}
 use Rattle.search.specs.Lists.{some}
-use Rattle.search.proofs.Choice.{true-not-false}
 use Rattle.misses.specs.Overloads.{overloads}
 use Rattle.misses.proofs.Starts.{starts}
 use Rattle.misses.specs.code.Held.{gathered}
-use Rattle.misses.proofs.Judging.{judged-late, judged-size, judged-many, judged-again, judged-roomy, judged-admitted, judged-missed, judges-settled}
+use Rattle.misses.specs.code.Packings.{testOf}
+use Rattle.misses.proofs.Judging.{judged-late, judged-size, judged-many, judged-again, judged-roomy, judged-admitted, judged-missed}
+use Rattle.misses.proofs.Leading.{leads-settled, leads-same}
 use Rattle.misses.proofs.asking.by_figures.Statement.{statement}
 use Rattle.misses.proofs.asking.by_figures.Tie as tie
 
@@ -95,7 +96,7 @@ returns : tie.Need-returns
 returns c =
     let i = c .before in
     let s = i .before .before .before in
-    judges-settled (c .settled .ensures) (judged-late (good s) (s .args .chain) (s .pre .1) (s .pre .2) (i .if1 .taken))
+    leads-settled (c .settled .ensures) (judged-late (good s) (s .args .chain) (s .pre .1) (s .pre .2) (i .if1 .taken) (testOf (s .args .how)))
 
 place-requires : tie.Need-place-requires
 place-requires c κs = let p = c .before .before .before .pre in (p .0, omega (arith, p .1))
@@ -131,7 +132,7 @@ returns-2 : tie.Need-returns-2
 returns-2 c =
     let p = c .before .before .before in
     let s = start p in
-    judges-settled (c .settled2 .ensures) (judged-many (good s) (s .args .chain) (s .pre .1) (s .pre .2) (some-late p) (gathers p) (c .before .if2 .taken))
+    leads-settled (c .settled2 .ensures) (judged-many (good s) (s .args .chain) (s .pre .1) (s .pre .2) (some-late p) (gathers p) (c .before .if2 .taken) (testOf (s .args .how)))
 
 any-again-requires : tie.Need-any-again-requires
 any-again-requires c κs = let s = start (c .before .before) in (s .pre .0, s .pre .2 .end)
@@ -144,8 +145,8 @@ returns-3 c =
     let i = c .before in
     let p = i .before .before .before .before in
     let s = start p in
-    judges-settled (c .settled3 .ensures)
-    (judged-again (good s) (s .args .chain) (s .pre .1) (s .pre .2) (some-late p) (gathers p) (i .before .before .if2 .left) (i .before .any-again .ensures _) (i .if3 .taken))
+    leads-settled (c .settled3 .ensures)
+    (judged-again (good s) (s .args .chain) (s .pre .1) (s .pre .2) (some-late p) (gathers p) (i .before .before .if2 .left) (i .before .any-again .ensures _) (i .if3 .taken) (testOf (s .args .how)))
 
 above-requires : tie.Need-above-requires
 above-requires c κs =
@@ -160,23 +161,26 @@ returns-4 : tie.Need-returns-4
 returns-4 c =
     let a = c .before .before in
     let s = start (pieces a) in
-    judges-settled (c .settled4 .ensures)
-    (judged-roomy (good s) (s .args .chain) (s .pre .1) (s .pre .2) (some-late (pieces a)) (gathers (pieces a)) (six a) (again a) (once a) (a .above .ensures) (c .before .if4 .taken))
+    leads-settled (c .settled4 .ensures)
+    (judged-roomy (good s) (s .args .chain) (s .pre .1) (s .pre .2) (some-late (pieces a)) (gathers (pieces a)) (six a) (again a) (once a) (a .above .ensures) (c .before .if4 .taken) (testOf (s .args .how)))
 
-returns-5 : tie.Need-returns-5
-returns-5 c =
+open-requires : tie.Need-open-requires
+open-requires c κs =
     let a = c .before in
     let s = start (pieces a) in
     record {
-      settled = λ shut. absurd (true-not-false refl shut);
-      ready = λ o. record {
-        taken = s .pre .0;
-        there = s .pre .1;
-        asked = s .pre .2;
-        admitted = judged-admitted (good s) (s .args .chain) (s .pre .1) (s .pre .2) (some-late (pieces a)) (gathers (pieces a)) (six a) (again a) (once a) (a .above .ensures) (c .if4 .left);
-      };
-      counts = λ o. judged-missed (good s) (s .args .chain) (s .pre .1) (s .pre .2) (some-late (pieces a)) (gathers (pieces a)) (six a) (again a) (once a) (a .above .ensures) (c .if4 .left);
+      taken = s .pre .0;
+      there = s .pre .1;
+      asked = s .pre .2;
+      admitted = judged-admitted (good s) (s .args .chain) (s .pre .1) (s .pre .2) (some-late (pieces a)) (gathers (pieces a)) (six a) (again a) (once a) (a .above .ensures) (c .if4 .left);
     }
+
+returns-5 : tie.Need-returns-5
+returns-5 c =
+    let a = c .before .before in
+    let s = start (pieces a) in
+    leads-same (c .open .ensures)
+    (judged-missed (good s) (s .args .chain) (s .pre .1) (s .pre .2) (some-late (pieces a)) (gathers (pieces a)) (six a) (again a) (once a) (a .above .ensures) (c .before .if4 .left) (testOf (s .args .how)))
 
 pub by-figures-spec : {M : Type 1} → statement M
 by-figures-spec =
@@ -201,4 +205,5 @@ by-figures-spec =
     above-requires
     settled-requires-4
     returns-4
+    open-requires
     returns-5)

@@ -1,22 +1,17 @@
--- Settled, or so many are missed.
-use mathlib.Core.Path.{ap, _∙_}
+-- What is to be packed, packed.
+use mathlib.Core.Path.{_∙_}
 use borrow.Author.Needs.{needs}
-use Rattle.misses.specs.Bad.{byWindows}
-use Rattle.misses.specs.declared.Answer.the-variants.{Misses}
 use Rattle.misses.proofs.counting.misses.Statement.{statement}
 use Rattle.misses.proofs.counting.misses.Tie as tie
 
-judged-requires : tie.Need-judged-requires
-judged-requires c κs = search needs
+packings-of-requires : tie.Need-packings-of-requires
+packings-of-requires c κs = search needs
 
-missed-requires : tie.Need-missed-requires
-missed-requires c κs = c .before .judged .ensures .ready (c .if1 .taken)
+packed-requires : tie.Need-packed-requires
+packed-requires c κs = c .packings-of .ensures .sized
 
 returns : tie.Need-returns
-returns c = ap Misses (c .missed .ensures) ∙ c .before .before .judged .ensures .counts (c .before .if1 .taken) byWindows
-
-returns-2 : tie.Need-returns-2
-returns-2 c = c .before .judged .ensures .settled (c .if1 .left) byWindows
+returns c = c .packed .ensures ∙ c .before .packings-of .ensures .is
 
 pub misses-spec : {M : Type 1} → statement M
-misses-spec = tie.close (tie.spec judged-requires missed-requires returns returns-2)
+misses-spec = tie.close (tie.spec packings-of-requires packed-requires returns)
