@@ -178,7 +178,7 @@ pub fn packings_with(s: &[u8], chain: usize, k: u32, w: Windows, how: How) -> Pa
 }
 
 // For the chain with the id, of an accepted table.
-fn packings_in(s: &[u8], id: u32, k: u32, how: How) -> Packings
+pub fn packings_in(s: &[u8], id: u32, k: u32, how: How) -> Packings
     requires { ⌜ Taken (now s) ⌝ }
     ensures { λ r. ⌜ LeadsTo k (testedIn (testOf how) (tableOf (now (s .entry))) id k) r ⌝ }
 {

@@ -3,10 +3,13 @@ use crate::Answer;
 use crate::How;
 use crate::Packings;
 use crate::Sieved;
+use crate::asking::packings_in;
 use crate::asking::packings_of;
 use crate::asking::packings_with;
 use odometer::most_uses;
 use packing::uses_up_to;
+use table::Verdict;
+use table::judge;
 use windows::Windows;
 ghost use mathlib.Core.Path.{_≡_};
 ghost use mathlib.Core.Bool.{true};
@@ -49,11 +52,15 @@ pub fn misses_with(s: &[u8], chain: usize, k: u32, w: Windows) -> Answer
     packed(k, packings_with(s, chain, k, w, How::Lowest))
 }
 
-// The misses of the chain with the id in a run of k activations, of a stored table.
+// The misses of the chain with the id in a run of k activations, of a stored table. It is asked most, so nothing is copied for a
+// refused one.
 pub fn misses(table: &[u8], id: u32, k: u32) -> Answer
     ensures { λ r. ⌜ r ≡ missesOf (now (table .entry)) id k ⌝ }
 {
-    packed(k, packings_of(table, id, k, How::Lowest))
+    match judge(table) {
+        Verdict::Accepted => packed(k, packings_in(table, id, k, How::Lowest)),
+        Verdict::Refused(n, _) => Answer::Refused(n),
+    }
 }
 
 // What the plain engine has to go through for the misses of the chain with the id in a run of k activations, of a stored table.
