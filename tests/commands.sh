@@ -46,7 +46,7 @@ help_and_links() {
     expect 0 "a report" "*built the report program in*" "*rt check report" "$room/links/two" report examples/sample.table
 }
 
-# says SCRIPT: what the programs of report, check and merge do.
+# says SCRIPT: what the programs of report, check, misses and merge do.
 says() {
     echo "$1" >"$room/says"
 }
@@ -86,6 +86,43 @@ reports() {
     expect 2 "" "*mishtodran: there is no report" "" ./mishtodran report
     says 'echo a report'
     expect 2 "" "mishtodran: standard output cannot be written" "" sh -c './mishtodran report >/dev/full'
+}
+
+# The program is given K and whether all packings are to be gone through; its lines are passed on as they come.
+misses() {
+    local misses=(./mishtodran misses examples/sample.table)
+    says 'echo "$@" && wc -c'
+    expect 0 $'10\n140' "*built the misses program in*" "*rt check table_misses" "${misses[@]}"
+    expect 0 $'10\n140' "" "" "${misses[@]}"
+    expect 0 $'10 all\n140' "" "" "${misses[@]}" --all
+    expect 0 $'1000\n140' "" "" "${misses[@]}" 1000
+    expect 0 $'8 all\n140' "" "" "${misses[@]}" 008 --all
+    expect 0 $'1 all\n140' "" "" "${misses[@]}" --all 1
+    cp "$copy/examples/sample.table" "$copy/--all"
+    expect 0 $'10 all\n140' "" "" ./mishtodran misses --all --all
+    says 'printf "a  line\n\\ another \n"'
+    expect 0 $'a  line\n\\\\ another ' "" "" "${misses[@]}"
+    says 'echo refused 2 at byte 0 && echo a note >&2'
+    expect 1 "refused 2 at byte 0" "a note" "" "${misses[@]}"
+    says 'echo a line && echo refused'
+    expect 0 $'a line\nrefused' "" "" "${misses[@]}"
+    says 'echo it cannot read >&2'
+    expect 2 "" $'it cannot read\nmishtodran: there is no answer' "" "${misses[@]}"
+    says 'exit 3'
+    expect 2 "" "mishtodran: there is no answer" "" "${misses[@]}"
+    says 'echo half && exit 3'
+    expect 2 half "mishtodran: the answer is not whole" "" "${misses[@]}"
+    says 'echo refused 2 && exit 3'
+    expect 2 "refused 2" "mishtodran: the answer is not whole" "" "${misses[@]}"
+    says 'echo half && printf more && kill -9 $$'
+    expect 2 half "*mishtodran: the answer is not whole" "" "${misses[@]}"
+    says 'echo a line'
+    expect 2 "" "mishtodran: standard output cannot be written" "" sh -c './mishtodran misses examples/sample.table >/dev/full'
+    says 'sleep 0.3 && echo a line'
+    expect 2 "" "" "" bash -c '"$@" | :; exit "${PIPESTATUS[0]}"' sh "${misses[@]}"
+    says 'echo first && for n in $(seq 50); do [ ! -e "$ROOM/seen" ] || { echo second && exit; }; sleep 0.1; done'
+    expect 0 $'first\nsecond' "" "" bash -o pipefail -c '"$@" | { read -r line && echo "$line" && touch "$ROOM/seen" && cat; }' sh "${misses[@]}"
+    says 'echo a report'
 }
 
 # holds TEXT: what RESULT holds after a merge. Nothing is left beside it.
@@ -434,6 +471,7 @@ gate() {
 help_and_links
 reports
 checks
+misses
 merges
 builds
 builds_that_go_wrong

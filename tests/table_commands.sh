@@ -1,6 +1,6 @@
 #!/usr/bin/env bash
-# Tries the commands `./mishtodran report` and `./mishtodran check`: what they print, and what they do where reading or writing
-# fails.
+# Tries the commands `./mishtodran report`, `./mishtodran check` and `./mishtodran misses`: what they print, and what they do
+# where reading or writing fails.
 # Usage: tests/table_commands.sh
 set -u
 name=table_commands
@@ -196,6 +196,65 @@ prints check "16 chains and no mark" "refused 3 at byte 448: a mark is not one a
     < <(seventeen | head -c 448 && bytes 88 88)
 prints check "a 17th chain" "refused 11 at byte 448: $ended (chain record 17, mark)" < <(seventeen)
 
+# ---- The misses ----
+
+# counts TEXT SAID FILE WORDS..: the misses of the table in the file are this text after the heading, and so much is said.
+counts() {
+    local text=$1 said=$2 status
+    shift 2
+    ./mishtodran misses "$@" >"$room/out" 2>"$room/err"
+    status=$?
+    [ "$status" = 0 ] || found "misses $*: exit status $status, not 0"
+    printf 'chain misses plain at_most\n%s\n' "$text" | cmp -s - "$room/out" || found "misses $*: another text: $(cat "$room/out")"
+    [ "$(cat "$room/err")" = "$said" ] || found "misses $*: it says '$(cat "$room/err")'"
+}
+
+# none_of ID..: the lines of overload chains, which have no miss bound.
+none_of() {
+    printf '%s r14 r14 r14\n' "$@"
+}
+
+# A table in which the sieve calls more combinations bad, and with many packings. Chain 1 has cost 40 and deadline 100, chain 2 above
+# it cost 20 each 90 ticks, and six overload chains between them cost 13 each. Three of these make a window of 119, since one of 99
+# has two activations of chain 2 in it; two make one of 86, but at 100 ticks there are two activations, and 106 is demanded. So by
+# windows 3 are bad, and by the sieve 2. The capacities are 4, 4, 4, 4, 4 and 5 for 10 activations of chain 1, whose largest window
+# is 158, and 5, 5, 5, 5, 5 and 6 for 13: 8 and 10 uses of 3, and 12 and 15 of 2. Of 13 there are 50,732,052 packings.
+many_packings() {
+    local i
+    bytes 67 72 1 0 0 0 100 0 0 0 232 3 0 0 1 1 232 3 0 0 84 75 1 0 40 0 0 0
+    bytes 67 72 2 0 0 0 90 0 0 0 90 0 0 0 1 1 90 0 0 0 84 75 20 0 20 0 0 0
+    for i in {3..7}; do bytes 67 72 "$i" 0 0 1 232 3 0 0 0 0 0 0 1 1 160 15 0 0 84 75 "$((7 + i))" 0 13 0 0 0; done
+    bytes 67 72 8 0 0 1 232 3 0 0 0 0 0 0 1 1 184 11 0 0 84 75 15 0 13 0 0 0
+    bytes 69 78 8 0
+}
+
+# refuses TEXT FILE: the misses of a refused table are one line, that of the check.
+refuses() {
+    local status
+    ./mishtodran misses "$2" >"$room/out" 2>"$room/err"
+    status=$?
+    [ "$status" = 1 ] || found "misses $2: exit status $status, not 1"
+    printf '%s\n' "$1" | cmp -s - "$room/out" || found "misses $2: another text: $(cat "$room/out")"
+    [ ! -s "$room/err" ] || found "misses $2: it says something on standard error"
+}
+
+# The sample's chain 1 has three active segments of overload chains, of which any two are bad; their capacities are 2 for up to 10
+# activations, and 3 for 11.
+./mishtodran misses examples/sample.table >"$room/out" || found "misses, the sample: it failed"
+cmp -s crates/table_misses/stdout "$room/out" || found "misses, the sample: another text"
+counts $'1 1 1 1\n2 0 0 0\n'"$(none_of 3 4)" "" examples/sample.table 1
+counts $'1 4 4 4\n2 0 0 0\n'"$(none_of 3 4)" "" examples/sample.table 11
+counts $'4 0 0 0\n3 5 5 5\n'"$(none_of 2 1)" "" examples/case_study.table
+many_packings >"$room/many"
+counts $'1 8 8 10\n2 0 0 0\n'"$(none_of {3..8})" "" "$room/many"
+counts $'1 10 - 13\n2 0 0 0\n'"$(none_of {3..8})" \
+    "misses: chain 1 has more than 5,000,000 packings; --all goes through them, which may take very long" "$room/many" 13
+counts $'1 10 10 13\n2 0 0 0\n'"$(none_of {3..8})" "misses: chain 1: 50 million packings so far" "$room/many" 13 --all
+refuses "$(cat crates/table_check/stdout)" crates/table_check/stdin
+: >"$room/empty"
+refuses "$length (the table has 0 bytes)" "$room/empty"
+refuses "$length (the table has more than 1,284 bytes)" "$room/longer"
+
 # ---- Reading and writing fail ----
 
 closed_input() {
@@ -221,4 +280,9 @@ for command in report check; do
 mishtodran: there is no $answer" failing_input "$command"
     fails "$command, a full disk" "mishtodran: standard output cannot be written" full_disk "$command"
 done
+fails "misses, a folder" "mishtodran: $room is a folder" ./mishtodran misses "$room"
+fails "misses, no such file" "mishtodran: there is no file $room/none" ./mishtodran misses "$room/none"
+fails "misses, a failing read" "misses: standard input could not be read
+mishtodran: there is no answer" ./mishtodran misses /proc/self/mem
+fails "misses, a full disk" "mishtodran: standard output cannot be written" full_disk misses
 print "table_commands: as it should be"

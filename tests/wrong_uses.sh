@@ -68,6 +68,23 @@ for file in unwritten shut/new; do
     wrong 2 "mishtodran: $file cannot be written" "${user[@]}" ./mishtodran merge t t t "$file"
 done
 
+# The misses of a table, in so many activations.
+usage="mishtodran: usage: ./mishtodran misses FILE [K] [--all]"
+wrong 2 "$usage" ./mishtodran misses
+wrong 2 "$usage" ./mishtodran misses t 10 20
+wrong 2 "$usage" ./mishtodran misses t 10 --all 20
+for file in none loop "" --all; do
+    wrong 2 "mishtodran: there is no file $file" ./mishtodran misses "$file"
+    wrong 2 "mishtodran: there is no file $file" ./mishtodran misses "$file" t
+done
+wrong 2 "mishtodran: examples is a folder" ./mishtodran misses examples
+wrong 2 "mishtodran: unread cannot be read" "${user[@]}" ./mishtodran misses unread
+wrong 2 "mishtodran: standard output is closed" bash -c "./mishtodran misses t >&-"
+for k in abc 0 1001 -1 +1 1e3 0x10 " 1" "" t --fast 18446744073709551617 "a[\$(touch x)]"; do
+    wrong 2 "mishtodran: K is a whole number from 1 to 1000, not '$k'" ./mishtodran misses t "$k"
+    wrong 2 "mishtodran: K is a whole number from 1 to 1000, not '$k'" ./mishtodran misses t --all "$k"
+done
+
 # A text into a table, and a table to text. Python is not among the stand-ins.
 usage="mishtodran: usage: ./mishtodran table TEXT TABLE"
 wrong 2 "$usage" ./mishtodran table
