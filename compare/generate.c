@@ -1316,13 +1316,13 @@ struct family {
 };
 
 static const struct family families[] = {
-    {"of the documents", 2, documented}, {"light", 19, some_light},
+    {"of the documents", 2, documented}, {"light", 14, some_light},
     {"full", 4, full_table},             {"heavy", 5, heavy_table},
     {"close to one", 5, close_to_one},   {"backlog", 7, backlog},
     {"horizon", 6, horizon},             {"exact horizon", 3, exact_horizon},
     {"limits", 6, at_limits},            {"wrong count", 4, wrong_count},
-    {"packing", 14, some_packing},       {"refused misses", 5, refused_misses},
-    {"sieved", 8, sieved},               {"past the horizon", 2, past_horizon},
+    {"packing", 13, some_packing},       {"refused misses", 5, refused_misses},
+    {"sieved", 13, sieved},              {"past the horizon", 3, past_horizon},
     {"frequent", 6, frequent},           {"at arrivals", 4, at_arrivals},
 };
 

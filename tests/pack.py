@@ -8,11 +8,14 @@ little-endian), the table's length (2 bytes), the table. The kinds and their six
   2 latency   id, K, latency, late, margin + 10,000,000
   3 misses    id, k, misses
   4 report    length of the text, which follows the table
+  5 misses    id, k, misses: by the plain engine
+  6 at most   id, k, a number that the misses do not exceed
 
 Each different table of any file of tests/cases gives a case of kind 0. Its verdict is worked out by a reader written from the
 documents (stored.py), and held against what the case says. Cases of refusal 27 speak of the answer buffer, which these
 queries do not have. After the cases of the files come those that only an order decides (orders.py), every start of the
-sample, those that document 01 and the published case study tell, and some at the edges, held here.
+sample, those that document 01 and the published case study tell, and some at the edges, held here. Kinds 5 and 6 are
+pack_misses.py's.
 """
 import json
 import struct

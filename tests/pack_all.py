@@ -21,7 +21,7 @@ sys.path.insert(0, str(TOP / "examples"))
 from table import replace
 
 PACKED = {
-    "crates/vectors/stdin": pack.everything,
+    "crates/vectors/stdin": lambda: [*pack.everything(), *pack_misses.everything()],
     "crates/save_vectors/stdin": pack_save.everything,
     "crates/merge_vectors/stdin": pack_merge.everything,
     "crates/write_vectors/stdin": pack_write.everything,

@@ -88,3 +88,9 @@ def at_most():
 def left_out():
     """How many queries the engine that goes through every packing is not asked."""
     return sum(by_words(query, is_bad) is None for query in queries())
+
+
+def everything():
+    """The packed cases of both, for the program vectors."""
+    return [pack.packed(kind, known.number, [*query.asked[1:], known.answer or 0], query.asked[0])
+            for kind, found in ((5, plain()), (6, at_most())) for query, known in found]

@@ -105,12 +105,29 @@ fn latency_right(s: &[u8], c: Case) -> bool {
     }
 }
 
-// The misses of the chain `values[0]` in a run of `values[1]` activations.
-fn misses_right(s: &[u8], c: Case) -> bool {
-    let answer = misses::misses(s, c.values[0], c.values[1]);
+fn missed_right(answer: misses::Answer, c: Case) -> bool {
     match answer {
         misses::Answer::Misses(n) => c.number == 0 && n == c.values[2],
         misses::Answer::Refused(n) => n == c.number,
+    }
+}
+
+// The misses of the chain `values[0]` in a run of `values[1]` activations.
+fn misses_right(s: &[u8], c: Case) -> bool {
+    missed_right(misses::misses(s, c.values[0], c.values[1]), c)
+}
+
+// The same by the plain engine.
+fn plain_right(s: &[u8], c: Case) -> bool {
+    missed_right(misses::misses_plain(s, c.values[0], c.values[1]), c)
+}
+
+// At most how many, by the sieve.
+fn at_most_right(s: &[u8], c: Case) -> bool {
+    let answer = misses::at_most(s, c.values[0], c.values[1]);
+    match answer {
+        misses::Sieved::AtMost(n) => c.number == 0 && n == c.values[2],
+        misses::Sieved::Refused(n) => n == c.number,
     }
 }
 
@@ -138,6 +155,8 @@ fn right(s: &[u8], c: Case) -> bool {
         2 => latency_right(s, c),
         3 => misses_right(s, c),
         4 => report_right(s, c),
+        5 => plain_right(s, c),
+        6 => at_most_right(s, c),
         _ => false,
     }
 }

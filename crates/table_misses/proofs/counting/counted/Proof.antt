@@ -1,8 +1,9 @@
 -- Settled, given up, or late times the most uses, up to k.
 use Prim.Native.Nat.{_*_, min}
-use mathlib.Core.Path.{ap, _∙_}
+use mathlib.Core.Path.{ap, sym, _∙_}
 use borrow.Author.Needs.{needs}
 use borrow.Author.Tests.{not-true, not-false}
+use Rattle.search.proofs.Choice.{when-yes, when-no}
 use Rattle.misses.specs.declared.Answer.the-variants.{Misses}
 use Rattle.odometer.proofs.Turns.{gone-most}
 use Rattle.table_misses.proofs.Known.{counts-known, counts-none}
@@ -31,10 +32,10 @@ returns-2 c =
     let p = i .before .packings-for in
     let k = i .before .before .before .args .k in
     let most = gone-most (g .ensures .0) (not-false _ (c .before .if2 .left)) in
-    counts-known (ap Misses (c .figure .ensures ∙ ap (λ n. min k (p .result .late * n)) most) ∙ p .ensures .counts (i .if1 .taken))
+    counts-known (ap Misses (c .figure .ensures ∙ ap (λ n. min k (p .result .late * n)) most) ∙ sym (when-yes _ _ (i .if1 .taken)) ∙ p .ensures .is)
 
 returns-3 : tie.Need-returns-3
-returns-3 c = counts-known (c .before .packings-for .ensures .settled (c .if1 .left))
+returns-3 c = counts-known (sym (when-no _ _ (c .if1 .left)) ∙ c .before .packings-for .ensures .is)
 
 pub counted-spec : {M : Type 1} → statement M
 counted-spec =
