@@ -116,6 +116,8 @@ misses() {
     expect 2 "refused 2" "mishtodran: the answer is not whole" "" "${misses[@]}"
     says 'echo half && printf more && kill -9 $$'
     expect 2 half "*mishtodran: the answer is not whole" "" "${misses[@]}"
+    says 'echo half && printf more'
+    expect 2 half "mishtodran: the answer is not whole" "" "${misses[@]}"
     says 'echo a line'
     expect 2 "" "mishtodran: standard output cannot be written" "" sh -c './mishtodran misses examples/sample.table >/dev/full'
     says 'sleep 0.3 && echo a line'

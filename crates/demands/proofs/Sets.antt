@@ -1,15 +1,15 @@
 -- Bad combinations in words: any two active segments of one chain are of one segment, and some window is late. Assumes nothing.
-use Prim.Native.Nat.{ℕ, zero, suc, _+_, _/_, _%_, _^_, _≤_, _<_}
+use Prim.Native.Nat.{ℕ, zero, suc, _+_, _/_, _%_, _^_, _<_}
 use mathlib.Core.Path.{_≡_, refl, ap, ap₂, sym, _∙_, subst}
-use mathlib.Core.Bool.{Bool, true, false, _&&_, _||_}
+use mathlib.Core.Bool.{Bool, true, _&&_}
 use mathlib.Core.List.{List, [], _∷_}
 use native.Mathlib.Omega.{arith}
 use native.Mathlib.Decide.{ℕ-discrete}
 use lib.Dec.{ltb}
 use lib.ListN.{length}
 use borrow.Author.Tests.{ltb-true, lt-ltb, eq-eqb, ne-eqb, eqb-true}
-use Rattle.search.specs.Lists.{All, some, every}
-use Rattle.search.proofs.Choice.{when-yes, when-no, when-cases, true-not-false}
+use Rattle.search.specs.Lists.{All, every}
+use Rattle.search.proofs.Choice.{when-yes, when-no, when-cases}
 use Rattle.table.specs.code.Good.{GoodRow}
 use Rattle.table.specs.declared.Row.{Row}
 use Rattle.arrivals.specs.Arrivals.{δ}
@@ -182,7 +182,7 @@ module _ (b : Row) (l : List Row) (close : ℕ) where
             combination = allowed-combination (pieces b l) m a;
             q = f .0;
             low = f .1;
-            high = f .2;
+            within = f .2;
             above = subst (λ d. t < withCost d (setCost (members (pieces b l) m)) (f .0) t) same (ltb-true _ _ (f .3));
           }
 
@@ -190,4 +190,4 @@ module _ (b : Row) (l : List Row) (close : ℕ) where
       called-is h =
           let t = due (distances b) (b .deadline) (h .q) in
           ap₂ _&&_ (combination-allowed (pieces b l) m (h .combination))
-          (some-one (passes m) close (h .q) (h .low) (h .high) (lt-ltb _ _ (subst (λ d. t < withCost d (setCost (members (pieces b l) m)) (h .q) t) (sym same) (h .above))))
+          (some-one (passes m) close (h .q) (h .low) (h .within) (lt-ltb _ _ (subst (λ d. t < withCost d (setCost (members (pieces b l) m)) (h .q) t) (sym same) (h .above))))

@@ -1,4 +1,4 @@
--- Demand 2 for the miss query: what its answer says of a chain b beside the other chains l, for a run of k activations.
+-- Demand 2 for the miss query, and for the sieve: what an answer says of a chain b beside the other chains l, for a run of k activations.
 use Prim.Native.Nat.{ℕ, _+_, _*_, _-_, _^_, _≤_, _<_, min}
 use mathlib.Core.Path.{_≡_}
 use mathlib.Core.Bool.{Bool, true}
@@ -73,7 +73,7 @@ module _ (b : Row) (l : List Row) where
     pub combination : Combination pieces m
     pub q : ℕ
     pub low : 1 ≤ q
-    pub high : q ≤ close
+    pub within : q ≤ close
     pub above : δ (distances b) q + b .deadline < withCost without (setCost (members pieces m)) q (δ (distances b) q + b .deadline)
 
   -- before any window: k in 1 to 1,000, no overload chain, a known gap
@@ -111,7 +111,7 @@ module _ (b : Row) (l : List Row) where
   -- by what makes a combination bad, for q up to K
   module _ (Bad : ℕ → ℕ → Type 0) where
     module _ {k : ℕ} (f : Figured k) where
-      -- no miss without any overload
+      -- the empty combination is not bad
       abbrev pub Fine : Type 0
       Fine = Bad (f .close) 0 → ⊥
 
@@ -141,7 +141,7 @@ module _ (b : Row) (l : List Row) where
       again : (f : Figured k) → 1 ≤ f .late → AtMostSix → (Once f → ⊥) → Says k (Refused 19)
       -- a capacity above 40
       above : (f : Figured k) → 1 ≤ f .late → AtMostSix → Once f → (Capped f → ⊥) → Says k (Refused 21)
-      -- a miss without any overload: all of them
+      -- the empty combination is bad: all of them
       always : (f : Figured k) → 1 ≤ f .late → AtMostSix → Once f → Capped f → Bad (f .close) 0 → Says k (Misses k)
       -- the smaller of k and the packing figure: late times the most uses that any packing has
       packed : (f : Figured k) (uses : ℕ) → 1 ≤ f .late → AtMostSix → Once f → Capped f → Fine f → Most f uses → Says k (Misses (min k (f .late * uses)))

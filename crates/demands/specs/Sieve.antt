@@ -1,5 +1,5 @@
 -- Request 6 of document 02: the miss count a second way, and the sieve beside it.
-use Prim.Native.Nat.{ℕ, _≤_, _<_}
+use Prim.Native.Nat.{ℕ, _≤_}
 use mathlib.Core.Path.{_≡_}
 use mathlib.Core.List.{List, [], _∷_}
 use Rattle.table.specs.Bytes.{Bytes}

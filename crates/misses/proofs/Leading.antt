@@ -10,13 +10,13 @@ use Rattle.misses.specs.declared.Answer.the-variants.{Misses}
 use Rattle.misses.specs.declared.Packings.{Packings}
 
 -- nothing is to be packed
-pub leads-settled : {k : ℕ} {answer a : Answer} {p : Packings} → (p .open ≡ false) × (p .answer ≡ a) → a ≡ answer → LeadsTo k answer p
-leads-settled e f = record { is = when-no _ _ (e .0) ∙ e .1 ∙ f; sized = λ o. absurd (true-not-false o (e .0)) }
+pub leads-answered : {k : ℕ} {answer a : Answer} {p : Packings} → (p .pending ≡ false) × (p .answer ≡ a) → a ≡ answer → LeadsTo k answer p
+leads-answered e f = record { is = when-no _ _ (e .0) ∙ e .1 ∙ f; sized = λ o. absurd (true-not-false o (e .0)) }
 
 -- something is
-pub leads-open : {k : ℕ} {answer : Answer} {p : Packings} → p .open ≡ true → Sized k (p .late)
+pub leads-pending : {k : ℕ} {answer : Answer} {p : Packings} → p .pending ≡ true → Sized k (p .late)
     → Misses (min k (p .late * mostUses (flagged (p .bad)) (capacity (p .capacity)))) ≡ answer → LeadsTo k answer p
-leads-open o sized e = record { is = when-yes _ _ o ∙ e; sized = λ o. sized }
+leads-pending o sized e = record { is = when-yes _ _ o ∙ e; sized = λ o. sized }
 
 -- to the same answer by another name
 pub leads-same : {k : ℕ} {answer other : Answer} {p : Packings} → LeadsTo k answer p → answer ≡ other → LeadsTo k other p

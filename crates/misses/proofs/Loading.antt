@@ -3,7 +3,6 @@ use Prim.Native.Nat.{ℕ, _+_, _≤_, _<_}
 use mathlib.Core.Path.{_≡_, ap, ap₂, fun-ext}
 use mathlib.Core.List.{List}
 use native.Mathlib.Omega.{arith}
-use lib.Dec.{leb}
 use lib.ListN.{length, length-append}
 use Rattle.table.specs.Find.{rowOf}
 use Rattle.table.specs.code.Good.{GoodTable}
@@ -13,12 +12,12 @@ use Rattle.table.specs.Record.{distances}
 use Rattle.segments.specs.View.{View}
 use Rattle.windows.specs.Demand.{demandOf}
 use Rattle.windows.specs.code.Load.{onceLimit, viewsAt, viewsBetween, Load, Loads}
-use Rattle.windows.specs.code.Called.{CalledFrom}
+use Rattle.windows.specs.code.Called.{aboveIn}
 use Rattle.windows.specs.declared.Others.the-variants.{Typical}
 use Rattle.windows.proofs.Besides.{views-length, views-others}
 use Rattle.misses.specs.Bad.{over}
 use Rattle.misses.specs.Sieve.{called}
-use Rattle.misses.specs.code.Settling.{overWith, calledWith, beyond}
+use Rattle.misses.specs.code.Settling.{overWith, beyond}
 
 -- what is over, by the load, is over by the demand
 pub loads-over : {b : Row} {vs : List View} {l : Load} → Loads b vs l → (close cost : ℕ)
@@ -28,14 +27,10 @@ loads-over a close cost =
 
 -- and so what is called bad
 pub loads-called : {b : Row} {vs : List View} {l : Load} → Loads b vs l → (close cost : ℕ)
-    → calledWith l close cost ≡ called (demandOf b vs) (distances b) (b .deadline) close cost
+    → aboveIn l close cost ≡ called (demandOf b vs) (distances b) (b .deadline) close cost
+unfolding called
 loads-called a close cost =
     ap₂ (λ d (r : Row). called d (distances r) (r .deadline) close cost) (fun-ext (λ q. fun-ext (λ t. a .demand q t))) (a .chain)
-
--- from the least cost called bad on all are
-pub called-from : {l : Load} {close r : ℕ} → CalledFrom l close beyond r → (cost : ℕ) → cost < beyond → leb r cost ≡ calledWith l close cost
-unfolding called
-called-from c cost h = c .tells cost h
 
 -- and it has room for any set's cost
 pub loads-room : (t : Table) → GoodTable t → (chain : ℕ) → chain < t .count → (l : Load) → Loads (rowOf t chain) (viewsAt Typical t chain) l → l .once + beyond ≤ onceLimit

@@ -16,7 +16,7 @@ use Rattle.table.specs.Record.{distances}
 use Rattle.segments.specs.View.{View}
 use Rattle.windows.specs.Demand.{others, viewsOf}
 use Rattle.windows.specs.code.Load.{viewsAt, Load, Loads}
-use Rattle.windows.specs.code.Called.{Starts}
+use Rattle.windows.specs.code.Called.{aboveIn, Starts}
 use Rattle.windows.specs.declared.Others.the-variants.{Typical}
 use Rattle.windows.proofs.Besides.{others-good}
 use Rattle.packing.specs.Packing.{combinations}
@@ -28,7 +28,7 @@ use Rattle.misses.specs.Misses.{badOf, roomOf, packingFigure, overloadsO
 use Rattle.misses.specs.Sieve.{bySieve}
 use Rattle.misses.specs.code.Held.{piecesIn, priceOf, Few, missedAt}
 use Rattle.misses.specs.code.Packings.{Sized, Ready}
-use Rattle.misses.specs.code.Settling.{overWith, calledWith, beyond, Costs, Tries}
+use Rattle.misses.specs.code.Settling.{overWith, beyond, Costs, Tries}
 use Rattle.misses.specs.declared.Figures.{Figures}
 use Rattle.misses.specs.declared.Pieces.{Pieces}
 use Rattle.misses.proofs.Prices.{price-past}
@@ -121,5 +121,5 @@ module _ {s : List ℕ} {chain k : ℕ} {f : Figures} {p : Pieces} (ready : Read
     pub missed-over : (c : ℕ) → overWith l close c ≡ byWindows b views close c
     missed-over c = loads-over loads close c
 
-    pub missed-called : (c : ℕ) → calledWith l close c ≡ bySieve b views close c
+    pub missed-called : (c : ℕ) → aboveIn l close c ≡ bySieve b views close c
     missed-called c = loads-called loads close c

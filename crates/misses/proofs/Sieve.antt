@@ -1,6 +1,6 @@
 -- The sieve and the windows: what is bad is called bad, so that the sieve's figure is never below the miss count, and both are refused alike.
 -- Assumes nothing.
-use Prim.Native.Nat.{ℕ, zero, suc, _+_, _*_, _≤_, _<_, min}
+use Prim.Native.Nat.{ℕ, zero, suc, _≤_, _<_, min}
 use mathlib.Core.Path.{_≡_, refl, ap, ap₂, sym, _∙_}
 use mathlib.Core.Bool.{Bool, true, false, _&&_}
 use mathlib.Core.List.{List, map}
@@ -18,7 +18,6 @@ use Rattle.table.specs.Limits.{maxOverloads, maxCapacity}
 use Rattle.table.specs.Record.{distances}
 use Rattle.table.specs.code.Good.{GoodRow}
 use Rattle.table.specs.declared.Row.{Row}
-use Rattle.arrivals.specs.Arrivals.{δ}
 use Rattle.segments.specs.View.{View, viewOf}
 use Rattle.windows.specs.Window.{windowOf}
 use Rattle.windows.specs.Demand.{demandOf, typical}

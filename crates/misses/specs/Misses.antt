@@ -63,7 +63,8 @@ module _ (test : Test) where
     unfoldable pub packingFigure : ℕ → ℕ → ℕ → ℕ
     packingFigure close latency late = late * mostUses (badOf b views os close) (λ i. getD (roomOf b os k latency) i 0)
 
-    -- all k where a deadline is missed even without overload, the empty set being bad; else the smaller of k and the packing figure
+    -- all k where the empty set is bad (by windows: a deadline is missed even without overload); else the smaller of k and the packing
+    -- figure
     unfoldable pub missedOf : ℕ → ℕ → ℕ → ℕ
     missedOf close latency late = k when badOf b views os close 0 else min k (packingFigure close latency late)
 

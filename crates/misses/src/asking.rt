@@ -103,7 +103,7 @@ fn above(capacity: &[u8; Table::OVERLOADS]) -> bool
 }
 
 // What is to be packed where nothing is refused.
-fn open(s: &[u8], chain: usize, k: u32, f: Figures, p: Pieces, how: How) -> Packings
+fn by_test(s: &[u8], chain: usize, k: u32, f: Figures, p: Pieces, how: How) -> Packings
     requires { ⌜ Ready (now s) chain k f p ⌝ }
     ensures { λ r. ⌜ LeadsTo k (Misses (missedAt (testOf how) (tableOf (now (s .entry))) chain k f)) r ⌝ }
 {
@@ -120,7 +120,7 @@ fn by_figures(s: &[u8], chain: usize, k: u32, f: Figures, how: How) -> Packings
     ensures { λ r. ⌜ LeadsTo k (figuresAt (testOf how) (tableOf (now (s .entry))) chain k f) r ⌝ }
 {
     if f.late == 0 {
-        return Packings::settled(Answer::Misses(0));
+        return Packings::answered(Answer::Misses(0));
     }
     let b = place(s, chain);
     let p = Pieces::of(
@@ -129,16 +129,16 @@ fn by_figures(s: &[u8], chain: usize, k: u32, f: Figures, how: How) -> Packings
         (k - 1) as u64 * gap_at(s, b) as u64 + f.latency as u64,
     );
     if Table::OVERLOADS < p.count {
-        return Packings::settled(Answer::Refused(18));
+        return Packings::answered(Answer::Refused(18));
     }
     if any_again(s, f.last) {
-        return Packings::settled(Answer::Refused(19));
+        return Packings::answered(Answer::Refused(19));
     }
     let capacity = p.capacity;
     if above(&capacity) {
-        return Packings::settled(Answer::Refused(21));
+        return Packings::answered(Answer::Refused(21));
     }
-    open(s, chain, k, f, p, how)
+    by_test(s, chain, k, f, p, how)
 }
 
 // 16 or 17, or what the figures leave, where nothing is refused before any window.
@@ -162,7 +162,7 @@ fn by_bound(s: &[u8], chain: usize, k: u32, w: Windows, how: How) -> Packings
             };
             by_figures(s, chain, k, f, how)
         }
-        Bound::Refused(n) => Packings::settled(Answer::Refused(n)),
+        Bound::Refused(n) => Packings::answered(Answer::Refused(n)),
     }
 }
 
@@ -173,7 +173,7 @@ pub fn packings_with(s: &[u8], chain: usize, k: u32, w: Windows, how: How) -> Pa
 {
     match early(s, place(s, chain), k) {
         0 => by_bound(s, chain, k, w, how),
-        n => Packings::settled(Answer::Refused(n)),
+        n => Packings::answered(Answer::Refused(n)),
     }
 }
 
@@ -184,11 +184,11 @@ pub fn packings_in(s: &[u8], id: u32, k: u32, how: How) -> Packings
 {
     let chain = find(s, id);
     if chain == count(s) {
-        return Packings::settled(Answer::Refused(12));
+        return Packings::answered(Answer::Refused(12));
     }
     match early(s, place(s, chain), k) {
         0 => by_bound(s, chain, k, bound(s, chain), how),
-        n => Packings::settled(Answer::Refused(n)),
+        n => Packings::answered(Answer::Refused(n)),
     }
 }
 
@@ -198,6 +198,6 @@ pub fn packings_of(table: &[u8], id: u32, k: u32, how: How) -> Packings
 {
     match judge(table) {
         Verdict::Accepted => packings_in(table, id, k, how),
-        Verdict::Refused(n, _) => Packings::settled(Answer::Refused(n)),
+        Verdict::Refused(n, _) => Packings::answered(Answer::Refused(n)),
     }
 }

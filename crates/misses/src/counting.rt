@@ -31,10 +31,10 @@ pub fn figure(k: u32, late: u32, uses: u32) -> u32
 
 // The answer by the ordinary engine. No more uses are looked for than the fewest that reach k.
 fn packed(k: u32, p: Packings) -> Answer
-    requires { ⌜ (p .open ≡ true → Sized k (p .late)) ⌝ }
+    requires { ⌜ (p .pending ≡ true → Sized k (p .late)) ⌝ }
     ensures { λ r. ⌜ r ≡ packedAnswer k p ⌝ }
 {
-    if p.open {
+    if p.pending {
         let late = p.late;
         let bad = p.bad;
         let capacity = p.capacity;
@@ -52,8 +52,8 @@ pub fn misses_with(s: &[u8], chain: usize, k: u32, w: Windows) -> Answer
     packed(k, packings_with(s, chain, k, w, How::Lowest))
 }
 
-// The misses of the chain with the id in a run of k activations, of a stored table. It is asked most, so nothing is copied for a
-// refused one.
+// The misses of the chain with the id in a run of k activations, of a stored table. It is asked most, so it does without
+// `packings_of`, whose result would be copied once more.
 pub fn misses(table: &[u8], id: u32, k: u32) -> Answer
     ensures { λ r. ⌜ r ≡ missesOf (now (table .entry)) id k ⌝ }
 {
@@ -75,7 +75,7 @@ pub fn misses_plain(table: &[u8], id: u32, k: u32) -> Answer
     ensures { λ r. ⌜ r ≡ missesOf (now (table .entry)) id k ⌝ }
 {
     let p = packings_for(table, id, k);
-    if p.open {
+    if p.pending {
         let bad = p.bad;
         let capacity = p.capacity;
         return Answer::Misses(figure(k, p.late, most_uses(&bad, &capacity)));

@@ -54,10 +54,10 @@ enum How {
     Sieve,
 }
 
-// What is to be packed for a miss query: settled, it has its answer, and nothing is; open, these are the bad combinations by flags, and
-// the capacities, and each use in a packing counts `late` times.
+// What is to be packed for a miss query. Where nothing is, it has its answer; where something is pending, these are the bad
+// combinations by flags, and the capacities, and each use in a packing counts `late` times.
 pub struct Packings {
-    pub open: bool,
+    pub pending: bool,
     pub answer: Answer,
     pub late: u32,
     pub bad: [u8; COMBINATIONS],

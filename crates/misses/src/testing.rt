@@ -76,11 +76,11 @@ fn flags_by_windows(
 
 impl Packings {
     // Nothing is to be packed: that is the answer.
-    pub fn settled(answer: Answer) -> Self
-        ensures { λ r. ⌜ (r .open ≡ false) × (r .answer ≡ answer) ⌝ }
+    pub fn answered(answer: Answer) -> Self
+        ensures { λ r. ⌜ (r .pending ≡ false) × (r .answer ≡ answer) ⌝ }
     {
         Packings {
-            open: false,
+            pending: false,
             answer,
             late: 0,
             bad: [0u8; COMBINATIONS],
@@ -97,14 +97,14 @@ pub fn by_lowest(s: &[u8], chain: usize, k: u32, f: Figures, p: Pieces) -> Packi
     let mut held = [0u64; Own::HELD];
     let own = load(s, chain, Others::Typical, &mut held);
     if over(s, own, &held, f.close, 0) {
-        return Packings::settled(Answer::Misses(k));
+        return Packings::answered(Answer::Misses(k));
     }
     let costs = prices(p);
     let lowest = lowest_bad(s, own, &held, f.close, &costs, sets_of(p.count));
     let bad = flags(&costs, lowest);
     let capacity = p.capacity;
     Packings {
-        open: true,
+        pending: true,
         answer: Answer::Misses(0),
         late: f.late,
         bad,
@@ -120,13 +120,13 @@ pub fn by_each(s: &[u8], chain: usize, k: u32, f: Figures, p: Pieces) -> Packing
     let mut held = [0u64; Own::HELD];
     let own = load(s, chain, Others::Typical, &mut held);
     if over(s, own, &held, f.close, 0) {
-        return Packings::settled(Answer::Misses(k));
+        return Packings::answered(Answer::Misses(k));
     }
     let costs = prices(p);
     let bad = flags_by_windows(s, own, &held, f.close, &costs, sets_of(p.count));
     let capacity = p.capacity;
     Packings {
-        open: true,
+        pending: true,
         answer: Answer::Misses(0),
         late: f.late,
         bad,
@@ -144,13 +144,13 @@ pub fn by_sieve(s: &[u8], chain: usize, k: u32, f: Figures, p: Pieces) -> Packin
     let own = load(s, chain, Others::Typical, &mut held);
     let lowest = least_called(s, own, &held, f.close, Settled::BEYOND);
     if lowest == 0 {
-        return Packings::settled(Answer::Misses(k));
+        return Packings::answered(Answer::Misses(k));
     }
     let costs = prices(p);
     let bad = flags(&costs, lowest);
     let capacity = p.capacity;
     Packings {
-        open: true,
+        pending: true,
         answer: Answer::Misses(0),
         late: f.late,
         bad,

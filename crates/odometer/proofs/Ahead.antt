@@ -10,7 +10,7 @@ use Rattle.search.specs.Choice.{_when_else_}
 use Rattle.search.proofs.Choice.{when-no, when-cases, true-not-false, lt-or-le}
 use Rattle.packing.specs.Packing.{sumTo}
 use Rattle.odometer.specs.declared.Odometer.{Odometer}
-use Rattle.odometer.specs.Gone.{usesOf, Before, Gone, GoesOn}
+use Rattle.odometer.specs.code.Gone.{usesOf, Before, Gone, GoesOn}
 use Rattle.odometer.proofs.Turns.{gone-few}
 
 -- 256 to the power of n

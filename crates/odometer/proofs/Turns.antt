@@ -14,7 +14,7 @@ use Rattle.packing.proofs.Linear.{usable-some}
 use Rattle.packing.proofs.Laws.{usable-bad, bad-usable}
 use Rattle.packing.proofs.Most.{most-is, reached-room}
 use Rattle.odometer.specs.declared.Odometer.{Odometer}
-use Rattle.odometer.specs.Gone.{usesOf, leftOf, Before, Gone}
+use Rattle.odometer.specs.code.Gone.{usesOf, leftOf, Before, Gone}
 use Rattle.odometer.specs.code.Steps.{Fits, Raisable, Resettable, Changed}
 use Rattle.odometer.proofs.Digits.{sum-above, sum-change}
 

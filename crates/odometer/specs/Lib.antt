@@ -1,2 +1,1 @@
-pub mod Gone
 pub mod code

@@ -11,7 +11,7 @@ ghost use Rattle.table.specs.Limits.{maxOverloads};
 ghost use Rattle.packing.specs.Packing.{bit, combinations};
 ghost use Rattle.packing.specs.Most.{mostUses, flagged, capacity};
 ghost use Rattle.packing.specs.code.Engine.{Tells, maxByte};
-ghost use Rattle.odometer.specs.Gone.{Gone, Going, GoesOn, usesOf};
+ghost use Rattle.odometer.specs.code.Gone.{Gone, Going, GoesOn, usesOf};
 ghost use Rattle.odometer.specs.code.Steps.{Fits, Raisable, Resettable, Changed};
 
 // The packing it stands at, and what it found on the way there.

@@ -5,7 +5,6 @@ use mathlib.Core.Bool.{Bool, true, false}
 use native.Mathlib.Omega.{arith}
 use Rattle.search.proofs.Choice.{true-not-false}
 use Rattle.misses.specs.declared.Answer.{Answer}
-use Rattle.table_misses.specs.declared.counting.Count.{Count}
 use Rattle.table_misses.specs.declared.counting.Count.the-variants.{Known, GivenUp}
 use Rattle.table_misses.specs.declared.counting.Extent.{Extent}
 use Rattle.table_misses.specs.declared.counting.Extent.the-variants.{Every}

@@ -12,7 +12,7 @@ ghost use mathlib.Core.Path.{_≡_};
 ghost use mathlib.Core.Bool.{true};
 ghost use Rattle.packing.specs.Most.{flagged};
 ghost use Rattle.packing.specs.Most.{capacity as capacityIn};
-ghost use Rattle.odometer.specs.Gone.{Gone};
+ghost use Rattle.odometer.specs.code.Gone.{Gone};
 ghost use Rattle.misses.specs.Misses.{missesOf};
 ghost use Rattle.table_misses.specs.code.Counting.{Counts};
 
@@ -95,7 +95,7 @@ pub fn counted(table: &[u8], id: u32, k: u32, extent: Extent) -> Count
     ensures { λ r. ⌜ Counts (missesOf (now (table .entry)) id k) extent r ⌝ }
 {
     let p = packings_for(table, id, k);
-    if p.open {
+    if p.pending {
         let bad = p.bad;
         let capacity = p.capacity;
         let o = gone_through(extent, id, &bad, &capacity);

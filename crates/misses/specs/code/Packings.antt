@@ -33,9 +33,9 @@ pub record Ready (s : List ℕ) (chain k : ℕ) (f : Figures) (p : Pieces) : Typ
   pub asked : Asked (rowOf (tableOf s) chain) k f
   pub admitted : Admitted (tableOf s) chain k f p
 
--- the answer: the one that is settled, or the smaller of k and late times the most uses any packing has
+-- the answer: the one that it has, or, where something is pending, the smaller of k and late times the most uses any packing has
 abbrev pub packedAnswer : ℕ → Packings → Answer
-packedAnswer k p = Misses (min k (p .late * mostUses (flagged (p .bad)) (capacity (p .capacity)))) when p .open else p .answer
+packedAnswer k p = Misses (min k (p .late * mostUses (flagged (p .bad)) (capacity (p .capacity)))) when p .pending else p .answer
 
 -- the run and the late activations are within their limits
 pub record Sized (k late : ℕ) : Type 0 where
@@ -47,4 +47,4 @@ pub record Sized (k late : ℕ) : Type 0 where
 -- p leads to the answer
 pub record LeadsTo (k : ℕ) (answer : Answer) (p : Packings) : Type 0 where
   pub is : packedAnswer k p ≡ answer
-  pub sized : p .open ≡ true → Sized k (p .late)
+  pub sized : p .pending ≡ true → Sized k (p .late)

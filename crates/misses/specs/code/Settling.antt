@@ -9,17 +9,12 @@ use Rattle.table.specs.Limits.{maxOverloads, maxActivations}
 use Rattle.windows.specs.code.Load.{onceLimit, Load, rowIn, ownOf, demandIn, Sound}
 use Rattle.packing.specs.Packing.{combinations}
 use Rattle.misses.specs.Bad.{over}
-use Rattle.misses.specs.Sieve.{called}
 use Rattle.segments.specs.code.Held.{dearest}
 use Rattle.misses.specs.declared.Settled.{Settled}
 
 -- a set that costs so much is bad, by the demand of a load
 abbrev pub overWith : Load → ℕ → ℕ → Bool
 overWith l close cost = over (demandIn l) (ownOf l) (rowIn l .deadline) close cost
-
--- and is called bad
-abbrev pub calledWith : Load → ℕ → ℕ → Bool
-calledWith l close cost = called (demandIn l) (ownOf l) (rowIn l .deadline) close cost
 
 -- no set costs so much
 abbrev pub beyond : ℕ

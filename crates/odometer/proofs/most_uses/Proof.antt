@@ -3,7 +3,7 @@ use borrow.Author.Needs.{needs}
 use borrow.Author.Tests.{not-true, not-false}
 use native.Mathlib.Omega.{arith}
 use Rattle.packing.specs.Most.{flagged, capacity}
-use Rattle.odometer.specs.Gone.{Gone}
+use Rattle.odometer.specs.code.Gone.{Gone}
 use Rattle.odometer.proofs.Turns.{gone-most}
 use Rattle.odometer.proofs.Ahead.{ahead, ahead-falls}
 use Rattle.odometer.proofs.most_uses.Statement.{statement}

@@ -6,7 +6,7 @@ use Rattle.table.specs.Limits.{maxOverloads}
 use Rattle.packing.specs.Packing.{bit, combinations}
 use Rattle.packing.specs.code.Engine.{maxByte, maxRoom}
 use Rattle.odometer.specs.declared.Odometer.{Odometer}
-use Rattle.odometer.specs.Gone.{usesOf, leftOf}
+use Rattle.odometer.specs.code.Gone.{usesOf, leftOf}
 
 -- m is bad, and each of its active segments has room
 pub record Fits (bad : ℕ → Bool) (left : ℕ → ℕ) (m : ℕ) : Type 0 where

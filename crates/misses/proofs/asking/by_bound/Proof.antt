@@ -12,7 +12,7 @@ use Rattle.misses.specs.code.Packings.{testOf}
 use Rattle.misses.specs.declared.Answer.{Answer}
 use Rattle.misses.proofs.Limits.{asked}
 use Rattle.misses.proofs.Answers.{at-bound}
-use Rattle.misses.proofs.Leading.{leads-settled, leads-same}
+use Rattle.misses.proofs.Leading.{leads-answered, leads-same}
 use Rattle.misses.proofs.asking.by_bound.Statement.{statement}
 use Rattle.misses.proofs.asking.by_bound.Tie as tie
 
@@ -35,8 +35,8 @@ by-figures-requires c κs =
 enum-known-answer-2 : tie.Need-enum-known-answer-2
 enum-known-answer-2 c = search needs
 
-settled-requires : tie.Need-settled-requires
-settled-requires c κs = search needs
+answered-requires : tie.Need-answered-requires
+answered-requires c κs = search needs
 
 returns : tie.Need-returns
 returns c =
@@ -47,10 +47,10 @@ returns c =
 returns-2 : tie.Need-returns-2
 returns-2 c =
     let s = c .before .before .before .before .before in
-    leads-settled (c .settled .ensures)
+    leads-answered (c .answered .ensures)
     (ap (given s) (sym (c .before .before .answer2 .given .1)) ∙ at-bound (testOf (s .args .how)) (t s) (s .args .chain) (s .args .k) (s .pre .2) (s .args .w) (s .pre .3))
 
 pub by-bound-spec : {M : Type 1} → statement M
 by-bound-spec =
     tie.close
-    (tie.spec enum-known-answer by-figures-requires enum-known-answer-2 settled-requires returns returns-2)
+    (tie.spec enum-known-answer by-figures-requires enum-known-answer-2 answered-requires returns returns-2)

@@ -1,4 +1,4 @@
--- Each refusal settles the query, in the documents' order (`Judging`).
+-- Each refusal answers the query, in the documents' order (`Judging`).
 use Prim.Native.Nat.{_+_, _*_, _-_, _≤_}
 use mathlib.Core.Path.{_≡_, ap, ap₂, _∙_}
 use mathlib.Core.Bool.{false}
@@ -21,7 +21,7 @@ use Rattle.misses.proofs.Starts.{starts}
 use Rattle.misses.specs.code.Held.{gathered}
 use Rattle.misses.specs.code.Packings.{testOf}
 use Rattle.misses.proofs.Judging.{judged-late, judged-size, judged-many, judged-again, judged-roomy, judged-admitted, judged-missed}
-use Rattle.misses.proofs.Leading.{leads-settled, leads-same}
+use Rattle.misses.proofs.Leading.{leads-answered, leads-same}
 use Rattle.misses.proofs.asking.by_figures.Statement.{statement}
 use Rattle.misses.proofs.asking.by_figures.Tie as tie
 
@@ -89,14 +89,14 @@ module _ (c : tie.After-above) where
   once : c .before .before .before .before .any-again .result ≡ false
   once = c .before .before .before .if3 .left
 
-settled-requires : tie.Need-settled-requires
-settled-requires c κs = search needs
+answered-requires : tie.Need-answered-requires
+answered-requires c κs = search needs
 
 returns : tie.Need-returns
 returns c =
     let i = c .before in
     let s = i .before .before .before in
-    leads-settled (c .settled .ensures) (judged-late (good s) (s .args .chain) (s .pre .1) (s .pre .2) (i .if1 .taken) (testOf (s .args .how)))
+    leads-answered (c .answered .ensures) (judged-late (good s) (s .args .chain) (s .pre .1) (s .pre .2) (i .if1 .taken) (testOf (s .args .how)))
 
 place-requires : tie.Need-place-requires
 place-requires c κs = let p = c .before .before .before .pre in (p .0, omega (arith, p .1))
@@ -125,27 +125,27 @@ add-of c = omega (arith, run (c .before), spaced (c .before) .pre .2 .near)
 of-requires : tie.Need-of-requires
 of-requires c κs = let s = spaced (c .before) in (s .pre .0, here (c .before .before), omega (arith, run (c .before), s .pre .2 .near))
 
-settled-requires-2 : tie.Need-settled-requires-2
-settled-requires-2 c κs = search needs
+answered-requires-2 : tie.Need-answered-requires-2
+answered-requires-2 c κs = search needs
 
 returns-2 : tie.Need-returns-2
 returns-2 c =
     let p = c .before .before .before in
     let s = start p in
-    leads-settled (c .settled2 .ensures) (judged-many (good s) (s .args .chain) (s .pre .1) (s .pre .2) (some-late p) (gathers p) (c .before .if2 .taken) (testOf (s .args .how)))
+    leads-answered (c .answered2 .ensures) (judged-many (good s) (s .args .chain) (s .pre .1) (s .pre .2) (some-late p) (gathers p) (c .before .if2 .taken) (testOf (s .args .how)))
 
 any-again-requires : tie.Need-any-again-requires
 any-again-requires c κs = let s = start (c .before .before) in (s .pre .0, s .pre .2 .end)
 
-settled-requires-3 : tie.Need-settled-requires-3
-settled-requires-3 c κs = search needs
+answered-requires-3 : tie.Need-answered-requires-3
+answered-requires-3 c κs = search needs
 
 returns-3 : tie.Need-returns-3
 returns-3 c =
     let i = c .before in
     let p = i .before .before .before .before in
     let s = start p in
-    leads-settled (c .settled3 .ensures)
+    leads-answered (c .answered3 .ensures)
     (judged-again (good s) (s .args .chain) (s .pre .1) (s .pre .2) (some-late p) (gathers p) (i .before .before .if2 .left) (i .before .any-again .ensures _) (i .if3 .taken) (testOf (s .args .how)))
 
 above-requires : tie.Need-above-requires
@@ -154,18 +154,18 @@ above-requires c κs =
     let s = start p in
     judged-size (good s) (s .args .chain) (s .pre .1) (s .pre .2) (some-late p) (gathers p)
 
-settled-requires-4 : tie.Need-settled-requires-4
-settled-requires-4 c κs = search needs
+answered-requires-4 : tie.Need-answered-requires-4
+answered-requires-4 c κs = search needs
 
 returns-4 : tie.Need-returns-4
 returns-4 c =
     let a = c .before .before in
     let s = start (pieces a) in
-    leads-settled (c .settled4 .ensures)
+    leads-answered (c .answered4 .ensures)
     (judged-roomy (good s) (s .args .chain) (s .pre .1) (s .pre .2) (some-late (pieces a)) (gathers (pieces a)) (six a) (again a) (once a) (a .above .ensures) (c .before .if4 .taken) (testOf (s .args .how)))
 
-open-requires : tie.Need-open-requires
-open-requires c κs =
+by-test-requires : tie.Need-by-test-requires
+by-test-requires c κs =
     let a = c .before in
     let s = start (pieces a) in
     record {
@@ -179,14 +179,14 @@ returns-5 : tie.Need-returns-5
 returns-5 c =
     let a = c .before .before in
     let s = start (pieces a) in
-    leads-same (c .open .ensures)
+    leads-same (c .by-test .ensures)
     (judged-missed (good s) (s .args .chain) (s .pre .1) (s .pre .2) (some-late (pieces a)) (gathers (pieces a)) (six a) (again a) (once a) (a .above .ensures) (c .before .if4 .left) (testOf (s .args .how)))
 
 pub by-figures-spec : {M : Type 1} → statement M
 by-figures-spec =
     tie.close
     (tie.spec
-    settled-requires
+    answered-requires
     returns
     place-requires
     sub-of
@@ -197,13 +197,13 @@ by-figures-spec =
     cast-of-3
     add-of
     of-requires
-    settled-requires-2
+    answered-requires-2
     returns-2
     any-again-requires
-    settled-requires-3
+    answered-requires-3
     returns-3
     above-requires
-    settled-requires-4
+    answered-requires-4
     returns-4
-    open-requires
+    by-test-requires
     returns-5)

@@ -14,7 +14,7 @@ use Rattle.misses.specs.Misses.{earlyOf, testedAt, testedIn}
 use Rattle.misses.specs.code.Packings.{testOf}
 use Rattle.misses.specs.declared.Answer.the-variants.{Refused}
 use Rattle.misses.proofs.Answers.{at-early, chain-none, chain-found}
-use Rattle.misses.proofs.Leading.{leads-settled, leads-same}
+use Rattle.misses.proofs.Leading.{leads-answered, leads-same}
 use Rattle.misses.proofs.asking.packings_in.Statement.{statement}
 use Rattle.misses.proofs.asking.packings_in.Tie as tie
 
@@ -56,14 +56,14 @@ find-requires c κs = c .before .pre
 count-requires : tie.Need-count-requires
 count-requires c κs = c .before .before .pre
 
-settled-requires : tie.Need-settled-requires
-settled-requires c κs = search needs
+answered-requires : tie.Need-answered-requires
+answered-requires c κs = search needs
 
 returns : tie.Need-returns
 returns c =
     let i = c .before in
     let s = i .before .before .before .before in
-    leads-settled (c .settled .ensures)
+    leads-answered (c .answered .ensures)
     (sym (chain-none (testOf (s .args .how)) (t s) (s .args .id) (s .args .k) (sym (i .before .before .find .ensures) ∙ i .if1 .taken ∙ i .before .count .ensures)))
 
 place-requires : tie.Need-place-requires
@@ -80,8 +80,8 @@ by-bound-requires c κs =
     let d = known (c .before .before) in
     (start d .pre, there d, sym (judged (c .before .before)) ∙ c .before .match .keys1, c .bound .ensures)
 
-settled-requires-2 : tie.Need-settled-requires-2
-settled-requires-2 c κs = search needs
+answered-requires-2 : tie.Need-answered-requires-2
+answered-requires-2 c κs = search needs
 
 returns-2 : tie.Need-returns-2
 returns-2 c = leads-same (c .by-bound .ensures) (found (c .before .before .before .before .before))
@@ -91,7 +91,7 @@ returns-3 c =
     let m = c .before in
     let d = known (m .before) in
     let e = judged (m .before) in
-    leads-settled (c .settled2 .ensures)
+    leads-answered (c .answered2 .ensures)
     (ap Refused e ∙ sym (at-early (test d) (t (start d)) (chain d) (start d .args .k) (λ z. m .match .rest .1 (e ∙ z))) ∙ found d)
 
 pub packings-in-spec : {M : Type 1} → statement M
@@ -100,12 +100,12 @@ packings-in-spec =
     (tie.spec
     find-requires
     count-requires
-    settled-requires
+    answered-requires
     returns
     place-requires
     early-requires
     bound-requires
     by-bound-requires
-    settled-requires-2
+    answered-requires-2
     returns-2
     returns-3)

@@ -8,7 +8,7 @@ use Rattle.table.specs.declared.Verdict.the-variants.{Accepted}
 use Rattle.table.proofs.Accepted.{taken}
 use Rattle.misses.specs.code.Packings.{testOf}
 use Rattle.misses.proofs.Answers.{tested-refused, tested-accepted}
-use Rattle.misses.proofs.Leading.{leads-settled, leads-same}
+use Rattle.misses.proofs.Leading.{leads-answered, leads-same}
 use Rattle.misses.proofs.asking.packings_of.Statement.{statement}
 use Rattle.misses.proofs.asking.packings_of.Tie as tie
 
@@ -27,8 +27,8 @@ packings-in-requires c κs = taken (now (c .before .before .before .before .args
 enum-known-n : tie.Need-enum-known-n
 enum-known-n c = search needs
 
-settled-requires : tie.Need-settled-requires
-settled-requires c κs = search needs
+answered-requires : tie.Need-answered-requires
+answered-requires c κs = search needs
 
 returns : tie.Need-returns
 returns c =
@@ -39,9 +39,9 @@ returns-2 : tie.Need-returns-2
 returns-2 c =
     let a = c .before .before .before .before .before .before .args in
     let g = c .before .before .n .given in
-    leads-settled (c .settled .ensures)
+    leads-answered (c .answered .ensures)
     (sym (tested-refused (testOf (a .how)) (now (a .table)) (a .id) (a .k) (sym (c .before .before .before .before .judge .ensures) ∙ g .1)))
 
 pub packings-of-spec : {M : Type 1} → statement M
 packings-of-spec =
-    tie.close (tie.spec judge-requires enum-told packings-in-requires enum-known-n settled-requires returns returns-2)
+    tie.close (tie.spec judge-requires enum-told packings-in-requires enum-known-n answered-requires returns returns-2)

@@ -11,7 +11,7 @@ use Rattle.misses.specs.Misses.{earlyOf}
 use Rattle.misses.specs.code.Packings.{testOf}
 use Rattle.misses.specs.declared.Answer.the-variants.{Refused}
 use Rattle.misses.proofs.Answers.{at-early}
-use Rattle.misses.proofs.Leading.{leads-settled}
+use Rattle.misses.proofs.Leading.{leads-answered}
 use Rattle.misses.proofs.asking.packings_with.Statement.{statement}
 use Rattle.misses.proofs.asking.packings_with.Tie as tie
 
@@ -33,8 +33,8 @@ early-requires c κs = let p = c .before .before .pre in omega (arith, stands (p
 by-bound-requires : tie.Need-by-bound-requires
 by-bound-requires c κs = let p = c .before .before .before .before .pre in (p .0, p .1, sym (judged (c .before)) ∙ c .match .keys1, p .2)
 
-settled-requires : tie.Need-settled-requires
-settled-requires c κs = search needs
+answered-requires : tie.Need-answered-requires
+answered-requires c κs = search needs
 
 returns : tie.Need-returns
 returns c = c .by-bound .ensures
@@ -44,8 +44,8 @@ returns-2 c =
     let m = c .before in
     let s = m .before .before .before .before in
     let e = judged (m .before) in
-    leads-settled (c .settled .ensures) (ap Refused e ∙ sym (at-early (testOf (s .args .how)) (t s) (s .args .chain) (s .args .k) (λ z. m .match .rest .1 (e ∙ z))))
+    leads-answered (c .answered .ensures) (ap Refused e ∙ sym (at-early (testOf (s .args .how)) (t s) (s .args .chain) (s .args .k) (λ z. m .match .rest .1 (e ∙ z))))
 
 pub packings-with-spec : {M : Type 1} → statement M
 packings-with-spec =
-    tie.close (tie.spec place-requires early-requires by-bound-requires settled-requires returns returns-2)
+    tie.close (tie.spec place-requires early-requires by-bound-requires answered-requires returns returns-2)

@@ -1,4 +1,4 @@
--- Settled, or so many uses reach k.
+-- Answered, or so many uses reach k.
 use mathlib.Core.Path.{ap, sym, _∙_}
 use native.Mathlib.Omega.{arith}
 use borrow.Author.Needs.{needs}

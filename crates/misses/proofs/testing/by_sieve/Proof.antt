@@ -13,14 +13,14 @@ use Rattle.table.specs.Read.{tableOf}
 use Rattle.table.specs.declared.Table.{Table}
 use Rattle.windows.specs.Demand.{viewsOf}
 use Rattle.windows.specs.code.Load.{Load, loadOf}
+use Rattle.windows.specs.code.Called.{aboveIn}
 use Rattle.packing.specs.Most.{flagged}
 use Rattle.misses.specs.Sieve.{bySieve}
 use Rattle.misses.specs.declared.Answer.the-variants.{Misses}
-use Rattle.misses.specs.code.Settling.{beyond, calledWith}
-use Rattle.misses.proofs.Loading.{called-from}
+use Rattle.misses.specs.code.Settling.{beyond}
 use Rattle.misses.proofs.Packs.{flags-tell}
 use Rattle.misses.proofs.Missed.{missed-few, missed-starts, missed-called, missed-within, missed-without, missed-counts, missed-sized}
-use Rattle.misses.proofs.Leading.{leads-settled, leads-open}
+use Rattle.misses.proofs.Leading.{leads-answered, leads-pending}
 use Rattle.misses.proofs.testing.by_sieve.Statement.{statement}
 use Rattle.misses.proofs.testing.by_sieve.Tie as tie
 
@@ -35,7 +35,7 @@ module _ (c : tie.After-load) where
   abbrev load : Load
   load = loadOf (now (start .args .s)) (c .load .result) (c .load .last .1 .1 .1 .0)
 
-  same : (cost : ℕ) → calledWith load (start .args .f .close) cost ≡ bySieve (rowOf table (start .args .chain)) (viewsOf table (start .args .chain)) (start .args .f .close) cost
+  same : (cost : ℕ) → aboveIn load (start .args .f .close) cost ≡ bySieve (rowOf table (start .args .chain)) (viewsOf table (start .args .chain)) (start .args .f .close) cost
   same = missed-called (start .pre) (c .load .ensures)
 
 -- the costs called bad
@@ -43,10 +43,10 @@ module _ (c : tie.After-least-called) where
   abbrev loaded : tie.After-load
   loaded = c .before .before
 
-  from : (cost : ℕ) → cost < beyond → leb (c .least-called .result) cost ≡ calledWith (load loaded) (start loaded .args .f .close) cost
-  from = called-from (c .least-called .ensures)
+  from : (cost : ℕ) → cost < beyond → leb (c .least-called .result) cost ≡ aboveIn (load loaded) (start loaded .args .f .close) cost
+  from = c .least-called .ensures .tells
 
-  fine : (c .least-called .result ≡ 0 → ⊥) → calledWith (load loaded) (start loaded .args .f .close) 0 ≡ false
+  fine : (c .least-called .result ≡ 0 → ⊥) → aboveIn (load loaded) (start loaded .args .f .close) 0 ≡ false
   fine h = sym (from 0 (omega arith)) ∙ lt-leb (c .least-called .result) 0 (omega arith)
 
 load-requires : tie.Need-load-requires
@@ -58,15 +58,15 @@ least-called-requires c κs =
     let s = start l in
     missed-starts (s .pre) (l .load .ensures)
 
-settled-requires : tie.Need-settled-requires
-settled-requires c κs = search needs
+answered-requires : tie.Need-answered-requires
+answered-requires c κs = search needs
 
 returns : tie.Need-returns
 returns c =
     let d = c .before .before in
     let l = loaded d in
     let s = start l in
-    leads-settled (c .settled .ensures)
+    leads-answered (c .answered .ensures)
     (ap Misses (missed-without (s .pre) bySieve (same l) (sym (from d 0 (omega arith)) ∙ le-leb (d .least-called .result) 0 (omega (arith, c .before .if1 .taken)))))
 
 prices-requires : tie.Need-prices-requires
@@ -86,7 +86,7 @@ returns-2 c =
     let d = e .before in
     let l = loaded d in
     let s = start l in
-    leads-open refl (missed-sized (s .pre))
+    leads-pending refl (missed-sized (s .pre))
     (ap Misses
     (missed-counts (s .pre) bySieve (same l) (fine d (e .if1 .left)) (prices .result) (prices .ensures) (flagged (flags .result))
     (λ m h. flags-tell (flags .result) (λ m. leb (d .least-called .result) (getD (prices .result) m 0)) (flags .ensures) m h
@@ -98,7 +98,7 @@ by-sieve-spec =
     (tie.spec
     load-requires
     least-called-requires
-    settled-requires
+    answered-requires
     returns
     prices-requires
     flags-requires

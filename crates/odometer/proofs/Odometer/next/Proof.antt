@@ -6,7 +6,7 @@ use mathlib.Core.Logic.{inl, inr, ⊎-elim}
 use native.Mathlib.Omega.{arith}
 use borrow.Author.Needs.{needs}
 use Rattle.packing.specs.Most.{flagged}
-use Rattle.odometer.specs.Gone.{usesOf, Gone}
+use Rattle.odometer.specs.code.Gone.{usesOf, Gone}
 use Rattle.odometer.specs.code.Steps.{Changed}
 use Rattle.odometer.proofs.Turns.{Turning, turning-start, turning-reset, turning-raise, turning-end, unchanged, gone-raisable, gone-resettable}
 use Rattle.odometer.proofs.Odometer.next.Statement.{statement}

@@ -6,7 +6,7 @@ use native.Mathlib.Omega.{arith}
 use borrow.Author.Needs.{needs}
 use borrow.Author.Tests.{not-true, not-false}
 use Rattle.packing.specs.Most.{flagged}
-use Rattle.odometer.specs.Gone.{Gone}
+use Rattle.odometer.specs.code.Gone.{Gone}
 use Rattle.odometer.proofs.Ahead.{Since, since-on, since-end}
 use Rattle.odometer.proofs.Odometer.turn.Statement.{statement}
 use Rattle.odometer.proofs.Odometer.turn.Tie as tie

@@ -4,7 +4,7 @@ use borrow.Author.Tests.{not-true, not-false}
 use native.Mathlib.Omega.{arith}
 use Rattle.packing.specs.Most.{flagged}
 use Rattle.packing.specs.Most.{capacity as capacityIn}
-use Rattle.odometer.specs.Gone.{Gone}
+use Rattle.odometer.specs.code.Gone.{Gone}
 use Rattle.odometer.proofs.Ahead.{ahead, ahead-falls}
 use Rattle.table_misses.proofs.counting.every.Statement.{statement}
 use Rattle.table_misses.proofs.counting.every.Tie as tie

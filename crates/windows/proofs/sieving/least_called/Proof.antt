@@ -1,7 +1,7 @@
 -- `least_called` meets its contract. The loop's invariant: the costs called bad by the activations looked at so far are those from `least`
 -- on.
 use Prim.Native.Nat.{ℕ, _+_, _-_, _≤_}
-use mathlib.Core.Path.{_≡_, ap, ap₂, sym, subst, _∙_}
+use mathlib.Core.Path.{_≡_, ap₂, sym, subst}
 use native.Mathlib.Omega.{arith}
 use borrow.Author.Needs.{needs}
 use Rattle.table.specs.Record.{rowAt}

@@ -9,8 +9,8 @@ use Rattle.misses.specs.declared.Answer.{Answer}
 use Rattle.misses.specs.declared.Answer.the-variants.{Misses}
 use Rattle.misses.specs.declared.How.{How}
 use Rattle.misses.proofs.Leading.{leads-same}
-use Rattle.misses.proofs.asking.open.Statement.{statement}
-use Rattle.misses.proofs.asking.open.Tie as tie
+use Rattle.misses.proofs.asking.by_test.Statement.{statement}
+use Rattle.misses.proofs.asking.by_test.Tie as tie
 
 abbrev answer : tie.Start → How → Answer
 answer s how = Misses (missedAt (testOf how) (tableOf (now (s .args .s))) (s .args .chain) (s .args .k) (s .args .f))
@@ -42,8 +42,8 @@ returns-2 c = leads-same (c .by-each .ensures) (ap (answer (c .before .before .b
 returns-3 : tie.Need-returns-3
 returns-3 c = leads-same (c .by-sieve .ensures) (ap (answer (c .before .before .before .before)) (sym (c .before .enum-told3 .given .1)))
 
-pub open-spec : {M : Type 1} → statement M
-open-spec =
+pub by-test-spec : {M : Type 1} → statement M
+by-test-spec =
     tie.close
     (tie.spec
     enum-told
