@@ -28,7 +28,7 @@ twice =
     69 ∷ 78 ∷ 3 ∷ 0 ∷ []
 
 pub record SecondWays : Type 0 where
-  -- the two engines' answers are equal for all bytes, ids and k, and so are their entries' calls, lent bytes included
+  -- the two engines' answers are equal for all bytes, ids and k: the calls of their entries return the same and leave the same bytes
   pub engines : (s : List ℕ) (id k : ℕ) {before after after′ : List ℕ} {n m : ℕ} → MissesEntry s id k before after n → PlainEntry s id k before after′ m
       → (after ≡ after′) × (n ≡ m)
   -- the sieve's answer is the miss query's, with the combinations that it calls bad in the place of the bad ones
