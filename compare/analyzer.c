@@ -13,17 +13,20 @@ enum {
     MOST_TASKS_IN_ALL = 64,
     MOST_LISTED = 8,
     MOST_COST = 1000000,
-    MOST_TIME = 10000000, /* of a deadline, a gap, a distance */
+    MOST_TIME = 10000000,    /* of a deadline, a gap, a smallest distance */
+    MOST_LARGEST = 80000000, /* of a largest distance */
     HORIZON = 10000000,
     MOST_ACTIVATIONS = 1024,
     MOST_RUN = 1000,
     MOST_OVERLOAD_SEGMENTS = 6,
     MOST_CAPACITY = 40,
-    MOST_BYTES = 1284,
-    FIXED_BYTES = 16,
+    MOST_BYTES = 1748, /* of a table of either form */
+    DISTANCE_BYTES = 4,
     TASK_BYTES = 8,
     END_BYTES = 4,
-    LONGEST_RECORD = FIXED_BYTES + 255 * 4 + 255 * TASK_BYTES
+    GAP_FIXED_BYTES = 16,     /* of a record marked `CH` */
+    LARGEST_FIXED_BYTES = 13, /* of one marked `CG` */
+    LONGEST_RECORD = LARGEST_FIXED_BYTES + 2 * 255 * DISTANCE_BYTES + 255 * TASK_BYTES /* by what its counts can say */
 };
 
 struct task {
@@ -31,10 +34,13 @@ struct task {
 };
 
 struct chain {
-    uint32_t id, deadline, gap;
+    const struct form *form;
+    uint32_t id, deadline;
+    uint32_t gap; /* of `CH`; 0 of `CG` */
+    uint8_t flag; /* of `CG`; 0 of `CH` */
     bool asynchronous, overload;
     unsigned listed, tasks;
-    uint32_t distance[MOST_LISTED];
+    uint32_t distance[MOST_LISTED], largest[MOST_LISTED]; /* the largest ones where the flag is 1 */
     struct task task[MOST_TASKS];
     size_t at, tasks_at, end; /* where the record, its tasks and what follows stand in the table */
 };
@@ -52,13 +58,23 @@ enum {
     KIND_AT = 4,
     OVERLOAD_AT = 5,
     DEADLINE_AT = 6,
-    GAP_AT = 10,
-    LIST_LENGTH_AT = 14,
-    TASK_COUNT_AT = 15,
+    GAP_AT = 10,  /* of `CH` */
+    FLAG_AT = 10, /* of `CG` */
     PRIORITY_AT = 2,
     COST_AT = 4,
     CHAIN_COUNT_AT = 2
 };
+
+/* A form of chain records: its mark as a number, where the counts stand in the fixed part and how long that is, and how
+   long a table may be whose first record has this form. */
+struct form {
+    uint16_t mark;
+    unsigned list_length_at, task_count_at, fixed_bytes;
+    size_t most_bytes;
+};
+
+static const struct form gap_form = {MISHTODRAN_GAP_FORM, 14, 15, GAP_FIXED_BYTES, 1284};
+static const struct form largest_form = {MISHTODRAN_LARGEST_FORM, 11, 12, LARGEST_FIXED_BYTES, MOST_BYTES};
 
 /* The first fault of a table: its number, and the offset of the field at fault. No fault is 0 and 0. */
 struct fault {
@@ -89,6 +105,20 @@ static void put_mark(uint8_t *at, const char *mark) { memcpy(at, mark, 2); }
 
 static bool is_mark(const uint8_t *at, const char *mark) { return at[0] == mark[0] && at[1] == mark[1]; }
 
+/* The form of a mark, or NULL where it is none of a chain record. */
+static const struct form *form_of(uint32_t mark)
+{
+    if (mark == gap_form.mark)
+        return &gap_form;
+    return mark == largest_form.mark ? &largest_form : NULL;
+}
+
+/* The length of a record with this flag, 0 where its form has none, and these counts: flag 1 counts the list twice. */
+static size_t record_length(const struct form *form, uint8_t flag, size_t listed, size_t tasks)
+{
+    return form->fixed_bytes + (flag == 1 ? 2 : 1) * DISTANCE_BYTES * listed + TASK_BYTES * tasks;
+}
+
 /* Whether the bytes from `at` hold `wanted` more. */
 static bool there(size_t length, size_t at, size_t wanted) { return length - at >= wanted; }
 
@@ -108,7 +138,8 @@ static unsigned tasks_so_far(const struct table *table)
     return sum;
 }
 
-/* The fields of the fixed part at chain->at, in their order. `table` holds the chains before it. */
+/* The fields of the fixed part at chain->at, in their order; the flag is judged later. `table` holds the chains before
+   it. */
 static struct fault read_fixed_part(const uint8_t *bytes, const struct table *table, struct chain *chain)
 {
     size_t at = chain->at;
@@ -125,15 +156,16 @@ static struct fault read_fixed_part(const uint8_t *bytes, const struct table *ta
     chain->deadline = number32(fixed_part + DEADLINE_AT);
     if (chain->deadline < 1 || chain->deadline > MOST_TIME)
         return fault_at(6, at + DEADLINE_AT);
-    chain->gap = number32(fixed_part + GAP_AT);
+    chain->gap = chain->form == &gap_form ? number32(fixed_part + GAP_AT) : 0;
     if (chain->gap > MOST_TIME)
         return fault_at(7, at + GAP_AT);
-    chain->listed = fixed_part[LIST_LENGTH_AT];
+    chain->flag = chain->form == &largest_form ? fixed_part[FLAG_AT] : 0;
+    chain->listed = fixed_part[chain->form->list_length_at];
     if (chain->listed < 1 || chain->listed > MOST_LISTED)
-        return fault_at(28, at + LIST_LENGTH_AT);
-    chain->tasks = fixed_part[TASK_COUNT_AT];
+        return fault_at(28, at + chain->form->list_length_at);
+    chain->tasks = fixed_part[chain->form->task_count_at];
     if (chain->tasks < 1 || chain->tasks > MOST_TASKS || tasks_so_far(table) + chain->tasks > MOST_TASKS_IN_ALL)
-        return fault_at(9, at + TASK_COUNT_AT);
+        return fault_at(9, at + chain->form->task_count_at);
     return no_fault();
 }
 
@@ -143,19 +175,50 @@ static struct fault read_list(const uint8_t *bytes, size_t at, struct chain *cha
 {
     uint32_t before = 0;
     for (unsigned i = 0; i < chain->listed; i++) {
-        uint32_t distance = number32(bytes + at + 4 * i);
+        uint32_t distance = number32(bytes + at + DISTANCE_BYTES * i);
         if (distance < before || distance > MOST_TIME)
-            return fault_at(29, at + 4 * i);
+            return fault_at(29, at + DISTANCE_BYTES * i);
         chain->distance[i] = before = distance;
     }
     if (before == 0)
-        return fault_at(30, at + 4 * (chain->listed - 1));
+        return fault_at(30, at + DISTANCE_BYTES * (chain->listed - 1));
     if (chain->gap == 0)
         return no_fault();
     for (unsigned i = 0; i < chain->listed; i++)
         if ((uint64_t)chain->gap * (i + 1) < chain->distance[i])
             return fault_at(31, chain->at + GAP_AT);
     return no_fault();
+}
+
+/* The largest distances, of as many activations each as the smallest ones. */
+static struct fault read_largest(const uint8_t *bytes, size_t at, struct chain *chain)
+{
+    uint32_t before = 0;
+    for (unsigned i = 0; i < chain->listed; i++) {
+        uint32_t distance = number32(bytes + at + DISTANCE_BYTES * i);
+        if (distance < before || distance > MOST_LARGEST || distance < chain->distance[i])
+            return fault_at(33, at + DISTANCE_BYTES * i);
+        chain->largest[i] = before = distance;
+    }
+    return no_fault();
+}
+
+/* The lists, from `at` on: the smallest distances, the flag and, where it says so, the largest ones. */
+static struct fault read_lists(const uint8_t *bytes, size_t length, size_t at, struct chain *chain)
+{
+    size_t list_bytes = DISTANCE_BYTES * chain->listed;
+    if (!there(length, at, list_bytes))
+        return fault_at(2, length);
+    struct fault fault = read_list(bytes, at, chain);
+    if (fault.number)
+        return fault;
+    if (chain->flag > 1)
+        return fault_at(33, chain->at + FLAG_AT);
+    if (chain->flag == 0)
+        return no_fault();
+    if (!there(length, at + list_bytes, list_bytes))
+        return fault_at(2, length);
+    return read_largest(bytes, at + list_bytes, chain);
 }
 
 static struct fault read_task(const uint8_t *bytes, size_t length, size_t at, struct task *task)
@@ -175,25 +238,26 @@ static struct fault read_task(const uint8_t *bytes, size_t length, size_t at, st
     return no_fault();
 }
 
-/* The chain record at `at`, whose mark has been seen. */
-static struct fault read_chain(const uint8_t *bytes, size_t length, size_t at, struct table *table)
+/* The chain record at `at`, whose mark says this form. All records of a table have the form of its first. */
+static struct fault read_chain(const uint8_t *bytes, size_t length, size_t at, const struct form *form,
+                               struct table *table)
 {
+    if (table->chains > 0 && form != table->chain[0].form)
+        return fault_at(3, at);
     if (table->chains == MOST_CHAINS)
         return fault_at(11, at);
-    if (!there(length, at, FIXED_BYTES))
+    if (!there(length, at, form->fixed_bytes))
         return fault_at(2, length);
     struct chain *chain = &table->chain[table->chains];
+    chain->form = form;
     chain->at = at;
     struct fault fault = read_fixed_part(bytes, table, chain);
     if (fault.number)
         return fault;
-    at += FIXED_BYTES;
-    if (!there(length, at, 4 * chain->listed))
-        return fault_at(2, length);
-    fault = read_list(bytes, at, chain);
+    fault = read_lists(bytes, length, at + form->fixed_bytes, chain);
     if (fault.number)
         return fault;
-    at += 4 * chain->listed;
+    at += record_length(form, chain->flag, chain->listed, 0);
     chain->tasks_at = at;
     for (unsigned i = 0; i < chain->tasks; i++) {
         fault = read_task(bytes, length, at, &chain->task[i]);
@@ -217,11 +281,18 @@ static struct fault read_end(const uint8_t *bytes, size_t length, size_t at, con
     return no_fault();
 }
 
+/* How long a table may be: its first mark decides, and no mark counts as `CH`. */
+static size_t most_bytes(const uint8_t *bytes, size_t length)
+{
+    const struct form *form = length < 2 ? NULL : form_of(number16(bytes));
+    return form ? form->most_bytes : gap_form.most_bytes;
+}
+
 /* The first fault of `length` bytes; where there is none, the table. */
 static struct fault read_table(const uint8_t *bytes, size_t length, struct table *table)
 {
     table->chains = 0;
-    if (length == 0 || length > MOST_BYTES)
+    if (length == 0 || length > most_bytes(bytes, length))
         return fault_at(1, 0);
     size_t at = 0;
     for (;;) {
@@ -229,9 +300,10 @@ static struct fault read_table(const uint8_t *bytes, size_t length, struct table
             return fault_at(2, length);
         if (is_mark(bytes + at, "EN"))
             return read_end(bytes, length, at, table);
-        if (!is_mark(bytes + at, "CH"))
+        const struct form *form = form_of(number16(bytes + at));
+        if (!form)
             return fault_at(3, at);
-        struct fault fault = read_chain(bytes, length, at, table);
+        struct fault fault = read_chain(bytes, length, at, form, table);
         if (fault.number)
             return fault;
         at = table->chain[table->chains - 1].end;
@@ -255,13 +327,28 @@ static const struct chain *find_chain(const struct table *table, uint32_t id)
 
 /* ---- Arrivals ---- */
 
-/* δ(n), for n from 1. */
-static uint64_t smallest_distance(const struct chain *chain, uint64_t n)
+/* The distance of n activations, for n from 1, by a list that continues. */
+static inline uint64_t continued(const uint32_t *list, unsigned listed, uint64_t n)
 {
-    uint64_t whole_lists = (n - 1) / chain->listed;
-    uint64_t rest = (n - 1) % chain->listed;
-    uint64_t last = chain->distance[chain->listed - 1];
-    return whole_lists * last + (rest == 0 ? 0 : chain->distance[rest - 1]);
+    uint64_t whole_lists = (n - 1) / listed;
+    uint64_t rest = (n - 1) % listed;
+    uint64_t last = list[listed - 1];
+    return whole_lists * last + (rest == 0 ? 0 : list[rest - 1]);
+}
+
+/* δ(n), for n from 1. */
+static inline uint64_t smallest_distance(const struct chain *chain, uint64_t n)
+{
+    return continued(chain->distance, chain->listed, n);
+}
+
+/* Whether largest distances are known. */
+static bool knows_largest(const struct chain *chain) { return chain->gap > 0 || chain->flag == 1; }
+
+/* The largest distance of k activations, for k from 1, where it is known. */
+static uint64_t largest_distance(const struct chain *chain, uint64_t k)
+{
+    return chain->form == &gap_form ? (k - 1) * chain->gap : continued(chain->largest, chain->listed, k);
 }
 
 enum counting plain_counting = BISECTING;
@@ -921,7 +1008,7 @@ static uint32_t case_of_late(const struct table *table, const struct chain *b, u
         return 18;
     if (overload_starts_again(table, figures->last_window))
         return 19;
-    if (!set_capacities(&found->overload, (uint64_t)(k - 1) * b->gap + figures->latency))
+    if (!set_capacities(&found->overload, largest_distance(b, k) + figures->latency))
         return 21;
     struct load load = load_of(table, b, false);
     found->empty_is_bad = test(load, figures->K, 0);
@@ -940,7 +1027,7 @@ static uint32_t case_of(const struct table *table, uint32_t id, uint32_t k, bad_
         return 13;
     if (b->overload)
         return 14;
-    if (b->gap == 0)
+    if (!knows_largest(b))
         return 15;
     struct figures figures;
     uint32_t refusal = analyze(table, b, &figures);
@@ -1020,12 +1107,14 @@ static const struct chain *find_record(const struct table *table, const uint8_t 
     return NULL;
 }
 
-/* Whether a new record has the form and the id that it must have. */
+/* Whether a new record is as long as its own mark, flag and counts say, and has the id that it must have. */
 static bool may_replace(const uint8_t *record, size_t record_len, uint32_t id)
 {
-    if (record_len < FIXED_BYTES || !is_mark(record, "CH"))
+    const struct form *form = record_len < 2 ? NULL : form_of(number16(record));
+    if (!form || record_len < form->fixed_bytes)
         return false;
-    size_t length = FIXED_BYTES + 4u * record[LIST_LENGTH_AT] + (size_t)TASK_BYTES * record[TASK_COUNT_AT];
+    uint8_t flag = form == &largest_form ? record[FLAG_AT] : 0;
+    size_t length = record_length(form, flag, record[form->list_length_at], record[form->task_count_at]);
     return record_len == length && number16(record + ID_AT) == id;
 }
 
@@ -1185,17 +1274,21 @@ static uint32_t merge_copies(const struct lent lent[TABLES], uint8_t *buffer, si
 
 /* ---- A writer ---- */
 
-/* A chain as a row, 0 in the places past its counts. */
+/* A chain as a row, 0 in the places past its counts and in those that its form or its flag does not have. */
 static void fill_row(const struct chain *chain, struct mishtodran_row *row)
 {
-    *row = (struct mishtodran_row){.id = (uint16_t)chain->id,
+    *row = (struct mishtodran_row){.form = chain->form->mark,
+                                   .id = (uint16_t)chain->id,
                                    .kind = chain->asynchronous,
                                    .overload = chain->overload,
+                                   .flag = chain->flag,
                                    .deadline = chain->deadline,
                                    .gap = chain->gap,
                                    .listed = chain->listed,
                                    .tasks = chain->tasks};
     memcpy(row->list, chain->distance, chain->listed * sizeof row->list[0]);
+    if (chain->flag == 1)
+        memcpy(row->largest, chain->largest, chain->listed * sizeof row->largest[0]);
     for (unsigned i = 0; i < chain->tasks; i++) {
         row->priority[i] = (uint16_t)chain->task[i].priority;
         row->cost[i] = chain->task[i].cost;
@@ -1217,6 +1310,11 @@ static uint32_t read_rows(const uint8_t *bytes, size_t length, struct mishtodran
     return 0;
 }
 
+/* The gap of a row of `CH`, and the flag of one of `CG`; 0 of the other. */
+static uint32_t gap_of(const struct mishtodran_row *row) { return row->form == gap_form.mark ? row->gap : 0; }
+
+static uint8_t flag_of(const struct mishtodran_row *row) { return row->form == largest_form.mark ? row->flag : 0; }
+
 static bool id_used_earlier(const struct mishtodran_row *rows, size_t place)
 {
     for (size_t i = 0; i < place; i++)
@@ -1236,7 +1334,7 @@ static uint32_t judge_fixed_part(const struct mishtodran_row *rows, size_t place
         return 5;
     if (row->deadline < 1 || row->deadline > MOST_TIME)
         return 6;
-    if (row->gap > MOST_TIME)
+    if (gap_of(row) > MOST_TIME)
         return 7;
     if (row->listed < 1 || row->listed > MOST_LISTED)
         return 28;
@@ -1248,18 +1346,33 @@ static uint32_t judge_fixed_part(const struct mishtodran_row *rows, size_t place
 /* All distances are held against the limit and the one before; only then do the last one and the gap count. */
 static uint32_t judge_list(const struct mishtodran_row *row)
 {
-    uint32_t before = 0;
+    uint32_t before = 0, gap = gap_of(row);
     bool beyond_gap = false;
     for (unsigned i = 0; i < row->listed; i++) {
         uint32_t distance = row->list[i];
         if (distance < before || distance > MOST_TIME)
             return 29;
-        beyond_gap |= (uint64_t)row->gap * (i + 1) < distance;
+        beyond_gap |= (uint64_t)gap * (i + 1) < distance;
         before = distance;
     }
     if (before == 0)
         return 30;
-    return row->gap != 0 && beyond_gap ? 31 : 0;
+    return gap != 0 && beyond_gap ? 31 : 0;
+}
+
+/* The flag, and with flag 1 the largest distances. */
+static uint32_t judge_largest(const struct mishtodran_row *row)
+{
+    if (flag_of(row) != 1)
+        return flag_of(row) == 0 ? 0 : 33;
+    uint32_t before = 0;
+    for (unsigned i = 0; i < row->listed; i++) {
+        uint32_t distance = row->largest[i];
+        if (distance < before || distance > MOST_LARGEST || distance < row->list[i])
+            return 33;
+        before = distance;
+    }
+    return 0;
 }
 
 static uint32_t judge_tasks(const struct mishtodran_row *row)
@@ -1270,23 +1383,44 @@ static uint32_t judge_tasks(const struct mishtodran_row *row)
     return 0;
 }
 
-/* The number of the first fault of rows, as their bytes would be read, or 0 and the length of their table. */
-static uint32_t judge_rows(const struct mishtodran_row *rows, size_t row_count, size_t *length)
+/* The number of the first fault of the row at this place, where those before it have none; or 0. */
+static uint32_t judge_row(const struct mishtodran_row *rows, size_t place, uint64_t tasks_before)
+{
+    const struct mishtodran_row *row = &rows[place];
+    if (!form_of(row->form) || row->form != rows[0].form)
+        return 3;
+    if (place == MOST_CHAINS)
+        return 11;
+    uint32_t refusal = judge_fixed_part(rows, place, tasks_before);
+    if (!refusal)
+        refusal = judge_list(row);
+    if (!refusal)
+        refusal = judge_largest(row);
+    return refusal ? refusal : judge_tasks(row);
+}
+
+/* The number of the first fault of rows, as their bytes would be read, or 0. */
+static uint32_t judge_rows(const struct mishtodran_row *rows, size_t row_count)
 {
     uint64_t tasks = 0;
-    *length = END_BYTES;
     for (size_t i = 0; i < row_count; i++) {
-        uint32_t refusal = i == MOST_CHAINS ? 11 : judge_fixed_part(rows, i, tasks);
-        if (!refusal)
-            refusal = judge_list(&rows[i]);
-        if (!refusal)
-            refusal = judge_tasks(&rows[i]);
+        uint32_t refusal = judge_row(rows, i, tasks);
         if (refusal)
             return refusal;
         tasks += rows[i].tasks;
-        *length += FIXED_BYTES + 4 * rows[i].listed + TASK_BYTES * rows[i].tasks;
     }
     return row_count == 0 ? 11 : 0;
+}
+
+/* The length of the table of rows without fault. */
+static size_t length_of_rows(const struct mishtodran_row *rows, size_t row_count)
+{
+    size_t length = END_BYTES;
+    for (size_t i = 0; i < row_count; i++) {
+        const struct mishtodran_row *row = &rows[i];
+        length += record_length(form_of(row->form), flag_of(row), row->listed, row->tasks);
+    }
+    return length;
 }
 
 static void write_task(uint8_t *at, uint32_t priority, uint32_t cost)
@@ -1296,38 +1430,108 @@ static void write_task(uint8_t *at, uint32_t priority, uint32_t cost)
     put32(at + COST_AT, cost);
 }
 
-/* Writes the chain record of a row without fault, and gives back where it ends. */
-static uint8_t *write_row(uint8_t *at, const struct mishtodran_row *row)
+static void write_fixed_part(uint8_t *at, const struct mishtodran_row *row, const struct form *form)
 {
-    unsigned listed = (unsigned)row->listed, tasks = (unsigned)row->tasks;
-    put_mark(at, "CH");
+    put16(at, form->mark);
     put16(at + ID_AT, row->id);
     at[KIND_AT] = row->kind;
     at[OVERLOAD_AT] = row->overload;
     put32(at + DEADLINE_AT, row->deadline);
-    put32(at + GAP_AT, row->gap);
-    at[LIST_LENGTH_AT] = (uint8_t)listed;
-    at[TASK_COUNT_AT] = (uint8_t)tasks;
-    at += FIXED_BYTES;
-    for (unsigned i = 0; i < listed; i++, at += 4)
-        put32(at, row->list[i]);
-    for (unsigned i = 0; i < tasks; i++, at += TASK_BYTES)
+    if (form == &gap_form)
+        put32(at + GAP_AT, row->gap);
+    else
+        at[FLAG_AT] = row->flag;
+    at[form->list_length_at] = (uint8_t)row->listed;
+    at[form->task_count_at] = (uint8_t)row->tasks;
+}
+
+/* Writes a list, and gives back where it ends. */
+static uint8_t *write_list(uint8_t *at, const uint32_t *list, uint64_t listed)
+{
+    for (unsigned i = 0; i < listed; i++, at += DISTANCE_BYTES)
+        put32(at, list[i]);
+    return at;
+}
+
+/* Writes the chain record of a row without fault, and gives back where it ends. */
+static uint8_t *write_row(uint8_t *at, const struct mishtodran_row *row)
+{
+    const struct form *form = form_of(row->form);
+    write_fixed_part(at, row, form);
+    at = write_list(at + form->fixed_bytes, row->list, row->listed);
+    if (flag_of(row) == 1)
+        at = write_list(at, row->largest, row->listed);
+    for (unsigned i = 0; i < row->tasks; i++, at += TASK_BYTES)
         write_task(at, row->priority[i], row->cost[i]);
     return at;
 }
 
-static uint32_t write_rows(const struct mishtodran_row *rows, size_t row_count, uint8_t *buffer, size_t buffer_len,
-                           size_t *used)
+/* The table of rows without fault: 0 or 24. */
+static uint32_t write_table(const struct mishtodran_row *rows, size_t row_count, uint8_t *buffer, size_t buffer_len,
+                            size_t *used)
 {
-    uint32_t refusal = judge_rows(rows, row_count, used);
-    if (refusal)
-        return refusal;
+    *used = length_of_rows(rows, row_count);
     if (*used > buffer_len)
         return 24;
     for (size_t i = 0; i < row_count; i++)
         buffer = write_row(buffer, &rows[i]);
     write_end(buffer, row_count);
     return 0;
+}
+
+static uint32_t write_rows(const struct mishtodran_row *rows, size_t row_count, uint8_t *buffer, size_t buffer_len,
+                           size_t *used)
+{
+    uint32_t refusal = judge_rows(rows, row_count);
+    return refusal ? refusal : write_table(rows, row_count, buffer, buffer_len, used);
+}
+
+/* ---- Largest distances as a list ---- */
+
+/* Makes a row of `CH` one of `CG`; whether it was one of `CH`. */
+static bool row_to_largest(struct mishtodran_row *row)
+{
+    if (form_of(row->form) != &gap_form)
+        return false;
+    row->form = largest_form.mark;
+    row->flag = row->gap > 0;
+    for (unsigned i = 0; i < row->listed; i++)
+        row->largest[i] = (i + 1) * row->gap;
+    row->gap = 0;
+    return true;
+}
+
+/* Makes a row of `CG` one of `CH`; whether it was one of `CG`, and its largest distances, where they are known, are
+   1, 2, 3, .. times a gap that is allowed. */
+static bool row_to_gap(struct mishtodran_row *row)
+{
+    if (form_of(row->form) != &largest_form)
+        return false;
+    uint32_t gap = row->largest[0]; /* 0 with flag 0, as all largest places of a row that was read */
+    if (gap > MOST_TIME)
+        return false;
+    for (unsigned i = 0; i < row->listed; i++)
+        if (row->largest[i] != (i + 1) * gap)
+            return false;
+    row->form = gap_form.mark;
+    row->flag = 0;
+    row->gap = gap;
+    return true;
+}
+
+/* A table in the other form, row by row: its own number, 34 or 24. */
+static uint32_t convert(struct lent table, bool (*row_to_other)(struct mishtodran_row *row), uint8_t *buffer,
+                        size_t buffer_len, size_t *used)
+{
+    struct mishtodran_row rows[MOST_CHAINS];
+    unsigned chains;
+    uint32_t refusal = read_rows(table.bytes, table.length, rows, MOST_CHAINS, &chains);
+    if (refusal)
+        return refusal;
+    for (unsigned i = 0; i < chains; i++)
+        if (!row_to_other(&rows[i]))
+            return 34;
+    return write_table(rows, chains, buffer, buffer_len, used);
 }
 
 /* ---- The C editor ---- */
@@ -1489,6 +1693,30 @@ uint32_t plain_write(const struct mishtodran_row *rows, size_t row_count, uint8_
     if (!refusal)
         put32(answer, (uint32_t)used);
     return refusal;
+}
+
+static uint32_t answer_converted(struct lent table, bool (*row_to_other)(struct mishtodran_row *row), uint8_t *buffer,
+                                 size_t buffer_len, uint8_t *answer, size_t answer_len)
+{
+    size_t used;
+    if (answer_len < 4)
+        return 27;
+    uint32_t refusal = convert(table, row_to_other, buffer, buffer_len, &used);
+    if (!refusal)
+        put32(answer, (uint32_t)used);
+    return refusal;
+}
+
+uint32_t plain_to_largest(const uint8_t *table, size_t table_len, uint8_t *buffer, size_t buffer_len, uint8_t *answer,
+                          size_t answer_len)
+{
+    return answer_converted((struct lent){table, table_len}, row_to_largest, buffer, buffer_len, answer, answer_len);
+}
+
+uint32_t plain_to_gap(const uint8_t *table, size_t table_len, uint8_t *buffer, size_t buffer_len, uint8_t *answer,
+                      size_t answer_len)
+{
+    return answer_converted((struct lent){table, table_len}, row_to_gap, buffer, buffer_len, answer, answer_len);
 }
 
 uint32_t plain_record(const uint8_t *table, size_t table_len, uint32_t id, uint8_t *answer, size_t answer_len)

@@ -32,6 +32,10 @@ uint32_t plain_read(const uint8_t *table, size_t table_len, struct mishtodran_ro
                     uint8_t *answer, size_t answer_len);
 uint32_t plain_write(const struct mishtodran_row *rows, size_t row_count, uint8_t *buffer, size_t buffer_len,
                      uint8_t *answer, size_t answer_len);
+uint32_t plain_to_largest(const uint8_t *table, size_t table_len, uint8_t *buffer, size_t buffer_len, uint8_t *answer,
+                          size_t answer_len);
+uint32_t plain_to_gap(const uint8_t *table, size_t table_len, uint8_t *buffer, size_t buffer_len, uint8_t *answer,
+                      size_t answer_len);
 uint32_t plain_record(const uint8_t *table, size_t table_len, uint32_t id, uint8_t *answer, size_t answer_len);
 uint32_t plain_report(const uint8_t *table, size_t table_len, uint8_t *text, size_t text_len, uint8_t *answer,
                       size_t answer_len);

@@ -30,6 +30,8 @@ enum {
     CONFLICT,
     READ,
     WRITE,
+    TO_LARGEST,
+    TO_GAP,
     REPORT
 };
 enum { MOST_CALLS = 512, MOST_TABLES = 32, ROUNDS = 200 };
@@ -81,6 +83,8 @@ struct side {
                          size_t);
     uint32_t (*read)(const uint8_t *, size_t, struct mishtodran_row *, size_t, uint8_t *, size_t);
     uint32_t (*write)(const struct mishtodran_row *, size_t, uint8_t *, size_t, uint8_t *, size_t);
+    uint32_t (*to_largest)(const uint8_t *, size_t, uint8_t *, size_t, uint8_t *, size_t);
+    uint32_t (*to_gap)(const uint8_t *, size_t, uint8_t *, size_t, uint8_t *, size_t);
     uint32_t (*report)(const uint8_t *, size_t, uint8_t *, size_t, uint8_t *, size_t);
 };
 
@@ -88,19 +92,19 @@ static const struct side proved = {mishtodran_latency,        mishtodran_misses,
                                    mishtodran_misses_at_most, mishtodran_segment,  mishtodran_record,
                                    mishtodran_check,          mishtodran_save,     mishtodran_merge,
                                    mishtodran_conflict,       mishtodran_read,     mishtodran_write,
-                                   mishtodran_report};
+                                   mishtodran_to_largest,     mishtodran_to_gap,   mishtodran_report};
 static const struct side plain = {plain_latency,        plain_misses,  plain_misses_plain,
                                   plain_misses_at_most, plain_segment, plain_record,
                                   plain_check,          plain_save,    plain_merge,
                                   plain_conflict,       plain_read,    plain_write,
-                                  plain_report};
+                                  plain_to_largest,     plain_to_gap,  plain_report};
 
 /* The deadline of a table's first chain becomes another, and then what it was. */
 static uint32_t save_and_back(const struct side *side, const struct call *call, uint8_t *answer)
 {
     struct stored *table = call->table;
     uint8_t old[256], new[256];
-    size_t length = 16 + 4u * table->bytes[14] + 8u * table->bytes[15];
+    size_t length = parts_of(table->bytes).end;
     memcpy(old, table->bytes, length);
     memcpy(new, old, length);
     new[6] ^= 1;
@@ -151,6 +155,10 @@ static uint32_t run_call(const struct side *side, const struct call *call, struc
         return side->read(bytes, length, room->row, MISHTODRAN_MOST_CHAINS, answer, 4);
     case WRITE:
         return side->write(table->row, table->rows, room->bytes, sizeof room->bytes, answer, 4);
+    case TO_LARGEST:
+        return side->to_largest(bytes, length, room->bytes, sizeof room->bytes, answer, 4);
+    case TO_GAP:
+        return side->to_gap(bytes, length, room->bytes, sizeof room->bytes, answer, 4);
     case REPORT:
         return side->report(bytes, length, room->bytes, MISHTODRAN_LONGEST_REPORT, answer, 4);
     default:
@@ -273,7 +281,7 @@ static void measure_all(const char *name, unsigned entry, struct stored *first, 
     static struct bench_case what;
     what = (struct bench_case){.name = name};
     for (unsigned t = 0; t < count; t++)
-        for (const uint8_t *at = first[t].bytes; at[0] == 'C'; at += 16 + 4u * at[14] + 8u * at[15]) {
+        for (const uint8_t *at = first[t].bytes; at[0] == 'C'; at += parts_of(at).end) {
             uint32_t id = at[2] | (uint32_t)at[3] << 8;
             what.call[what.calls++] = (struct call){.entry = entry, .table = &first[t], .number = {id, k, 0}};
         }
@@ -531,6 +539,46 @@ static void second_way_cases(struct source *source)
     measure_one("every packing, sample, k 390", MISSES_PLAIN, sample, 1, 390, 0);
 }
 
+/* ---- Largest distances as a list ---- */
+
+/* The same table, but for the last largest distance: it is no multiple of a gap. */
+static struct made_table almost_by_gaps(struct made_table table)
+{
+    struct made_chain *last = &table.chain[table.chains - 1];
+    last->largest[last->listed - 1]++;
+    return table;
+}
+
+static void largest_cases(struct source *source)
+{
+    tables_used = 0;
+    struct made_table made = full_table(source), made_of_largest = in_largest_form(made);
+    struct stored *sample = keep(sample_table()), *sample_of_largest = keep(in_largest_form(sample_table()));
+    struct stored *full = keep(made), *full_of_largest = keep(made_of_largest);
+    struct stored *almost = keep(almost_by_gaps(made_of_largest));
+    struct stored *edited = keep_edited(&made_of_largest, 3, 12);
+    struct stored *random = &tables[tables_used];
+    for (unsigned i = 0; i < 16; i++)
+        keep(in_largest_form(light_table(source, 16)));
+    measure_one("to largest, sample", TO_LARGEST, sample, 0, 0, 0);
+    measure_one("to largest, full table", TO_LARGEST, full, 0, 0, 0);
+    measure_one("to gap, sample", TO_GAP, sample_of_largest, 0, 0, 0);
+    measure_one("to gap, full table (1,748 bytes)", TO_GAP, full_of_largest, 0, 0, 0);
+    measure_one("to gap, full table, refusal 34", TO_GAP, almost, 0, 0, 0);
+    measure_one("CG: check, sample (136 bytes)", CHECK, sample_of_largest, 0, 0, 0);
+    measure_one("CG: check, full table", CHECK, full_of_largest, 0, 0, 0);
+    measure_one("CG: latency, sample", LATENCY, sample_of_largest, 1, 0, 0);
+    measure_one("CG: misses, sample, k 10", MISSES, sample_of_largest, 1, 10, 0);
+    measure_all("CG: latency, random tables of 16 chains", LATENCY, random, 16, 0);
+    measure_all("CG: misses, random tables of 16 chains, k 10", MISSES, random, 16, 10);
+    measure_one("CG: two saves, full table", SAVE, full_of_largest, 0, 0, 0);
+    measure_one("CG: merge, full tables, one changed in each", MERGE, edited, 0, 0, 0);
+    measure_one("CG: write, sample", WRITE, sample_of_largest, 0, 0, 0);
+    measure_one("CG: write, full table", WRITE, full_of_largest, 0, 0, 0);
+    measure_one("CG: read into rows, full table", READ, full_of_largest, 0, 0, 0);
+    measure_one("CG: report, sample", REPORT, sample_of_largest, 0, 0, 0);
+}
+
 /* ---- Growth ---- */
 
 /* So many chains with so many tasks and listed distances each; the first has the lowest priority. */
@@ -629,6 +677,7 @@ int main(int count, char **words)
     row_cases(&source);
     slow_cases();
     second_way_cases(&source);
+    largest_cases(&source);
     growth_cases();
     bisected_cases();
     return 0;

@@ -1,8 +1,8 @@
 /* Holds the entries of mishtodran.h against the plain analyzer, on generated tables.
    Usage: compare SEED N
 
-   Makes N tables from SEED, and for each some to be merged and some rows to be written, asks both every question about
-   them, and stops at the first difference, with the tables or the rows and the call. */
+   Makes N tables from SEED, of both forms, and for each some to be merged and some rows to be written, asks both every
+   question about them, and stops at the first difference, with the tables or the rows and the call. */
 #include "../include/mishtodran.h"
 #include "analyzer.h"
 #include "generate.h"
@@ -27,10 +27,12 @@ enum {
     CONFLICT,
     READ,
     WRITE,
+    TO_LARGEST,
+    TO_GAP,
     REPORT,
     ENTRIES
 };
-enum { LONGEST_RECORD = 4096, ANSWER_ROOM = 32, TEXT_ROOM = MISHTODRAN_LONGEST_REPORT + 32, NUMBERS = 33 };
+enum { LONGEST_RECORD = 4096, ANSWER_ROOM = 32, TEXT_ROOM = MISHTODRAN_LONGEST_REPORT + 32, NUMBERS = 35 };
 enum { MERGE_ROOM = 2 * MISHTODRAN_MOST_TABLE_BYTES + 64 }; /* more than any merge takes */
 enum { WRITE_ROOM = MISHTODRAN_MOST_TABLE_BYTES + 64, READ_ROOM = MISHTODRAN_MOST_CHAINS + 4 };
 enum { MANY_ARRIVALS = 1000000 };  /* of one chain in a window: too many to be counted one by one */
@@ -38,7 +40,7 @@ enum { MOST_PACKINGS = 100000 };   /* of a call that the engine which goes throu
 
 static const char *const entry_name[] = {"latency", "misses", "misses plain", "misses at most", "segment",
                                          "record",  "check",  "save",         "merge",          "conflict",
-                                         "read",    "write",  "report"};
+                                         "read",    "write",  "to largest",   "to gap",         "report"};
 static const size_t answer_bytes[] = {16, 4, 4, 4, 8, 8, 8};
 static const char *const with_many[] = {"latency, over a million arrivals", "misses, over a million arrivals",
                                         "misses plain, over a million arrivals",
@@ -48,6 +50,14 @@ static const char *const with_many[] = {"latency, over a million arrivals", "mis
 enum { ANCESTOR, FIRST, SECOND, TOGETHER, DECIDERS };
 static const char *const decided_by[] = {"merge, by the ancestor", "merge, by the first copy",
                                          "merge, by the second copy", "merge, by all three"};
+
+/* What an entry's numbers and answers come from, and how often that has been so. */
+struct tally {
+    const char *what;
+    unsigned count;
+    const char *const *name;
+    uint64_t *met;
+};
 
 /* What the misses that are answered come from; and the capacity that is refused before the answer could be k. */
 enum { NONE_LATE, NONE_BAD, BELOW_K, EXACTLY_K, ABOVE_K, WITHOUT_OVERLOAD, NO_OVERLOAD_CHAIN, CAPACITY_FIRST, GROUNDS };
@@ -69,16 +79,103 @@ static const char *const at_most_name[] = {"no activation late",
                                            "k, the empty set called bad though it is not",
                                            "k, a miss without overload"};
 
+/* What a check comes to where it is the form that decides. Of a largest distance that is at fault, the only reason. */
+enum {
+    LONG_TABLE,
+    TOO_LONG_FOR_GAPS,
+    TOO_LONG,
+    OTHER_FORM,
+    OTHER_FORM_17TH,
+    LARGEST_17TH,
+    LARGEST_CUT,
+    BAD_FLAG,
+    LARGEST_TOO_FAR,
+    LARGEST_FALLS,
+    LARGEST_BELOW,
+    CHECK_GROUNDS
+};
+static const char *const check_name[] = {"accepted, over 1,284 bytes",
+                                         "1, over 1,284 bytes and not CG",
+                                         "1, over 1,748 bytes",
+                                         "3, another form than the first",
+                                         "3, another form than the first, the 17th",
+                                         "11, the 17th of CG",
+                                         "2, the largest distances cut",
+                                         "33, the flag",
+                                         "33, a largest distance above 80,000,000",
+                                         "33, a largest distance that falls",
+                                         "33, a largest distance below the smallest"};
+
+/* What a save comes to where the new record has another form than the old one, or is one of CG. */
+enum { SAVED_OTHERWISE, BESIDE_OTHERS, TOO_LONG_OTHERWISE, NO_LIST_NO_TASK, SAVED_FLAG, LONG_SAVED, SAVE_GROUNDS };
+static const char *const save_name[] = {"accepted, another form",
+                                        "3, another form than the others",
+                                        "1, another form, another limit",
+                                        "28, a record of 13 bytes",
+                                        "33, a flag above 1",
+                                        "accepted, over 1,284 bytes"};
+
+/* What a merge of accepted tables comes to where they have both forms. */
+enum { BY_CONVERTED_FIRST, BY_CONVERTED_SECOND, BY_BOTH_CONVERTED, BOTH_FORMS, BOTH_FORMS_LONG, MERGE_GROUNDS };
+static const char *const merge_name[] = {"accepted, the first copy converted",
+                                         "accepted, the second copy converted",
+                                         "accepted, both copies converted",
+                                         "3, both forms in the result",
+                                         "1, both forms in the result"};
+
+/* What a write comes to where it is the form that decides. */
+enum { LONG_WRITTEN, NO_FIRST_FORM, NO_FORM, ANOTHER_FORM, FORM_OF_17TH, WRITE_GROUNDS };
+static const char *const write_name[] = {"accepted, over 1,284 bytes",
+                                         "3, no form, the first row",
+                                         "3, no form, a later row",
+                                         "3, another form than the first",
+                                         "3, the 17th row"};
+
+/* What a conversion of an accepted table comes to: the first two are of to_largest, the others of to_gap. */
+enum {
+    LONGEST_MADE,
+    HAS_LARGEST,
+    HAS_GAPS,
+    NO_MULTIPLES,
+    GAP_TOO_GREAT,
+    GREATEST_GAP,
+    BOTH_FLAGS,
+    CONVERT_GROUNDS
+};
+static const char *const convert_name[] = {"accepted, 1,748 bytes",
+                                           "34, CG already",
+                                           "34, CH already",
+                                           "34, no multiples of a gap",
+                                           "34, multiples of a gap above 10,000,000",
+                                           "accepted, a gap of 10,000,000",
+                                           "accepted, both flags"};
+
 /* How often each entry has returned each number, and how often with many arrivals in a window; how often the check has
-   answered it, a merge has returned it because of what, the misses and the number that they do not exceed have come from
+   answered it of a table whose first mark is not CG, and of one whose is; how often a merge has returned it because of
    what, and the engine that goes through every packing was left out because there are too many. */
 static uint64_t met[ENTRIES][NUMBERS];
 static uint64_t met_with_many[ENTRIES][NUMBERS];
-static uint64_t answered[NUMBERS];
+static uint64_t answered[2][NUMBERS];
 static uint64_t decided[DECIDERS][NUMBERS];
+static uint64_t plain_left_out;
+
+static const char *const answered_of[] = {"answered by check, CG not first", "answered by check, CG first"};
+
 static uint64_t ground_met[GROUNDS];
 static uint64_t at_most_met[AT_MOST_GROUNDS];
-static uint64_t plain_left_out;
+static uint64_t check_met[CHECK_GROUNDS];
+static uint64_t save_met[SAVE_GROUNDS];
+static uint64_t merge_met[MERGE_GROUNDS];
+static uint64_t write_met[WRITE_GROUNDS];
+static uint64_t convert_met[CONVERT_GROUNDS];
+
+static const struct tally tallies[] = {{"misses", GROUNDS, ground_name, ground_met},
+                                       {"misses at most", AT_MOST_GROUNDS, at_most_name, at_most_met},
+                                       {"check", CHECK_GROUNDS, check_name, check_met},
+                                       {"save", SAVE_GROUNDS, save_name, save_met},
+                                       {"merge", MERGE_GROUNDS, merge_name, merge_met},
+                                       {"write", WRITE_GROUNDS, write_name, write_met},
+                                       {"conversion", CONVERT_GROUNDS, convert_name, convert_met}};
 
 static void print_hex(const char *what, const uint8_t *bytes, size_t length)
 {
@@ -129,6 +226,75 @@ static void note(uint64_t counts[NUMBERS], uint32_t number)
 {
     if (number < NUMBERS)
         counts[number]++;
+}
+
+/* Whether a table's first mark or a record's mark is CG. */
+static bool is_largest(const uint8_t *bytes, size_t length)
+{
+    return length >= 2 && (bytes[0] | bytes[1] << 8) == MISHTODRAN_LARGEST_FORM;
+}
+
+/* ---- What a check comes to ---- */
+
+/* The record that holds a byte of a table, where all before that are without fault. */
+struct held {
+    size_t at;
+    unsigned place;
+    struct parts parts;
+};
+
+static struct held record_that_holds(const struct generated *table, size_t byte)
+{
+    struct held held = {.parts = parts_of(table->bytes)};
+    while (held.at + held.parts.end <= byte) {
+        held.at += held.parts.end;
+        held.place++;
+        held.parts = parts_of(table->bytes + held.at);
+    }
+    return held;
+}
+
+/* Why a largest distance is at fault: the only reason, or none of them. */
+static unsigned largest_ground(const uint8_t *record, const struct parts *parts, size_t at)
+{
+    uint32_t largest = get32(record + at);
+    bool too_far = largest > MISHTODRAN_MOST_LARGEST;
+    bool falls = at > parts->largest_at && largest < get32(record + at - 4);
+    bool below = largest < get32(record + at - 4 * parts->listed);
+    if (too_far + falls + below != 1)
+        return CHECK_GROUNDS;
+    return too_far ? LARGEST_TOO_FAR : falls ? LARGEST_FALLS : LARGEST_BELOW;
+}
+
+/* What a check comes to, by its number and the offset; CHECK_GROUNDS where it is nothing of the forms. */
+static unsigned check_ground(const struct generated *table, uint32_t number, size_t at)
+{
+    if (number == 0)
+        return table->length > MISHTODRAN_MOST_GAP_TABLE_BYTES ? LONG_TABLE : CHECK_GROUNDS;
+    if (number == 1 && table->length > 0)
+        return table->length > MISHTODRAN_MOST_TABLE_BYTES ? TOO_LONG : TOO_LONG_FOR_GAPS;
+    if (number != 2 && number != 3 && number != 11 && number != 33)
+        return CHECK_GROUNDS;
+    struct held held = record_that_holds(table, at);
+    const uint8_t *record = table->bytes + held.at;
+    size_t in_record = at - held.at;
+    if (number == 33)
+        return in_record < held.parts.list_at ? BAD_FLAG : largest_ground(record, &held.parts, in_record);
+    if (number == 2)
+        return in_record >= held.parts.largest_at && in_record < held.parts.tasks_at ? LARGEST_CUT : CHECK_GROUNDS;
+    if (in_record > 0 || record[0] != 'C' || (record[1] != 'H' && record[1] != 'G') || held.place == 0)
+        return CHECK_GROUNDS;
+    if (number == 11)
+        return held.parts.flagged ? LARGEST_17TH : CHECK_GROUNDS;
+    return held.place == 16 ? OTHER_FORM_17TH : OTHER_FORM;
+}
+
+static void note_check(const struct generated *table, uint32_t number, size_t at)
+{
+    unsigned ground = check_ground(table, number, at);
+    note(answered[is_largest(table->bytes, table->length)], number);
+    if (ground < CHECK_GROUNDS)
+        check_met[ground]++;
 }
 
 /* ---- Queries ---- */
@@ -212,7 +378,7 @@ static struct outcome ask(const struct generated *table, struct query query)
     if (plain_most_arrivals > MANY_ARRIVALS)
         note(met_with_many[query.entry], proved.returned);
     if (query.entry == CHECK && proved.returned == 0)
-        note(answered, get32(proved.answer));
+        note_check(table, get32(proved.answer), get32(proved.answer + 4));
     return proved;
 }
 
@@ -227,7 +393,7 @@ static uint32_t ask_whole(const struct generated *table, unsigned entry, uint32_
 /* Whether an accepted table has an overload chain. */
 static bool has_overload(const struct generated *table)
 {
-    for (const uint8_t *at = table->bytes; at[0] == 'C'; at += 16 + 4u * at[14] + 8u * at[15])
+    for (const uint8_t *at = table->bytes; at[0] == 'C'; at += parts_of(at).end)
         if (at[5] == 1)
             return true;
     return false;
@@ -355,7 +521,7 @@ static struct places find_places(const struct generated *table)
     while (table->bytes[at] == 'C') {
         unsigned i = places.chains++;
         places.at[i] = at;
-        places.length[i] = 16 + 4u * table->bytes[at + 14] + 8u * table->bytes[at + 15];
+        places.length[i] = parts_of(table->bytes + at).end;
         places.id[i] = table->bytes[at + 2] | (uint32_t)table->bytes[at + 3] << 8;
         at += places.length[i];
     }
@@ -458,6 +624,36 @@ static void stop_at_save(const struct buffer *before, const struct buffer *prove
     print_hex("buffer after plain and beyond", plain_after->bytes, sizeof plain_after->bytes);
 }
 
+/* What a save into an accepted table comes to; SAVE_GROUNDS where it is nothing of the forms. */
+static unsigned save_ground(const struct record *old, const struct record *new, uint32_t returned, uint64_t used)
+{
+    bool largest = is_largest(new->bytes, new->length);
+    if (largest != is_largest(old->bytes, old->length)) {
+        if (returned == 0)
+            return SAVED_OTHERWISE;
+        if (returned == 1 || returned == 3)
+            return returned == 1 ? TOO_LONG_OTHERWISE : BESIDE_OTHERS;
+    }
+    if (returned == 28 && new->length == 13)
+        return NO_LIST_NO_TASK;
+    if (returned == 33 && new->bytes[10] > 1)
+        return SAVED_FLAG;
+    return returned == 0 && used > MISHTODRAN_MOST_GAP_TABLE_BYTES ? LONG_SAVED : SAVE_GROUNDS;
+}
+
+static void note_save(const struct buffer *before, const struct record *old, const struct record *new,
+                      const struct outcome *outcome)
+{
+    uint8_t verdict[8];
+    note(met[SAVE], outcome->returned);
+    if (before->used > before->length)
+        return;
+    plain_check(before->bytes, before->used, verdict, sizeof verdict);
+    unsigned ground = save_ground(old, new, outcome->returned, outcome->returned == 0 ? get32(outcome->answer) : 0);
+    if (get32(verdict) == 0 && ground < SAVE_GROUNDS)
+        save_met[ground]++;
+}
+
 /* Saves with both; where they accept, the buffer is changed. */
 static uint32_t save(struct buffer *buffer, const struct record *old, const struct record *new, size_t answer_len)
 {
@@ -479,7 +675,7 @@ static uint32_t save(struct buffer *buffer, const struct record *old, const stru
         print_outcome("plain", &plain);
         exit(1);
     }
-    note(met[SAVE], plain.returned);
+    note_save(buffer, old, new, &plain);
     if (plain.returned == 0) {
         *buffer = for_plain;
         buffer->used = get32(plain.answer);
@@ -487,86 +683,152 @@ static uint32_t save(struct buffer *buffer, const struct record *old, const stru
     return plain.returned;
 }
 
-/* One task or one distance more or less; a record's counts are its bytes 14 and 15. */
+/* Takes so many bytes out of a record, or puts as many in as a copy of those before them. */
+static void take_out(struct record *record, size_t at, size_t count)
+{
+    memmove(record->bytes + at, record->bytes + at + count, record->length - at - count);
+    record->length -= count;
+}
+
+static void put_in(struct record *record, size_t at, size_t count)
+{
+    memmove(record->bytes + at + count, record->bytes + at, record->length - at);
+    memcpy(record->bytes + at, record->bytes + at - count, count);
+    record->length += count;
+}
+
+/* One task or one distance more or less, in both lists where there are two. */
 static void resize_record(struct source *source, struct record *record)
 {
-    unsigned listed = record->bytes[14], tasks = record->bytes[15];
-    uint8_t *first_task = record->bytes + 16 + 4 * listed;
+    struct parts parts = parts_of(record->bytes);
+    bool two_lists = parts.largest_at < parts.tasks_at;
     switch (draw(source, 0, 3)) {
     case 0:
-        memcpy(first_task + 8 * tasks, first_task, 8);
-        record->bytes[15]++;
-        record->length += 8;
+        put_in(record, parts.tasks_at + 8, 8);
+        record->bytes[parts.task_count_at]++;
         break;
     case 1:
-        record->bytes[15]--;
-        record->length -= 8;
+        take_out(record, parts.tasks_at, 8);
+        record->bytes[parts.task_count_at]--;
         break;
     case 2:
-        memmove(first_task + 4, first_task, 8 * tasks);
-        memcpy(first_task, first_task - 4, 4);
-        record->bytes[14]++;
-        record->length += 4;
+        put_in(record, parts.tasks_at, 4);
+        if (two_lists)
+            put_in(record, parts.largest_at, 4);
+        record->bytes[parts.list_length_at]++;
         break;
     default:
-        memmove(first_task - 4, first_task, 8 * tasks);
-        record->bytes[14]--;
-        record->length -= 4;
+        take_out(record, parts.tasks_at - 4, 4);
+        if (two_lists)
+            take_out(record, parts.largest_at - 4, 4);
+        record->bytes[parts.list_length_at]--;
     }
 }
 
-/* A record of the length that its own counts say, whatever they are. */
+/* A record of the length that its own counts say, and if it is one of CG its flag, whatever they are. */
 static void fill_counts(struct source *source, struct record *record)
 {
-    record->bytes[14] = (uint8_t)(one_in(source, 2) ? 255 : draw(source, 0, 12));
-    record->bytes[15] = (uint8_t)(one_in(source, 2) ? 255 : draw(source, 0, 40));
-    size_t length = 16 + 4u * record->bytes[14] + 8u * record->bytes[15];
+    struct parts parts = parts_of(record->bytes);
+    record->bytes[parts.list_length_at] = (uint8_t)(one_in(source, 2) ? 255 : draw(source, 0, 12));
+    record->bytes[parts.task_count_at] = (uint8_t)(one_in(source, 2) ? 255 : draw(source, 0, 40));
+    if (parts.flagged)
+        record->bytes[10] = (uint8_t)draw(source, 0, 3);
+    size_t length = parts_of(record->bytes).end;
     for (size_t i = record->length; i < length; i++)
         record->bytes[i] = record->bytes[i - 8];
     record->length = length;
 }
 
+/* Another flag, and largest distances, copied from the smallest ones, where it is 1 and none where it is not. */
+static void set_flag(struct source *source, struct record *record)
+{
+    static const uint8_t flags[] = {0, 1, 2, 255};
+    struct parts parts = parts_of(record->bytes);
+    if (!parts.flagged)
+        return;
+    uint8_t flag = flags[draw(source, 0, 3)];
+    if (flag != 1)
+        take_out(record, parts.largest_at, parts.tasks_at - parts.largest_at);
+    else if (parts.largest_at == parts.tasks_at)
+        put_in(record, parts.tasks_at, 4 * parts.listed);
+    record->bytes[10] = flag;
+}
+
+/* The stored record in the other form; one of CG that has no old form, without a gap. */
+static void convert_record(struct record *record)
+{
+    uint8_t table[LONGEST_RECORD + 4], result[MISHTODRAN_MOST_TABLE_BYTES], answer[4];
+    size_t length = record->length + 4;
+    struct mishtodran_row row;
+    memcpy(table, record->bytes, record->length);
+    memcpy(table + record->length, "EN\1", 4);
+    if (plain_to_largest(table, length, result, sizeof result, answer, sizeof answer) != 0 &&
+        plain_to_gap(table, length, result, sizeof result, answer, sizeof answer) != 0) {
+        plain_read(table, length, &row, 1, answer, sizeof answer);
+        row.form = MISHTODRAN_GAP_FORM;
+        plain_write(&row, 1, result, sizeof result, answer, sizeof answer);
+    }
+    record->length = get32(answer) - 4;
+    memcpy(record->bytes, result, record->length);
+}
+
+/* A fixed part of CG alone, of a record of either form: no distance and no task. */
+static void leave_fixed_part(struct record *record)
+{
+    record->bytes[1] = 'G';
+    record->bytes[10] &= 1;
+    record->bytes[11] = record->bytes[12] = 0;
+    record->length = 13;
+}
+
 /* The new record, made from the one that is stored. */
 static void change_record(struct source *source, struct record *record)
 {
+    if (one_in(source, 3))
+        convert_record(record);
     switch (draw(source, 0, 11)) {
     case 0:
         break;
     case 1:
-    case 2:
         put32(record->bytes + 6, draw(source, 1, 10000000));
         break;
+    case 2:
     case 3:
-    case 4:
-    case 5:
         resize_record(source, record);
         break;
-    case 6:
+    case 4:
         record->bytes[2 + draw(source, 0, 1)] ^= (uint8_t)draw(source, 1, 255); /* another id */
         break;
-    case 7:
+    case 5:
         record->bytes[draw(source, 0, record->length - 1)] ^= (uint8_t)(1u << draw(source, 0, 7));
         break;
-    case 8:
+    case 6:
         record->length = draw(source, 0, record->length - 1);
         break;
-    case 9:
+    case 7:
         record->bytes[record->length++] = 0;
         break;
-    case 10:
+    case 8:
         fill_counts(source, record);
+        break;
+    case 9:
+        set_flag(source, record);
+        break;
+    case 10:
+        leave_fixed_part(record);
         break;
     default:
         put32(record->bytes + (one_in(source, 2) ? 6 : record->length - 4), draw(source, 0, 1) * UINT32_MAX);
     }
 }
 
-/* A new record that is longer than the stored one, of another id or without a chain's mark, or of which the result is
-   refused. */
+/* A new record that is longer or shorter than the stored one, of another id or without a chain's mark, or of which the
+   result is refused. */
 static void spoil_record(struct source *source, struct record *record)
 {
     resize_record(source, record);
-    switch (draw(source, 0, 9)) {
+    struct parts parts = parts_of(record->bytes);
+    switch (draw(source, 0, 10)) {
     case 0:
         record->bytes[2 + draw(source, 0, 1)] ^= (uint8_t)draw(source, 1, 255);
         break;
@@ -580,19 +842,23 @@ static void spoil_record(struct source *source, struct record *record)
         put32(record->bytes + 6, 0);
         break;
     case 4:
-        put32(record->bytes + 10, UINT32_MAX);
+        put32(record->bytes + 10, UINT32_MAX); /* a gap, or a flag and both counts */
         break;
     case 5:
-        put32(record->bytes + 16, UINT32_MAX); /* a distance, a task's mark and priority, or a cost */
+        put32(record->bytes + parts.list_at, UINT32_MAX); /* a distance, a task's mark and priority, or a cost */
         break;
     case 6:
-        memset(record->bytes + 16, 0, 4u * record->bytes[14]); /* all distances */
+        memset(record->bytes + parts.list_at, 0, 4 * parts.listed); /* all distances */
         break;
     case 7:
-        put32(record->bytes + 10, 1); /* less than most lists ask for */
+        if (!parts.flagged)
+            put32(record->bytes + 10, 1); /* less than most lists ask for */
         break;
     case 8:
         record->bytes[record->length - 8] ^= 1;
+        break;
+    case 9:
+        put32(record->bytes + parts.largest_at, UINT32_MAX); /* a largest distance, or a task's mark and priority */
         break;
     default:
         put32(record->bytes + record->length - 4, 0);
@@ -635,8 +901,8 @@ static size_t buffer_length(struct source *source, size_t used, size_t result)
 
 static uint64_t other_used(struct source *source, size_t used)
 {
-    const uint64_t values[] = {0, used - 1, used + 1, used + (1ull << 32), 1285, UINT64_MAX};
-    return values[draw(source, 0, 5)];
+    const uint64_t values[] = {0, used - 1, used + 1, used + (1ull << 32), 1285, 1749, UINT64_MAX};
+    return values[draw(source, 0, 6)];
 }
 
 static void fill_buffer(struct source *source, struct buffer *buffer, const struct generated *table, size_t result)
@@ -650,12 +916,13 @@ static void fill_buffer(struct source *source, struct buffer *buffer, const stru
         buffer->length = sizeof buffer->bytes - 32;
 }
 
+/* A record of the table, often the first, whose mark decides on the length; of a refused table its first bytes. */
 static struct record stored_record(struct source *source, const struct generated *table, const struct places *places)
 {
     struct record record = {.length = 16};
     size_t at = 0;
     if (places->chains) {
-        unsigned place = (unsigned)draw(source, 0, places->chains - 1);
+        unsigned place = one_in(source, 2) ? 0 : (unsigned)draw(source, 0, places->chains - 1);
         at = places->at[place];
         record.length = places->length[place];
     }
@@ -668,9 +935,9 @@ static void save_somehow(struct source *source, const struct generated *table, c
     static struct buffer buffer;
     struct record old = stored_record(source, table, places);
     struct record new = old;
-    if (one_in(source, 4))
+    if (places->chains > 0 && one_in(source, 4))
         spoil_record(source, &new);
-    else
+    else if (places->chains > 0)
         change_record(source, &new);
     if (one_in(source, 6))
         make_stale(source, &old);
@@ -798,6 +1065,22 @@ static unsigned decider(const struct triple *triple)
     return TOGETHER;
 }
 
+/* What a merge of accepted tables comes to; MERGE_GROUNDS where it is nothing of the forms. */
+static unsigned merge_ground(const struct triple *triple, uint32_t returned)
+{
+    bool largest[3];
+    for (unsigned i = 0; i < 3; i++)
+        largest[i] = is_largest(triple->table[i].bytes, triple->table[i].length);
+    bool in_first = largest[1] != largest[0], in_second = largest[2] != largest[0];
+    if (returned == 3)
+        return BOTH_FORMS;
+    if (returned == 1 && in_first != in_second)
+        return BOTH_FORMS_LONG;
+    if (returned != 0 || (!in_first && !in_second))
+        return MERGE_GROUNDS;
+    return in_first && in_second ? BY_BOTH_CONVERTED : in_first ? BY_CONVERTED_FIRST : BY_CONVERTED_SECOND;
+}
+
 /* With the copies as they are: into the room given and into more than enough, and with an answer buffer of some length
    up to 8. */
 static void compare_merge(struct source *source, const struct triple *triple)
@@ -805,7 +1088,11 @@ static void compare_merge(struct source *source, const struct triple *triple)
     unsigned by = decider(triple);
     merge_under_way = triple;
     note(decided[by], merge(triple, triple->room, 4));
-    note(decided[by], merge(triple, MERGE_ROOM, 4));
+    uint32_t returned = merge(triple, MERGE_ROOM, 4);
+    unsigned ground = merge_ground(triple, returned);
+    note(decided[by], returned);
+    if (by == TOGETHER && ground < MERGE_GROUNDS)
+        merge_met[ground]++;
     merge(triple, triple->room, draw(source, 0, 8));
     ask_conflicts(source, triple);
     merge_under_way = NULL;
@@ -850,10 +1137,11 @@ static const struct made_rows *rows_under_way;
 
 static void print_row(const struct mishtodran_row *row)
 {
-    printf("id %u, kind %u, overload %u, deadline %" PRIu32 ", gap %" PRIu32 ", list of %" PRIu64 ":", row->id,
-           row->kind, row->overload, row->deadline, row->gap, row->listed);
+    printf("form %04x, id %u, kind %u, overload %u, deadline %" PRIu32 ", gap %" PRIu32 ", flag %u, lists of %" PRIu64
+           ":",
+           row->form, row->id, row->kind, row->overload, row->deadline, row->gap, row->flag, row->listed);
     for (unsigned i = 0; i < MISHTODRAN_MOST_DISTANCES; i++)
-        printf(" %" PRIu32, row->list[i]);
+        printf(" %" PRIu32 " to %" PRIu32, row->list[i], row->largest[i]);
     printf(", tasks, %" PRIu64 ":", row->tasks);
     for (unsigned i = 0; i < MISHTODRAN_MOST_TASKS; i++)
         printf(" %u/%" PRIu32, row->priority[i], row->cost[i]);
@@ -961,6 +1249,24 @@ static void stop_at_write(const struct made_rows *made, const struct written *pr
     exit(1);
 }
 
+/* What a write comes to where it is the form that decides; else WRITE_GROUNDS. */
+static unsigned write_ground(const struct made_rows *made, uint32_t returned)
+{
+    size_t at = 0;
+    if (returned == 0)
+        return made->bytes.length > MISHTODRAN_MOST_GAP_TABLE_BYTES ? LONG_WRITTEN : WRITE_GROUNDS;
+    if (returned != 3)
+        return WRITE_GROUNDS;
+    while (at < made->count && made->row[at].form == made->row[0].form)
+        at++;
+    if (at == made->count)
+        return NO_FIRST_FORM;
+    uint16_t form = made->row[at].form;
+    if (at == 16)
+        return FORM_OF_17TH;
+    return form == MISHTODRAN_GAP_FORM || form == MISHTODRAN_LARGEST_FORM ? ANOTHER_FORM : NO_FORM;
+}
+
 /* Writes with both, and gives back what they return. Both must do what the rows' bytes say. */
 static uint32_t write_rows(const struct made_rows *made, size_t room, size_t answer_len)
 {
@@ -975,19 +1281,10 @@ static uint32_t write_rows(const struct made_rows *made, size_t room, size_t ans
         memcmp(lent, made->row, sizeof lent) != 0)
         stop_at_write(made, &proved, &plain, &expected, room, answer_len);
     note(met[WRITE], plain.outcome.returned);
+    unsigned ground = write_ground(made, plain.outcome.returned);
+    if (ground < WRITE_GROUNDS)
+        write_met[ground]++;
     return plain.outcome.returned;
-}
-
-/* The row as it reads back. */
-static struct mishtodran_row without_rest(struct mishtodran_row row)
-{
-    for (uint64_t i = row.listed; i < MISHTODRAN_MOST_DISTANCES; i++)
-        row.list[i] = 0;
-    for (uint64_t i = row.tasks; i < MISHTODRAN_MOST_TASKS; i++) {
-        row.priority[i] = 0;
-        row.cost[i] = 0;
-    }
-    return row;
 }
 
 /* Reads what was written: the same rows, and the others as they were. */
@@ -1038,6 +1335,145 @@ static void ask_reads(struct source *source, const struct generated *table, cons
     read_rows(table, READ_ROOM, draw(source, 4, ANSWER_ROOM));
     read_rows(table, places->chains ? places->chains - 1 : 0, 4);
     read_rows(table, draw(source, 0, READ_ROOM), draw(source, 0, 8));
+}
+
+/* ---- Conversions ---- */
+
+typedef uint32_t conversion(const uint8_t *table, size_t table_len, uint8_t *buffer, size_t buffer_len, uint8_t *answer,
+                            size_t answer_len);
+
+static void stop_at_conversion(const struct generated *table, unsigned entry, size_t room, size_t answer_len)
+{
+    printf("difference in %s, or the table was written to; %zu bytes for the result, %zu for the answer\n",
+           entry_name[entry], room, answer_len);
+    printf("family: %s %s\n", table->family, table->damage);
+    print_hex("table", table->bytes, table->length);
+}
+
+/* Converts with both, and gives back what they give. */
+static struct written convert(const struct generated *table, unsigned entry, size_t room, size_t answer_len)
+{
+    static struct generated lent;
+    conversion *by_proved = entry == TO_LARGEST ? mishtodran_to_largest : mishtodran_to_gap;
+    conversion *by_plain = entry == TO_LARGEST ? plain_to_largest : plain_to_gap;
+    struct written proved = nothing_written(), plain = proved;
+    lent = *table;
+    proved.outcome.returned =
+        by_proved(lent.bytes, lent.length, proved.buffer, room, proved.outcome.answer, answer_len);
+    plain.outcome.returned =
+        by_plain(table->bytes, table->length, plain.buffer, room, plain.outcome.answer, answer_len);
+    if (!same_written(&proved, &plain) || memcmp(lent.bytes, table->bytes, sizeof lent.bytes) != 0) {
+        stop_at_conversion(table, entry, room, answer_len);
+        print_written("mishtodran", &proved);
+        print_written("plain", &plain);
+        exit(1);
+    }
+    note(met[entry], plain.outcome.returned);
+    return plain;
+}
+
+/* How the largest distances of an accepted table's chains stand to a gap: which flags there are, whether all are
+   multiples of the first of their list, and the greatest of these. */
+struct shapes {
+    bool known, unknown, multiples;
+    uint32_t greatest;
+};
+
+static struct shapes shapes_of(const struct generated *table)
+{
+    struct mishtodran_row row[MISHTODRAN_MOST_CHAINS];
+    uint8_t answer[4] = {0};
+    struct shapes shapes = {.multiples = true};
+    plain_read(table->bytes, table->length, row, MISHTODRAN_MOST_CHAINS, answer, sizeof answer);
+    for (unsigned i = 0; i < get32(answer); i++) {
+        uint32_t gap = row[i].largest[0];
+        for (unsigned n = 0; n < row[i].listed; n++)
+            shapes.multiples &= row[i].largest[n] == gap * (n + 1);
+        shapes.known |= row[i].flag == 1;
+        shapes.unknown |= row[i].flag == 0;
+        shapes.greatest = gap > shapes.greatest ? gap : shapes.greatest;
+    }
+    return shapes;
+}
+
+/* What a conversion of an accepted table comes to; CONVERT_GROUNDS where it is nothing that is looked for. */
+static unsigned convert_ground(const struct generated *table, unsigned entry, const struct outcome *outcome)
+{
+    bool largest = is_largest(table->bytes, table->length);
+    if (outcome->returned == 34 && largest == (entry == TO_LARGEST))
+        return largest ? HAS_LARGEST : HAS_GAPS;
+    if (outcome->returned == 0 && entry == TO_LARGEST)
+        return get32(outcome->answer) == MISHTODRAN_MOST_TABLE_BYTES ? LONGEST_MADE : CONVERT_GROUNDS;
+    if (outcome->returned != 0 && outcome->returned != 34)
+        return CONVERT_GROUNDS;
+    struct shapes shapes = shapes_of(table);
+    if (outcome->returned == 34)
+        return shapes.multiples ? GAP_TOO_GREAT : NO_MULTIPLES;
+    if (shapes.greatest == MISHTODRAN_MOST_TIME)
+        return GREATEST_GAP;
+    return shapes.known && shapes.unknown ? BOTH_FLAGS : CONVERT_GROUNDS;
+}
+
+static void stop_at_converted(const struct generated *table, const struct generated *other, const char *what)
+{
+    printf("a converted table has another %s\n", what);
+    printf("family: %s %s\n", table->family, table->damage);
+    print_hex("table", table->bytes, table->length);
+    print_hex("converted", other->bytes, other->length);
+    exit(1);
+}
+
+/* Asks for the same figure of a table and of the converted one: it is the same, or refused alike. */
+static void ask_of_both(const struct generated *table, const struct generated *other, unsigned entry, uint32_t id,
+                        uint32_t k)
+{
+    const struct query query = {entry, {id, k, 0}, answer_bytes[entry]};
+    struct outcome of_table = ask(table, query), of_other = ask(other, query);
+    if (same(&of_table, &of_other))
+        return;
+    printf("%s(%" PRIu32 ", %" PRIu32 "):\n", entry_name[entry], id, k);
+    print_outcome("of the table", &of_table);
+    print_outcome("of the converted one", &of_other);
+    stop_at_converted(table, other, "figure");
+}
+
+/* What was converted: back again it is the table that it was, and all figures are the same. */
+static void compare_converted(struct source *source, const struct generated *table, const struct places *places,
+                              unsigned entry, const struct written *written)
+{
+    struct generated other = {.length = get32(written->outcome.answer), .family = table->family, .damage = "converted"};
+    memcpy(other.bytes, written->buffer, other.length);
+    struct written back = convert(&other, entry == TO_LARGEST ? TO_GAP : TO_LARGEST, table->length, 4);
+    if (back.outcome.returned != 0 || get32(back.outcome.answer) != table->length ||
+        memcmp(back.buffer, table->bytes, table->length) != 0)
+        stop_at_converted(table, &other, "table that it comes back to");
+    ask_whole(&other, CHECK, 0, 0, 0);
+    for (unsigned i = 0; i < places->chains; i++) {
+        uint32_t k = (uint32_t)draw(source, 1, one_in(source, 2) ? 50 : 1000);
+        ask_of_both(table, &other, LATENCY, places->id[i], 0);
+        ask_of_both(table, &other, MISSES, places->id[i], 10);
+        ask_of_both(table, &other, MISSES, places->id[i], k);
+        ask_of_both(table, &other, MISSES_AT_MOST, places->id[i], k);
+    }
+}
+
+/* Into more room than needed, into any, into just enough and less; an answer too short comes before that. */
+static void ask_conversions(struct source *source, const struct generated *table, const struct places *places)
+{
+    for (unsigned entry = TO_LARGEST; entry <= TO_GAP; entry++) {
+        struct written written = convert(table, entry, WRITE_ROOM, 4);
+        unsigned ground = convert_ground(table, entry, &written.outcome);
+        size_t length = get32(written.outcome.answer);
+        convert(table, entry, draw(source, 0, WRITE_ROOM), draw(source, 0, 8));
+        if (ground < CONVERT_GROUNDS)
+            convert_met[ground]++;
+        if (written.outcome.returned != 0)
+            continue;
+        convert(table, entry, length, draw(source, 4, ANSWER_ROOM));
+        convert(table, entry, length - 1, 4);
+        convert(table, entry, draw(source, 0, length - 1), draw(source, 0, 8));
+        compare_converted(source, table, places, entry, &written);
+    }
 }
 
 /* ---- Reports ---- */
@@ -1101,8 +1537,12 @@ static void ask_spoiled(struct source *source, struct generated *table, const st
         spoil_together(source, table, places->chains);
         ask_whole(table, CHECK, 0, 0, 0);
         ask_whole(table, RECORD, places->id[0], 0, 0);
+        ask_whole(table, LATENCY, places->id[0], 0, 0);
+        ask_whole(table, SEGMENT, places->id[0], places->id[0], 1);
         ask_misses(table, places->id[0], 10);
         read_rows(table, draw(source, 0, READ_ROOM), 4);
+        convert(table, TO_LARGEST, WRITE_ROOM, 4);
+        convert(table, TO_GAP, WRITE_ROOM, 4);
     }
 }
 
@@ -1115,6 +1555,7 @@ static void compare_table(struct source *source, struct generated *table)
     ask_oddly(source, table, &places);
     ask_checks(table);
     ask_reads(source, table, &places);
+    ask_conversions(source, table, &places);
     for (unsigned i = 0; i < 12; i++)
         save_somehow(source, table, &places);
     for (unsigned i = 0; i < 3; i++)
@@ -1149,43 +1590,65 @@ static void print_counts(const char *what, const uint64_t counts[NUMBERS])
     puts(" calls");
 }
 
-static const uint8_t of_misses[] = {0,  1,  2,  3,  4,  5,  6,  7,  9,  10, 11, 12, 13,
-                                    14, 15, 16, 17, 18, 19, 21, 27, 28, 29, 30, 31};
-static const uint8_t of_many[] = {0, 16};
-static const uint8_t of_table[] = {1, 2, 3, 4, 5, 6, 7, 9, 10, 11, 28, 29, 30, 31};
-static const uint8_t of_merge[] = {0, 1, 9, 11, 24, 32};
-static const uint8_t of_read[] = {0, 1, 2, 3, 4, 5, 6, 7, 9, 10, 11, 24, 27, 28, 29, 30, 31};
-static const uint8_t of_write[] = {0, 4, 5, 6, 7, 9, 10, 11, 24, 27, 28, 29, 30, 31};
-static const uint8_t of_record[] = {0, 1, 2, 3, 4, 5, 6, 7, 9, 10, 11, 12, 27, 28, 29, 30, 31};
+/* Numbers that something can give. */
+struct numbers {
+    unsigned count;
+    uint8_t number[16];
+};
+
+/* A table's numbers, and those of them that rows can have; those of a table whose first mark is not CG, and of one with
+   CG first. */
+static const struct numbers of_none = {0};
+static const struct numbers of_table = {15, {1, 2, 3, 4, 5, 6, 7, 9, 10, 11, 28, 29, 30, 31, 33}};
+static const struct numbers of_rows = {13, {3, 4, 5, 6, 7, 9, 10, 11, 28, 29, 30, 31, 33}};
+static const struct numbers of_form[] = {{14, {1, 2, 3, 4, 5, 6, 7, 9, 10, 11, 28, 29, 30, 31}},
+                                         {13, {1, 2, 3, 4, 5, 6, 9, 10, 11, 28, 29, 30, 33}}};
+static const struct numbers of_many = {2, {0, 16}};
+static const struct numbers of_merge = {7, {0, 1, 3, 9, 11, 24, 32}}; /* of accepted tables */
+
+/* What each entry can give: a table's numbers, all of them or some, and its own. */
+static const struct {
+    const struct numbers *of_table;
+    struct numbers own;
+} given_by[ENTRIES] = {[LATENCY] = {&of_table, {5, {0, 12, 16, 17, 27}}},
+                       [MISSES] = {&of_table, {11, {0, 12, 13, 14, 15, 16, 17, 18, 19, 21, 27}}},
+                       [MISSES_PLAIN] = {&of_table, {11, {0, 12, 13, 14, 15, 16, 17, 18, 19, 21, 27}}},
+                       [MISSES_AT_MOST] = {&of_table, {11, {0, 12, 13, 14, 15, 16, 17, 18, 19, 21, 27}}},
+                       [SEGMENT] = {&of_table, {5, {0, 12, 25, 26, 27}}},
+                       [RECORD] = {&of_table, {3, {0, 12, 27}}},
+                       [CHECK] = {&of_none, {2, {0, 27}}},
+                       [SAVE] = {&of_table, {5, {0, 22, 23, 24, 27}}},
+                       [MERGE] = {&of_table, {4, {0, 24, 27, 32}}},
+                       [CONFLICT] = {&of_table, {2, {0, 27}}},
+                       [READ] = {&of_table, {3, {0, 24, 27}}},
+                       [WRITE] = {&of_rows, {3, {0, 24, 27}}},
+                       [TO_LARGEST] = {&of_table, {4, {0, 24, 27, 34}}},
+                       [TO_GAP] = {&of_table, {4, {0, 24, 27, 34}}},
+                       [REPORT] = {&of_none, {3, {0, 24, 27}}}};
 
 /* Whether one of these numbers was never counted. */
-static bool lacks(const char *what, const uint64_t counts[NUMBERS], const uint8_t *numbers, size_t length)
+static bool lacks(const char *what, const uint64_t counts[NUMBERS], const struct numbers *numbers)
 {
     bool missing = false;
-    for (size_t i = 0; i < length; i++)
-        if (counts[numbers[i]] == 0) {
-            printf("%s: never %u\n", what, numbers[i]);
+    for (unsigned i = 0; i < numbers->count; i++)
+        if (counts[numbers->number[i]] == 0) {
+            printf("%s: never %u\n", what, numbers->number[i]);
             missing = true;
         }
     return missing;
 }
 
-/* Whether an entry's answers have not come from all that they can come from. */
-static bool lacks_one_of(unsigned entry, const char *const *names, const uint64_t *counts, unsigned length)
-{
-    bool missing = false;
-    for (unsigned ground = 0; ground < length; ground++)
-        if (counts[ground] == 0) {
-            printf("%s: never '%s'\n", entry_name[entry], names[ground]);
-            missing = true;
-        }
-    return missing;
-}
-
+/* Whether an entry's numbers and answers have not come from all that they can come from. */
 static bool lacks_ground(void)
 {
-    bool missing = lacks_one_of(MISSES, ground_name, ground_met, GROUNDS);
-    return lacks_one_of(MISSES_AT_MOST, at_most_name, at_most_met, AT_MOST_GROUNDS) || missing;
+    bool missing = false;
+    for (size_t i = 0; i < sizeof tallies / sizeof tallies[0]; i++)
+        for (unsigned ground = 0; ground < tallies[i].count; ground++)
+            if (tallies[i].met[ground] == 0) {
+                printf("%s: never '%s'\n", tallies[i].what, tallies[i].name[ground]);
+                missing = true;
+            }
+    return missing;
 }
 
 /* Whether no latency, no misses or nothing like them with many arrivals were answered, or none refused. */
@@ -1193,24 +1656,24 @@ static bool lacks_many(void)
 {
     bool missing = false;
     for (unsigned entry = LATENCY; entry <= MISSES_AT_MOST; entry++)
-        missing |= lacks(with_many[entry], met_with_many[entry], of_many, sizeof of_many);
+        missing |= lacks(with_many[entry], met_with_many[entry], &of_many);
     return missing;
 }
 
-/* Whether one of the three for misses, a check, a merge, a read, a write or a record has not given a number that it can
-   give. */
+/* Whether an entry has not given a number that it can give, a check one of either form, or a merge one because of one
+   table or of all three. */
 static bool lacks_number(void)
 {
     bool missing = false;
-    for (unsigned entry = MISSES; entry <= MISSES_AT_MOST; entry++)
-        missing |= lacks(entry_name[entry], met[entry], of_misses, sizeof of_misses);
-    missing |= lacks("answered by check", answered, of_table, sizeof of_table);
+    for (unsigned entry = 0; entry < ENTRIES; entry++) {
+        missing |= lacks(entry_name[entry], met[entry], given_by[entry].of_table);
+        missing |= lacks(entry_name[entry], met[entry], &given_by[entry].own);
+    }
+    for (unsigned largest = 0; largest < 2; largest++)
+        missing |= lacks(answered_of[largest], answered[largest], &of_form[largest]);
     for (unsigned by = ANCESTOR; by <= SECOND; by++)
-        missing |= lacks(decided_by[by], decided[by], of_table, sizeof of_table);
-    missing |= lacks(decided_by[TOGETHER], decided[TOGETHER], of_merge, sizeof of_merge);
-    missing |= lacks("read", met[READ], of_read, sizeof of_read);
-    missing |= lacks("write", met[WRITE], of_write, sizeof of_write);
-    return lacks("record", met[RECORD], of_record, sizeof of_record) || missing;
+        missing |= lacks(decided_by[by], decided[by], &of_table);
+    return lacks(decided_by[TOGETHER], decided[TOGETHER], &of_merge) || missing;
 }
 
 static void print_met(void)
@@ -1219,13 +1682,13 @@ static void print_met(void)
         print_counts(entry_name[entry], met[entry]);
     for (unsigned entry = LATENCY; entry <= MISSES_AT_MOST; entry++)
         print_counts(with_many[entry], met_with_many[entry]);
-    print_counts("answered by check", answered);
+    for (unsigned largest = 0; largest < 2; largest++)
+        print_counts(answered_of[largest], answered[largest]);
     for (unsigned by = 0; by < DECIDERS; by++)
         print_counts(decided_by[by], decided[by]);
-    for (unsigned ground = 0; ground < GROUNDS; ground++)
-        printf("misses, %s: %" PRIu64 " calls\n", ground_name[ground], ground_met[ground]);
-    for (unsigned ground = 0; ground < AT_MOST_GROUNDS; ground++)
-        printf("misses at most, %s: %" PRIu64 " calls\n", at_most_name[ground], at_most_met[ground]);
+    for (size_t i = 0; i < sizeof tallies / sizeof tallies[0]; i++)
+        for (unsigned ground = 0; ground < tallies[i].count; ground++)
+            printf("%s, %s: %" PRIu64 " calls\n", tallies[i].what, tallies[i].name[ground], tallies[i].met[ground]);
     printf("misses plain, left out for over %d packings: %" PRIu64 " calls\n", MOST_PACKINGS, plain_left_out);
 }
 

@@ -7,7 +7,8 @@
 #include <string.h>
 
 enum {
-    LATEST = 10000000, /* of deadlines, gaps, distances and windows */
+    LATEST = 10000000,   /* of deadlines, gaps, smallest distances and windows */
+    FARTHEST = 80000000, /* of largest distances */
     DEAREST = 1000000,
     HIGHEST = 65535,
     MOST_IN_ALL = 64,
@@ -43,7 +44,8 @@ static uint32_t least(uint64_t a, uint64_t b) { return (uint32_t)(a < b ? a : b)
 struct made_chain *add_chain(struct made_table *table, uint32_t deadline, uint32_t gap, uint32_t distance)
 {
     struct made_chain *chain = &table->chain[table->chains++];
-    *chain = (struct made_chain){.id = table->chains, .deadline = deadline, .gap = gap, .listed = 1};
+    *chain = (struct made_chain){
+        .form = MISHTODRAN_GAP_FORM, .id = table->chains, .deadline = deadline, .gap = gap, .listed = 1};
     chain->distance[0] = distance;
     return chain;
 }
@@ -75,18 +77,29 @@ static uint8_t *put_mark(uint8_t *at, const char *mark)
     return at + 2;
 }
 
+static uint8_t *put_list(uint8_t *at, const uint32_t *list, unsigned listed)
+{
+    for (unsigned i = 0; i < listed; i++)
+        at = put(at, list[i], 4);
+    return at;
+}
+
+/* How many lists go with a form and a flag. */
+static unsigned lists_of(uint16_t form, uint8_t flag) { return form == MISHTODRAN_LARGEST_FORM && flag == 1 ? 2 : 1; }
+
 static uint8_t *put_chain(uint8_t *at, const struct made_chain *chain)
 {
-    at = put_mark(at, "CH");
+    at = put(at, chain->form, 2);
     at = put(at, chain->id, 2);
     at = put(at, chain->asynchronous, 1);
     at = put(at, chain->overload, 1);
     at = put(at, chain->deadline, 4);
-    at = put(at, chain->gap, 4);
+    at = chain->form == MISHTODRAN_LARGEST_FORM ? put(at, chain->flag, 1) : put(at, chain->gap, 4);
     at = put(at, chain->listed, 1);
     at = put(at, chain->tasks, 1);
-    for (unsigned i = 0; i < chain->listed; i++)
-        at = put(at, chain->distance[i], 4);
+    at = put_list(at, chain->distance, chain->listed);
+    if (lists_of(chain->form, chain->flag) == 2)
+        at = put_list(at, chain->largest, chain->listed);
     for (unsigned i = 0; i < chain->tasks; i++)
         at = put(put(put_mark(at, "TK"), chain->task[i].priority, 2), chain->task[i].cost, 4);
     return at;
@@ -99,6 +112,21 @@ size_t encode(const struct made_table *table, uint8_t *bytes)
         at = put_chain(at, &table->chain[i]);
     at = put(put_mark(at, "EN"), table->chains, 2);
     return (size_t)(at - bytes);
+}
+
+struct parts parts_of(const uint8_t *record)
+{
+    uint16_t form = (uint16_t)get(record, 2);
+    struct parts parts = {.flagged = form == MISHTODRAN_LARGEST_FORM};
+    parts.list_length_at = parts.flagged ? 11 : 14;
+    parts.task_count_at = parts.list_length_at + 1;
+    parts.listed = record[parts.list_length_at];
+    parts.tasks = record[parts.task_count_at];
+    parts.list_at = parts.task_count_at + 1;
+    parts.largest_at = parts.list_at + 4 * parts.listed;
+    parts.tasks_at = parts.list_at + 4 * parts.listed * lists_of(form, record[10]);
+    parts.end = parts.tasks_at + 8 * parts.tasks;
+    return parts;
 }
 
 static uint64_t cost_of(const struct made_chain *chain)
@@ -188,6 +216,108 @@ static void fill_gap(struct source *source, struct made_chain *chain)
     default:
         chain->gap = (uint32_t)draw(source, gap, least(gap * 3ull, LATEST));
     }
+}
+
+/* Gives a chain the form "CG", with so many times its gap. */
+static void list_gap(struct made_chain *chain)
+{
+    chain->form = MISHTODRAN_LARGEST_FORM;
+    chain->flag = chain->gap > 0;
+    for (unsigned i = 0; i < 8; i++)
+        chain->largest[i] = chain->gap * (i + 1);
+}
+
+struct made_table in_largest_form(struct made_table table)
+{
+    for (unsigned i = 0; i < table.chains; i++)
+        list_gap(&table.chain[i]);
+    return table;
+}
+
+/* Moves largest distances, where that must be, so that they stay within the limit, do not fall and do not lie below the
+   smallest ones. */
+static void allow_largest(struct made_chain *chain)
+{
+    uint32_t before = 0;
+    for (unsigned i = 0; i < chain->listed; i++) {
+        uint32_t *largest = &chain->largest[i];
+        *largest = least(*largest, FARTHEST);
+        if (*largest < chain->distance[i])
+            *largest = chain->distance[i];
+        if (*largest < before)
+            *largest = before;
+        before = *largest;
+    }
+}
+
+/* What largest distances are in place of multiples of the gap. From INSIDE on: anything but for the last one, so that
+   whole lists reach as far as before. */
+enum {
+    OF_GREATEST_GAP,
+    OF_GAP_TOO_GREAT,
+    AS_SMALLEST,
+    ABOVE_SMALLEST,
+    FAR_FROM_ONE_ON,
+    ONE_BESIDE,
+    LAST_LONGER,
+    INSIDE,
+    BENDS = INSIDE + 3
+};
+
+/* Largest distances that are no multiples of a gap, or almost, or of a gap that is the greatest or too great. */
+static void bend_largest(struct source *source, struct made_chain *chain)
+{
+    unsigned bend = (unsigned)draw(source, 0, BENDS - 1);
+    unsigned last = chain->listed - 1, place = (unsigned)draw(source, 0, last);
+    uint32_t gap = chain->gap == 0 ? least_gap(chain) : chain->gap;
+    if (bend <= OF_GAP_TOO_GREAT)
+        gap = LATEST + bend;
+    chain->flag = 1;
+    for (unsigned i = 0; i <= last; i++) {
+        chain->largest[i] = gap * (i + 1);
+        if (bend == AS_SMALLEST || bend == ABOVE_SMALLEST)
+            chain->largest[i] = chain->distance[i] + (uint32_t)draw(source, 0, bend == AS_SMALLEST ? 0 : 2);
+        else if (bend == FAR_FROM_ONE_ON && i >= place)
+            chain->largest[i] = FARTHEST;
+        else if (bend >= INSIDE && i < last)
+            chain->largest[i] = (uint32_t)draw(source, 0, gap * chain->listed);
+    }
+    if (bend == ONE_BESIDE)
+        chain->largest[place] += 2 * (uint32_t)draw(source, 0, 1) - 1;
+    if (bend == LAST_LONGER)
+        chain->largest[last] += (uint32_t)draw(source, 0, chain->largest[last]);
+    allow_largest(chain);
+}
+
+/* Largest distances by the gap, or otherwise; without a gap they are mostly not known. */
+static void any_largest(struct source *source, struct made_chain *chain)
+{
+    list_gap(chain);
+    if (one_in(source, chain->gap == 0 ? 4 : 2))
+        bend_largest(source, chain);
+}
+
+/* Gives a table the form "CG": all chains by their gaps, all but one, or any of them. */
+static void list_largest(struct source *source, struct made_table *table)
+{
+    unsigned style = (unsigned)draw(source, 0, 2), one = (unsigned)draw(source, 0, table->chains - 1u);
+    *table = in_largest_form(*table);
+    for (unsigned i = 0; i < table->chains; i++)
+        if (style == 1 && i == one)
+            bend_largest(source, &table->chain[i]);
+        else if (style == 2)
+            any_largest(source, &table->chain[i]);
+}
+
+/* Gives one chain another form than it has; of 17 the last. */
+static void mix_forms(struct source *source, struct made_table *table)
+{
+    unsigned last = table->chains - 1;
+    struct made_chain *chain = &table->chain[last == 16 ? last : (unsigned)draw(source, 0, last)];
+    if (chain->form == MISHTODRAN_GAP_FORM)
+        list_gap(chain);
+    else
+        chain->form = MISHTODRAN_GAP_FORM;
 }
 
 /* Ids of which none comes twice: each is so far from the one before it, and 1 follows the greatest. */
@@ -504,9 +634,9 @@ static struct made_table at_limits(struct source *source)
 /* One chain too many, some tasks too many, or no chain. */
 static struct made_table wrong_count(struct source *source)
 {
-    static const uint32_t counts[] = {0, 5, 17, 17};
+    static const uint32_t counts[] = {0, 5, 17, 17, 17, 17};
     struct made_table table = {0};
-    unsigned chains = pick(source, counts, 4);
+    unsigned chains = pick(source, counts, 6);
     for (unsigned i = 0; i < chains; i++)
         fill_tasks(source, add_chain(&table, 10, 0, 1000), chains == 5 ? (unsigned)draw(source, 12, 16) : 1, 9, 9);
     return table;
@@ -892,12 +1022,34 @@ static void cut(struct source *source, struct generated *table)
     table->damage = "cut";
 }
 
+/* How long a table may be, by its first mark. */
+static size_t limit_of(const struct generated *table)
+{
+    bool largest = table->length >= 2 && get(table->bytes, 2) == MISHTODRAN_LARGEST_FORM;
+    return largest ? MISHTODRAN_MOST_TABLE_BYTES : MISHTODRAN_MOST_GAP_TABLE_BYTES;
+}
+
 static void append(struct source *source, struct generated *table)
 {
-    unsigned count = (unsigned)(one_in(source, 4) ? 1285 - least(table->length, 1284) : draw(source, 1, 20));
+    size_t limit = limit_of(table);
+    size_t count = one_in(source, 4) ? limit + 1 - least(table->length, limit) : draw(source, 1, 20);
     for (; count > 0 && table->length < MOST_GENERATED; count--)
         table->bytes[table->length++] = (uint8_t)(one_in(source, 2) ? 0 : draw(source, 0, 255));
     table->damage = "appended to";
+}
+
+/* Another first mark, and a length about one of the limits or between them: the mark decides which of them holds. */
+static void mark_anew(struct source *source, struct generated *table)
+{
+    static const char *const marks[] = {"CH", "CG", "XX", "GC", "EN"};
+    static const uint32_t lengths[] = {1, 2, 1284, 1285, 1500, 1748, 1749};
+    uint32_t length = pick(source, lengths, 7);
+    put_mark(table->bytes, marks[draw(source, 0, 4)]);
+    while (table->length < length)
+        table->bytes[table->length++] = 0;
+    if (!one_in(source, 4))
+        table->length = length;
+    table->damage = "marked anew";
 }
 
 /* A field of a stored table: where it is, its width and its greatest value (0: a mark). */
@@ -909,23 +1061,32 @@ struct field {
 
 static struct field field_of_record(struct source *source, const uint8_t *bytes, size_t at)
 {
-    static const struct field fixed[] = {{0, 2, 0},       {2, 2, HIGHEST}, {4, 1, 1},  {5, 1, 1},
-                                         {6, 4, LATEST},  {10, 4, LATEST}, {14, 1, 8}, {15, 1, 16}};
     static const struct field of_task[] = {{0, 2, 0}, {2, 2, HIGHEST}, {4, 4, DEAREST}};
-    unsigned listed = bytes[at + 14], tasks = bytes[at + 15];
+    static const struct field gap = {10, 4, LATEST}, flag = {10, 1, 1};
+    struct parts parts = parts_of(bytes + at);
+    const struct field fixed[] = {{0, 2, 0},
+                                  {2, 2, HIGHEST},
+                                  {4, 1, 1},
+                                  {5, 1, 1},
+                                  {6, 4, LATEST},
+                                  parts.flagged ? flag : gap,
+                                  {parts.list_length_at, 1, 8},
+                                  {parts.task_count_at, 1, 16}};
     struct field found;
     switch (draw(source, 0, 2)) {
     case 0:
         found = fixed[draw(source, 0, 7)];
-        found.at += at;
         break;
     case 1:
-        found = (struct field){at + 16 + 4 * draw(source, 0, listed - 1), 4, LATEST};
+        found.at = parts.list_at + 4 * draw(source, 0, (parts.tasks_at - parts.list_at) / 4 - 1);
+        found.width = 4;
+        found.most = found.at < parts.largest_at ? LATEST : FARTHEST;
         break;
     default:
         found = of_task[draw(source, 0, 2)];
-        found.at += at + 16 + 4 * listed + 8 * draw(source, 0, tasks - 1);
+        found.at += parts.tasks_at + 8 * draw(source, 0, parts.tasks - 1);
     }
+    found.at += at;
     return found;
 }
 
@@ -934,7 +1095,7 @@ static size_t record_at(const struct generated *table, unsigned place)
 {
     size_t at = 0;
     for (unsigned i = 0; i < place; i++)
-        at += 16 + 4u * table->bytes[at + 14] + 8u * table->bytes[at + 15];
+        at += parts_of(table->bytes + at).end;
     return at;
 }
 
@@ -966,10 +1127,10 @@ static void repeat_id(struct source *source, struct generated *table, unsigned c
     table->damage = "an id repeated";
 }
 
-/* An end inside the fixed part of the 17th chain, each of whose records has 28 bytes. */
+/* An end inside the fixed part of the 17th chain or just after it. */
 static void cut_last_of_17(struct source *source, struct generated *table)
 {
-    table->length -= 32 - draw(source, 1, 18);
+    table->length = record_at(table, 16) + draw(source, 1, 18);
     table->damage = "cut in the last chain";
 }
 
@@ -979,7 +1140,7 @@ static void damage(struct source *source, struct generated *table, unsigned chai
         cut_last_of_17(source, table);
         return;
     }
-    switch (draw(source, 0, 11)) {
+    switch (draw(source, 0, 12)) {
     case 0:
         flip_bit(source, table);
         break;
@@ -1005,6 +1166,9 @@ static void damage(struct source *source, struct generated *table, unsigned chai
             cut(source, table);
         break;
     }
+    case 7:
+        mark_anew(source, table);
+        break;
     default:
         set_field(source, table, any_field(source, table, chains));
     }
@@ -1012,27 +1176,28 @@ static void damage(struct source *source, struct generated *table, unsigned chai
 
 /* ---- Faults that are close together in the order of reading ---- */
 
-/* Where the parts of a chain record stand, with one of its tasks. */
+/* Where a chain record stands, and one of its tasks. */
 struct layout {
     unsigned place; /* of the chain in its table */
-    size_t at, list, task;
-    unsigned listed, tasks_before; /* of the chains before it */
+    size_t at, task;
+    struct parts parts;
+    unsigned tasks_before; /* of the chains before it */
 };
 
 static struct layout layout_of(struct source *source, const struct generated *table, unsigned place)
 {
     struct layout found = {.place = place, .at = record_at(table, place)};
     for (unsigned i = 0; i < place; i++)
-        found.tasks_before += table->bytes[record_at(table, i) + 15];
-    found.listed = table->bytes[found.at + 14];
-    found.list = found.at + 16;
-    found.task = found.list + 4 * found.listed;
+        found.tasks_before += parts_of(table->bytes + record_at(table, i)).tasks;
+    found.parts = parts_of(table->bytes + found.at);
+    found.task = found.at + found.parts.tasks_at;
     if (one_in(source, 2))
-        found.task += 8 * draw(source, 0, table->bytes[found.at + 15] - 1u);
+        found.task += 8 * draw(source, 0, found.parts.tasks - 1);
     return found;
 }
 
-/* What is looked at of a chain record, in this order: whether its parts are there, and their values. */
+/* What is looked at of a chain record, in this order: whether its parts are there, and their values. The gap is one of
+   "CH", the flag one of "CG", and the largest distances go with flag 1. */
 enum {
     MARK_THERE,
     MARK,
@@ -1048,6 +1213,9 @@ enum {
     DISTANCES,
     LAST_DISTANCE,
     GAP_TOO_SMALL,
+    FLAG,
+    LARGEST_THERE,
+    LARGEST,
     TASK_MARK_THERE,
     TASK_MARK,
     TASK_THERE,
@@ -1058,16 +1226,28 @@ enum {
     STEPS
 };
 
+static bool has_step(uint16_t form, uint8_t flag, unsigned step)
+{
+    if (step == GAP || step == GAP_TOO_SMALL)
+        return form == MISHTODRAN_GAP_FORM;
+    if (step == FLAG)
+        return form == MISHTODRAN_LARGEST_FORM;
+    return lists_of(form, flag) == 2 || (step != LARGEST_THERE && step != LARGEST);
+}
+
 /* Where a table must end for something not to be there; what is looked at before it still is. */
 static size_t end_before(struct source *source, const struct layout *record, unsigned step)
 {
+    const struct parts *parts = &record->parts;
     switch (step) {
     case MARK_THERE:
         return record->at + draw(source, 0, 1);
     case FIXED_PART_THERE:
-        return record->at + draw(source, 2, 15);
+        return record->at + draw(source, 2, parts->list_at - 1);
     case LIST_THERE:
-        return record->list + draw(source, 0, 4 * record->listed - 1);
+        return record->at + parts->list_at + draw(source, 0, 4 * parts->listed - 1);
+    case LARGEST_THERE:
+        return record->at + parts->largest_at + draw(source, 0, 4 * parts->listed - 1);
     case TASK_MARK_THERE:
         return record->task + draw(source, 0, 1);
     case TASK_THERE:
@@ -1125,18 +1305,47 @@ static uint32_t exceed_gap(struct source *source, uint32_t *list, unsigned liste
     return gap;
 }
 
-/* Makes a list wrong in one of its three steps; gives back its gap, which is another where it is too small. */
-static uint32_t spoil_list(struct source *source, uint32_t gap, uint32_t *list, unsigned listed, unsigned step)
+/* A chain's gap, smallest distances and largest ones. */
+struct lists {
+    uint32_t *gap, *list, *largest;
+    unsigned listed;
+};
+
+/* One largest distance above the limit, below the one before it, or below the smallest one for its count: where it can
+   be, by one and for this reason alone. */
+static void spoil_largest(struct source *source, const struct lists *lists)
+{
+    unsigned place = (unsigned)draw(source, 0, lists->listed - 1);
+    uint32_t smallest = lists->list[place], *largest = lists->largest;
+    bool below_smallest = smallest > 0 && one_in(source, 2);
+    if (one_in(source, 3) || (place == 0 && !below_smallest)) {
+        largest[place] = one_in(source, 2) ? FARTHEST + 1 : UINT32_MAX;
+    } else if (below_smallest) {
+        memcpy(largest, lists->list, place * sizeof largest[0]);
+        largest[place] = smallest - 1;
+    } else {
+        if (largest[place - 1] <= smallest)
+            largest[place - 1] = smallest + 1;
+        largest[place] = largest[place - 1] - 1;
+    }
+}
+
+/* Makes a list wrong in one of its steps; where its gap is too small, the gap is another. */
+static void spoil_list(struct source *source, const struct lists *lists, unsigned step)
 {
     switch (step) {
     case DISTANCES:
-        spoil_distances(source, list, listed);
-        return gap;
+        spoil_distances(source, lists->list, lists->listed);
+        break;
     case LAST_DISTANCE:
-        spoil_last_distance(source, list, listed);
-        return gap;
+        spoil_last_distance(source, lists->list, lists->listed);
+        break;
+    case GAP_TOO_SMALL:
+        *lists->gap = exceed_gap(source, lists->list, lists->listed);
+        break;
     default:
-        return exceed_gap(source, list, listed);
+        for (unsigned count = one_in(source, 3) ? 2 : 1; count > 0; count--)
+            spoil_largest(source, lists);
     }
 }
 
@@ -1168,24 +1377,37 @@ static void spoil_fixed_part(struct source *source, struct generated *table, con
     case GAP:
         put(bytes + 10, LATEST + 1, 4);
         break;
+    case FLAG:
+        bytes[10] = (uint8_t)draw(source, 2, one_in(source, 2) ? 2 : 255);
+        break;
     case LIST_LENGTH:
-        bytes[14] = (uint8_t)(one_in(source, 2) ? 0 : draw(source, 9, 255));
+        bytes[record->parts.list_length_at] = (uint8_t)(one_in(source, 2) ? 0 : draw(source, 9, 255));
         break;
     default:
-        bytes[15] = wrong_task_count(source, record->tasks_before);
+        bytes[record->parts.task_count_at] = wrong_task_count(source, record->tasks_before);
     }
+}
+
+static void get_list(const uint8_t *stored, uint32_t *list, unsigned listed)
+{
+    for (unsigned i = 0; i < listed; i++)
+        list[i] = get(stored + 4 * i, 4);
 }
 
 static void spoil_stored_list(struct source *source, struct generated *table, const struct layout *record,
                               unsigned step)
 {
-    uint8_t *gap = table->bytes + record->at + 10, *stored = table->bytes + record->list;
-    uint32_t list[8];
-    for (unsigned i = 0; i < record->listed; i++)
-        list[i] = get(stored + 4 * i, 4);
-    put(gap, spoil_list(source, get(gap, 4), list, record->listed, step), 4);
-    for (unsigned i = 0; i < record->listed; i++)
-        put(stored + 4 * i, list[i], 4);
+    const struct parts *parts = &record->parts;
+    uint8_t *stored = table->bytes + record->at;
+    uint32_t gap = get(stored + 10, 4), list[8], largest[8];
+    get_list(stored + parts->list_at, list, parts->listed);
+    get_list(stored + parts->largest_at, largest, parts->listed);
+    spoil_list(source, &(struct lists){&gap, list, largest, parts->listed}, step);
+    put_list(stored + parts->list_at, list, parts->listed);
+    if (step == GAP_TOO_SMALL)
+        put(stored + 10, gap, 4);
+    if (step == LARGEST)
+        put_list(stored + parts->largest_at, largest, parts->listed);
 }
 
 static void spoil_task(struct source *source, uint8_t *task, unsigned step)
@@ -1209,10 +1431,10 @@ static void spoil_task(struct source *source, uint8_t *task, unsigned step)
 /* Makes the value wrong that is looked at in this step. */
 static void spoil_value(struct source *source, struct generated *table, const struct layout *record, unsigned step)
 {
-    static const char *const marks[] = {"TK", "XX", "Ch"};
+    const char *const marks[] = {"TK", "XX", "Ch", "cG", record->parts.flagged ? "CH" : "CG"};
     if (step == MARK)
-        put_mark(table->bytes + record->at, marks[draw(source, 0, 2)]);
-    else if (step < LIST_THERE)
+        put_mark(table->bytes + record->at, marks[draw(source, 0, 4)]);
+    else if (step < LIST_THERE || step == FLAG)
         spoil_fixed_part(source, table, record, step);
     else if (step < TASK_MARK_THERE)
         spoil_stored_list(source, table, record, step);
@@ -1222,8 +1444,9 @@ static void spoil_value(struct source *source, struct generated *table, const st
 
 static void spoil(struct source *source, struct generated *table, const struct layout *record, unsigned step)
 {
-    static const bool there[STEPS] = {[MARK_THERE] = true,      [FIXED_PART_THERE] = true, [LIST_THERE] = true,
-                                      [TASK_MARK_THERE] = true, [TASK_THERE] = true,       [NEXT_THERE] = true};
+    static const bool there[STEPS] = {[MARK_THERE] = true,    [FIXED_PART_THERE] = true, [LIST_THERE] = true,
+                                      [LARGEST_THERE] = true, [TASK_MARK_THERE] = true,  [TASK_THERE] = true,
+                                      [NEXT_THERE] = true};
     if (there[step])
         table->length = end_before(source, record, step);
     else
@@ -1244,26 +1467,44 @@ static void spoil_end(struct source *source, struct generated *table, unsigned c
     table->length = (size_t)(end - table->bytes) + draw(source, 0, 8);
 }
 
+static unsigned listed_at(const struct generated *table, unsigned place)
+{
+    return parts_of(table->bytes + record_at(table, place)).listed;
+}
+
 /* The first chain that lists most distances. */
 static unsigned longest_list(const struct generated *table, unsigned chains)
 {
     unsigned found = 0;
     for (unsigned i = 1; i < chains; i++)
-        if (table->bytes[record_at(table, i) + 14] > table->bytes[record_at(table, found) + 14])
+        if (listed_at(table, i) > listed_at(table, found))
             found = i;
     return found;
 }
 
-/* A fault of a chain in this step, and in some of the three after it; now and then the next chain's id is wrong too. */
+/* The first four steps from `first` on that go with a form and a flag, or fewer where there are no more; how many. */
+static unsigned next_steps(uint16_t form, uint8_t flag, unsigned first, unsigned steps[4])
+{
+    unsigned count = 0;
+    for (unsigned step = first; step < STEPS && count < 4; step++)
+        if (has_step(form, flag, step))
+            steps[count++] = step;
+    return count;
+}
+
+/* A fault of a chain in this step or the next one that it has, and in some of the three after that; now and then the
+   next chain's id is wrong too. */
 static void spoil_chain(struct source *source, struct generated *table, unsigned chains, unsigned place, unsigned first)
 {
     struct layout record = layout_of(source, table, place);
+    const uint8_t *bytes = table->bytes + record.at;
+    unsigned steps[4], count = next_steps((uint16_t)get(bytes, 2), bytes[10], first, steps);
     if (place + 1 < chains && one_in(source, 5))
         put(table->bytes + record_at(table, place + 1) + 2, 0, 2);
-    for (unsigned step = least(first + 3, STEPS - 1); step > first; step--)
+    for (unsigned i = count - 1; i > 0; i--)
         if (one_in(source, 2))
-            spoil(source, table, &record, step);
-    spoil(source, table, &record, first);
+            spoil(source, table, &record, steps[i]);
+    spoil(source, table, &record, steps[0]);
 }
 
 /* Of 17 chains only where the last begins; now and then the table is too long as well. */
@@ -1276,11 +1517,11 @@ void spoil_together(struct source *source, struct generated *table, unsigned cha
         spoil_end(source, table, chains);
     else if (one_in(source, 3))
         spoil_chain(source, table, chains, longest_list(table, chains),
-                    (unsigned)draw(source, LIST_THERE, GAP_TOO_SMALL));
+                    (unsigned)draw(source, LIST_THERE, LARGEST));
     else
         spoil_chain(source, table, chains, place, (unsigned)draw(source, 0, STEPS - 1));
     if (one_in(source, 12))
-        while (table->length <= 1284)
+        for (size_t limit = limit_of(table); table->length <= limit;)
             table->bytes[table->length++] = 0;
     table->damage = "faults close together";
 }
@@ -1316,13 +1557,13 @@ struct family {
 };
 
 static const struct family families[] = {
-    {"of the documents", 2, documented}, {"light", 14, some_light},
-    {"full", 4, full_table},             {"heavy", 5, heavy_table},
-    {"close to one", 5, close_to_one},   {"backlog", 7, backlog},
+    {"of the documents", 2, documented}, {"light", 12, some_light},
+    {"full", 6, full_table},             {"heavy", 5, heavy_table},
+    {"close to one", 5, close_to_one},   {"backlog", 6, backlog},
     {"horizon", 6, horizon},             {"exact horizon", 3, exact_horizon},
-    {"limits", 6, at_limits},            {"wrong count", 4, wrong_count},
-    {"packing", 13, some_packing},       {"refused misses", 5, refused_misses},
-    {"sieved", 13, sieved},              {"past the horizon", 3, past_horizon},
+    {"limits", 6, at_limits},            {"wrong count", 7, wrong_count},
+    {"packing", 12, some_packing},       {"refused misses", 5, refused_misses},
+    {"sieved", 12, sieved},              {"past the horizon", 3, past_horizon},
     {"frequent", 6, frequent},           {"at arrivals", 4, at_arrivals},
 };
 
@@ -1345,6 +1586,10 @@ struct generated generate(struct source *source)
 {
     const struct family *family = any_family(source);
     struct made_table table = family->make(source);
+    if (table.chains > 0 && one_in(source, 2))
+        list_largest(source, &table);
+    if (table.chains > 0 && one_in(source, table.chains < 16 ? 30 : 3))
+        mix_forms(source, &table);
     struct generated found = stored(&table, family->name);
     if (one_in(source, table.chains == 17 ? 2 : 4)) {
         spoil_together(source, &found, table.chains);
@@ -1405,6 +1650,8 @@ enum {
     BY_BOTH = BY_FIRST | BY_SECOND | 1 << CHANGED_ALIKE | 1 << REMOVED_IN_BOTH | 1 << ADDED_ALIKE,
     ADDING = 1 << CHANGED_IN_FIRST | 1 << CHANGED_IN_SECOND | 1 << ADDED_IN_FIRST | 1 << ADDED_IN_SECOND,
     REMOVING = 1 << REMOVED_IN_FIRST | 1 << REMOVED_IN_SECOND | 1 << REMOVED_IN_BOTH,
+    KEPT_OR_ADDED = 1 << KEPT | 1 << ADDED_IN_FIRST | 1 << ADDED_IN_SECOND,
+    ALIKE = KEPT_OR_ADDED | 1 << CHANGED_ALIKE | 1 << REMOVED_IN_BOTH | 1 << ADDED_ALIKE,
     IN_CONFLICT = 1 << CHANGED_APART | 1 << REMOVED_AND_CHANGED | 1 << CHANGED_AND_REMOVED | 1 << ADDED_APART
 };
 
@@ -1417,29 +1664,39 @@ static unsigned draw_from(struct source *source, struct range range)
     return (unsigned)draw(source, range.low, range.high);
 }
 
-/* What may become of the chains, how many there are, and how many tasks and distances each has. */
+/* The copies that have another form than the ancestor, as a set of bits; and not said. */
+enum { NEITHER, FIRST_COPY, SECOND_COPY, BOTH_COPIES, ANY_COPIES };
+
+/* Which copies were converted, what may become of the chains, how many there are, and how many tasks and distances each
+   has. To be converted is to be changed: beside a copy that is, most of what the other does is in conflict. */
 struct story {
     const char *name;
     unsigned share; /* of a hundred triples */
-    unsigned fates;
+    unsigned converted, fates;
     struct range chains, tasks, listed;
 };
 
-/* The last five make results around the limits: 16 chains, 64 tasks, 1,284 bytes. */
+/* The seven from "many chains" on make results around the limits: 16 chains, 64 tasks, and as many bytes as the first
+   mark allows; the last two make results of both forms. */
 static const struct story stories[] = {
-    {"nothing edited", 3, 1 << KEPT, {1, 16}, {1, 4}, {1, 8}},
-    {"first copy edited", 6, BY_FIRST, {1, 16}, {1, 4}, {1, 8}},
-    {"second copy edited", 6, BY_SECOND, {1, 16}, {1, 4}, {1, 8}},
-    {"both copies edited", 20, BY_BOTH, {2, 16}, {1, 4}, {1, 8}},
-    {"few long chains edited", 8, BY_BOTH, {1, 5}, {1, 16}, {1, 8}},
-    {"conflicts", 15, BY_BOTH | IN_CONFLICT, {1, 16}, {1, 4}, {1, 8}},
-    {"conflicts alone", 5, IN_CONFLICT, {2, 8}, {1, 8}, {1, 8}},
-    {"all removed", 7, REMOVING, {2, 8}, {1, 8}, {1, 8}},
-    {"many chains", 6, ADDING, {16, 24}, {1, 3}, {1, 8}},
-    {"many tasks", 6, ADDING, {5, 12}, {6, 16}, {1, 8}},
-    {"many chains and tasks", 8, ADDING, {17, 19}, {3, 5}, {1, 4}},
-    {"full records", 5, ADDING, {15, 17}, {3, 5}, {8, 8}},
-    {"full records of few tasks", 5, ADDING, {16, 18}, {3, 4}, {8, 8}},
+    {"nothing edited", 3, ANY_COPIES, 1 << KEPT, {1, 16}, {1, 4}, {1, 8}},
+    {"first copy edited", 5, NEITHER, BY_FIRST, {1, 16}, {1, 4}, {1, 8}},
+    {"second copy edited", 5, NEITHER, BY_SECOND, {1, 16}, {1, 4}, {1, 8}},
+    {"both copies edited", 15, NEITHER, BY_BOTH, {2, 16}, {1, 4}, {1, 8}},
+    {"few long chains edited", 6, NEITHER, BY_BOTH, {1, 5}, {1, 16}, {1, 8}},
+    {"conflicts", 11, NEITHER, BY_BOTH | IN_CONFLICT, {1, 16}, {1, 4}, {1, 8}},
+    {"conflicts alone", 4, ANY_COPIES, IN_CONFLICT, {2, 8}, {1, 8}, {1, 8}},
+    {"all removed", 6, ANY_COPIES, REMOVING, {2, 8}, {1, 8}, {1, 8}},
+    {"first copy converted", 4, FIRST_COPY, BY_FIRST, {1, 16}, {1, 4}, {1, 8}},
+    {"second copy converted", 4, SECOND_COPY, BY_SECOND, {1, 16}, {1, 4}, {1, 8}},
+    {"both copies converted", 4, BOTH_COPIES, ALIKE, {1, 16}, {1, 4}, {1, 8}},
+    {"many chains", 6, NEITHER, ADDING, {16, 24}, {1, 3}, {1, 8}},
+    {"many tasks", 6, NEITHER, ADDING, {5, 12}, {6, 16}, {1, 8}},
+    {"many chains and tasks", 7, NEITHER, ADDING, {17, 19}, {3, 5}, {1, 4}},
+    {"full records", 4, NEITHER, ADDING, {15, 17}, {3, 5}, {8, 8}},
+    {"full records of few tasks", 4, NEITHER, ADDING, {16, 18}, {3, 4}, {8, 8}},
+    {"additions of another form", 4, ANY_COPIES, KEPT_OR_ADDED, {2, 16}, {1, 4}, {1, 8}},
+    {"full additions of another form", 2, ANY_COPIES, KEPT_OR_ADDED, {16, 28}, {3, 4}, {8, 8}},
 };
 
 static const struct story *any_story(struct source *source)
@@ -1470,21 +1727,24 @@ static struct ids any_ids(struct source *source)
     return one_in(source, 2) ? mixed_ids(source) : close[draw(source, 0, 4)];
 }
 
-/* Any values that are allowed: a merge works no figures out. */
-static struct made_chain any_chain(struct source *source, uint32_t id, unsigned tasks, unsigned listed)
+/* Any values that are allowed: a merge works no figures out. Where all lists are as long as they may be, the gap is
+   known, so that the records are as long as they may be in either form. */
+static struct made_chain any_chain(struct source *source, uint32_t id, struct range tasks, struct range listed)
 {
-    struct made_chain chain = {.id = id, .listed = listed};
+    struct made_chain chain = {.form = MISHTODRAN_GAP_FORM, .id = id, .listed = draw_from(source, listed)};
     uint32_t latest = one_in(source, 2) ? 300 : LATEST;
     chain.asynchronous = one_in(source, 2);
     chain.overload = one_in(source, 2);
     chain.deadline = (uint32_t)draw(source, 1, latest);
-    for (unsigned i = 0; i < listed; i++)
+    for (unsigned i = 0; i < chain.listed; i++)
         chain.distance[i] = (uint32_t)draw(source, 1, latest);
-    sort(chain.distance, listed);
-    if (listed > 1 && one_in(source, 4))
+    sort(chain.distance, chain.listed);
+    if (chain.listed > 1 && one_in(source, 4))
         chain.distance[0] = 0;
     fill_gap(source, &chain);
-    fill_tasks(source, &chain, tasks, HIGHEST, DEAREST);
+    if (listed.low == 8 && chain.gap == 0)
+        chain.gap = least_gap(&chain);
+    fill_tasks(source, &chain, draw_from(source, tasks), HIGHEST, DEAREST);
     return chain;
 }
 
@@ -1499,7 +1759,7 @@ static uint32_t another(struct source *source, uint32_t value, uint32_t most)
     return other < value ? other : other + 1;
 }
 
-/* One distance more, one less, or another one; where the gap is too small then, a larger gap. */
+/* One distance more, one less, or another one; where the gap or a largest distance is too small then, a larger one. */
 static void change_list(struct source *source, struct made_chain *chain)
 {
     unsigned last = chain->listed - 1;
@@ -1516,6 +1776,19 @@ static void change_list(struct source *source, struct made_chain *chain)
     }
     if (chain->gap > 0 && chain->gap < least_gap(chain))
         chain->gap = least_gap(chain);
+    allow_largest(chain);
+}
+
+/* The flag, or with flag 1 a largest distance that is not the greatest. */
+static void change_largest(struct source *source, struct made_chain *chain)
+{
+    unsigned place = (unsigned)draw(source, 0, chain->listed - 1);
+    uint32_t *largest = &chain->largest[place];
+    if (chain->flag == 1 && *largest < FARTHEST)
+        *largest = (uint32_t)draw(source, *largest + 1, FARTHEST);
+    else
+        chain->flag = !chain->flag;
+    allow_largest(chain);
 }
 
 static void change_gap(struct source *source, struct made_chain *chain)
@@ -1552,7 +1825,10 @@ static struct made_chain changed(struct source *source, struct made_chain chain)
         chain.deadline = another(source, chain.deadline, LATEST);
         break;
     case 4:
-        change_gap(source, &chain);
+        if (chain.form == MISHTODRAN_LARGEST_FORM)
+            change_largest(source, &chain);
+        else
+            change_gap(source, &chain);
         break;
     case 5:
         change_list(source, &chain);
@@ -1586,20 +1862,36 @@ static bool all_have_room(const struct made_table tables[3], const struct made_c
     return true;
 }
 
-/* Gives each table what it has of this chain, unless one of them is full; the bytes that a merge has of it then. */
-static size_t add_fated(struct source *source, struct made_table tables[3], const struct made_chain *chain,
-                        unsigned fate)
+/* Whether two of the tables have the same of an id. */
+static bool alike(const uint16_t forms[3], unsigned fate, unsigned one, unsigned other)
+{
+    const uint8_t *of = versions[fate];
+    return of[one] == of[other] && (of[one] == MISSING || forms[one] == forms[other]);
+}
+
+/* Gives each table what it has of this chain, in its form, unless one of them is full; the bytes that a merge has of it
+   then. Where the tables differ in form, the chain has a gap. */
+static size_t add_fated(struct source *source, struct made_table tables[3], const uint16_t forms[3],
+                        const struct made_chain *chain, unsigned fate)
 {
     struct made_chain version[VERSIONS] = {[MADE] = *chain, [CHANGED] = changed(source, *chain)};
     version[CHANGED_AGAIN] = changed(source, version[CHANGED]);
+    unsigned merged = alike(forms, fate, 0, 1) ? 2 : 1;
+    uint8_t record[MISHTODRAN_MOST_CHAIN_RECORD_BYTES];
+    size_t length = 0;
     if (!all_have_room(tables, version, fate))
         return 0;
-    const uint8_t *of = versions[fate];
-    for (unsigned i = 0; i < 3; i++)
-        if (of[i] != MISSING)
-            tables[i].chain[tables[i].chains++] = version[of[i]];
-    unsigned merged = of[1] == of[0] ? of[2] : of[1];
-    return merged == MISSING ? 0 : 16 + 4 * version[merged].listed + 8 * version[merged].tasks;
+    for (unsigned i = 0; i < 3; i++) {
+        if (versions[fate][i] == MISSING)
+            continue;
+        struct made_chain *added = &tables[i].chain[tables[i].chains++];
+        *added = version[versions[fate][i]];
+        if (added->form != forms[i])
+            list_gap(added);
+        if (i == merged)
+            length = (size_t)(put_chain(record, added) - record);
+    }
+    return length;
 }
 
 /* Exchanges records of a copy: none, two of them, or many. */
@@ -1632,19 +1924,36 @@ static size_t any_room(struct source *source, size_t length)
     }
 }
 
+/* The forms of the three tables; whether all are "CG". */
+static bool any_forms(struct source *source, unsigned converted, uint16_t forms[3])
+{
+    static const unsigned copy[] = {0, FIRST_COPY, SECOND_COPY};
+    bool largest = one_in(source, 2);
+    if (converted == ANY_COPIES)
+        converted = (unsigned)draw(source, NEITHER, BOTH_COPIES);
+    for (unsigned i = 0; i < 3; i++) {
+        bool as_ancestor = (converted & copy[i]) == 0;
+        forms[i] = largest == as_ancestor ? MISHTODRAN_LARGEST_FORM : MISHTODRAN_GAP_FORM;
+    }
+    return largest && converted == NEITHER;
+}
+
 /* Tables of a story; now and then the last chain is in conflict whatever the story. */
 struct triple generate_triple(struct source *source)
 {
     const struct story *story = any_story(source);
     struct made_table tables[3] = {0};
+    uint16_t forms[3];
+    bool all_largest = any_forms(source, story->converted, forms);
     struct ids ids = any_ids(source);
     unsigned chains = draw_from(source, story->chains);
     size_t length = 4; /* of the merge */
     for (unsigned i = 0; i < chains; i++) {
-        unsigned tasks = draw_from(source, story->tasks);
-        struct made_chain chain = any_chain(source, id_at(ids, i), tasks, draw_from(source, story->listed));
+        struct made_chain chain = any_chain(source, id_at(ids, i), story->tasks, story->listed);
+        if (all_largest)
+            any_largest(source, &chain);
         unsigned fates = i + 1 == chains && one_in(source, 8) ? IN_CONFLICT : story->fates;
-        length += add_fated(source, tables, &chain, any_fate(source, fates));
+        length += add_fated(source, tables, forms, &chain, any_fate(source, fates));
     }
     struct triple found = {.table = {stored(&tables[0], story->name)}, .room = any_room(source, length)};
     for (unsigned i = 1; i < 3; i++) {
@@ -1669,13 +1978,34 @@ void spoil_triple(struct source *source, struct triple *triple)
 bool same_rows(const struct mishtodran_row *one, const struct mishtodran_row *other, size_t count)
 {
     for (; count > 0; count--, one++, other++)
-        if (one->id != other->id || one->kind != other->kind || one->overload != other->overload ||
-            one->deadline != other->deadline || one->gap != other->gap || one->listed != other->listed ||
-            one->tasks != other->tasks || memcmp(one->list, other->list, sizeof one->list) != 0 ||
+        if (one->form != other->form || one->id != other->id || one->kind != other->kind ||
+            one->overload != other->overload || one->flag != other->flag || one->deadline != other->deadline ||
+            one->gap != other->gap || one->listed != other->listed || one->tasks != other->tasks ||
+            memcmp(one->list, other->list, sizeof one->list) != 0 ||
+            memcmp(one->largest, other->largest, sizeof one->largest) != 0 ||
             memcmp(one->priority, other->priority, sizeof one->priority) != 0 ||
             memcmp(one->cost, other->cost, sizeof one->cost) != 0)
             return false;
     return true;
+}
+
+struct mishtodran_row without_rest(struct mishtodran_row row)
+{
+    if (row.form == MISHTODRAN_LARGEST_FORM)
+        row.gap = 0;
+    else
+        row.flag = 0;
+    for (uint64_t i = 0; i < 8; i++) {
+        if (i >= row.listed)
+            row.list[i] = 0;
+        if (i >= row.listed || row.flag == 0)
+            row.largest[i] = 0;
+    }
+    for (uint64_t i = row.tasks; i < 16; i++) {
+        row.priority[i] = 0;
+        row.cost[i] = 0;
+    }
+    return row;
 }
 
 /* How many rows there are, and how many tasks and distances each has. */
@@ -1685,7 +2015,7 @@ struct batch {
     struct range rows, tasks, listed;
 };
 
-/* Full rows make a table of 1,284 bytes. The last two may be over 64 tasks before the 17th row. */
+/* Full rows make a table of 1,284 bytes or of 1,748. The last two may be over 64 tasks before the 17th row. */
 static const struct batch batches[] = {
     {"no row", 2, {0, 0}, {1, 1}, {1, 1}},
     {"few rows", 28, {1, 4}, {1, 16}, {1, 8}},
@@ -1719,20 +2049,26 @@ static void reach_limits(struct source *source, struct made_chain *chain)
     chain->gap = one_in(source, 2) ? least_gap(chain) : one_in(source, 2) ? LATEST : 0;
 }
 
-/* The row of a chain. In the places past its counts stands 0, as after a read, or something else. */
+/* The row of a chain. In the places that do not count stands 0, as after a read, or something else. */
 static struct mishtodran_row row_of(struct source *source, const struct made_chain *chain)
 {
     const uint32_t rests[] = {0, 1, UINT32_MAX, (uint32_t)draw(source, 0, UINT32_MAX)};
     const uint32_t rest = pick(source, rests, 4);
-    struct mishtodran_row row = {.id = (uint16_t)chain->id,
+    const bool flagged = chain->form == MISHTODRAN_LARGEST_FORM;
+    const unsigned largest = lists_of(chain->form, chain->flag) == 2 ? chain->listed : 0;
+    struct mishtodran_row row = {.form = chain->form,
+                                 .id = (uint16_t)chain->id,
                                  .kind = chain->asynchronous,
                                  .overload = chain->overload,
+                                 .flag = flagged ? chain->flag : (uint8_t)rest,
                                  .deadline = chain->deadline,
-                                 .gap = chain->gap,
+                                 .gap = flagged ? rest : chain->gap,
                                  .listed = chain->listed,
                                  .tasks = chain->tasks};
-    for (unsigned i = 0; i < 8; i++)
+    for (unsigned i = 0; i < 8; i++) {
         row.list[i] = i < chain->listed ? chain->distance[i] : rest;
+        row.largest[i] = i < largest ? chain->largest[i] : rest;
+    }
     for (unsigned i = 0; i < 16; i++) {
         row.priority[i] = (uint16_t)(i < chain->tasks ? chain->task[i].priority : rest);
         row.cost[i] = i < chain->tasks ? chain->task[i].cost : rest;
@@ -1765,11 +2101,27 @@ static uint64_t wrong_tasks(struct source *source, const struct made_rows *made,
     return count_outside(source, made->row[place].tasks, 16);
 }
 
+/* Another form than the row has: the other one, or neither, such as the marks of a task and of the end, and those of a
+   chain the other way round. */
+static uint16_t wrong_form(struct source *source, uint16_t form)
+{
+    const uint32_t neither[] = {0, 1, 0x4B54, 0x4E45, 0x4348, 0x4347, form ^ 1u << draw(source, 0, 15)};
+    if (one_in(source, 2))
+        return form == MISHTODRAN_GAP_FORM ? MISHTODRAN_LARGEST_FORM : MISHTODRAN_GAP_FORM;
+    return (uint16_t)pick(source, neither, 7);
+}
+
 static void spoil_row_fields(struct source *source, struct made_rows *made, unsigned place, unsigned step)
 {
     static const uint32_t deadlines[] = {0, LATEST + 1, UINT32_MAX};
     struct mishtodran_row *row = &made->row[place];
     switch (step) {
+    case MARK:
+        row->form = wrong_form(source, row->form);
+        break;
+    case FLAG:
+        row->flag = (uint8_t)draw(source, 2, one_in(source, 2) ? 2 : 255);
+        break;
     case ID:
         row->id = place == 0 || one_in(source, 2) ? 0 : made->row[draw(source, 0, place - 1)].id;
         break;
@@ -1807,45 +2159,68 @@ static void spoil_row_task(struct source *source, struct mishtodran_row *row, un
 static void spoil_row_value(struct source *source, struct made_rows *made, unsigned place, unsigned step)
 {
     struct mishtodran_row *row = &made->row[place];
-    if (step <= TASK_COUNT)
+    if (step <= TASK_COUNT || step == FLAG)
         spoil_row_fields(source, made, place, step);
-    else if (step <= GAP_TOO_SMALL)
-        row->gap = spoil_list(source, row->gap, row->list, (unsigned)row->listed, step);
+    else if (step <= LARGEST)
+        spoil_list(source, &(struct lists){&row->gap, row->list, row->largest, (unsigned)row->listed}, step);
     else
         spoil_row_task(source, row, step);
 }
 
-/* A fault of a row, and some of the three that are looked for after it; these go first, while the counts are right. */
+/* The steps that a row has, in their order; how many. */
+static unsigned steps_of_row(const struct mishtodran_row *row, uint8_t steps[STEPS])
+{
+    static const uint8_t all[] = {MARK,       ID,        KIND,          OVERLOAD,      DEADLINE, GAP,     LIST_LENGTH,
+                                  TASK_COUNT, DISTANCES, LAST_DISTANCE, GAP_TOO_SMALL, FLAG,     LARGEST, PRIORITY,
+                                  COST};
+    unsigned count = 0;
+    for (unsigned i = 0; i < sizeof all; i++)
+        if (has_step(row->form, row->flag, all[i]))
+            steps[count++] = all[i];
+    return count;
+}
+
+/* A fault of a row, of a 17th often its form, and some of the three that are looked for after it; these go first, while
+   the counts are right. */
 static void spoil_row(struct source *source, struct made_rows *made, unsigned place)
 {
-    static const uint8_t steps[] = {ID,         KIND,      OVERLOAD,      DEADLINE,      GAP,      LIST_LENGTH,
-                                    TASK_COUNT, DISTANCES, LAST_DISTANCE, GAP_TOO_SMALL, PRIORITY, COST};
-    unsigned first = (unsigned)draw(source, 0, sizeof steps - 1);
-    for (unsigned i = least(first + 3, sizeof steps - 1); i > first; i--)
+    uint8_t steps[STEPS];
+    unsigned last = steps_of_row(&made->row[place], steps) - 1, first = (unsigned)draw(source, 0, last);
+    if (place == 16 && one_in(source, 2))
+        first = 0;
+    for (unsigned i = least(first + 3, last); i > first; i--)
         if (one_in(source, 2))
             spoil_row_value(source, made, place, steps[i]);
     spoil_row_value(source, made, place, steps[first]);
 }
 
-/* A row at fault, and now and then one after it. The later goes first: for its fault all counts before it are right. */
+/* A row at fault, often the 17th where there is one, and now and then one after it. The later goes first: for its fault
+   all counts before it are right. */
 static void spoil_rows(struct source *source, struct made_rows *made)
 {
     unsigned last = (unsigned)made->count - 1, place = (unsigned)draw(source, 0, last);
+    if (last >= 16 && one_in(source, 2))
+        place = 16;
     if (place < last && one_in(source, 3))
         spoil_row(source, made, (unsigned)draw(source, place + 1, last));
     spoil_row(source, made, place);
     made->bytes.damage = "spoiled";
 }
 
-/* The record that a row says, whatever it says. A count that no byte holds is 255; what has no place is left out. */
+/* The record that a row says, whatever it says. A form that is neither becomes a mark that is none, a count that no
+   byte holds 255; what has no place is left out. */
 static uint8_t *put_row(uint8_t *at, const struct mishtodran_row *row)
 {
-    at = put(put_mark(at, "CH"), row->id, 2);
-    at = put(put(at, row->kind, 1), row->overload, 1);
-    at = put(put(at, row->deadline, 4), row->gap, 4);
+    bool flagged = row->form == MISHTODRAN_LARGEST_FORM;
+    unsigned listed = least(row->listed, 8);
+    at = flagged || row->form == MISHTODRAN_GAP_FORM ? put(at, row->form, 2) : put_mark(at, "XX");
+    at = put(put(put(at, row->id, 2), row->kind, 1), row->overload, 1);
+    at = put(at, row->deadline, 4);
+    at = flagged ? put(at, row->flag, 1) : put(at, row->gap, 4);
     at = put(put(at, least(row->listed, 255), 1), least(row->tasks, 255), 1);
-    for (unsigned i = 0; i < row->listed && i < 8; i++)
-        at = put(at, row->list[i], 4);
+    at = put_list(at, row->list, listed);
+    if (lists_of(row->form, row->flag) == 2)
+        at = put_list(at, row->largest, listed);
     for (unsigned i = 0; i < row->tasks && i < 16; i++)
         at = put(put(put_mark(at, "TK"), row->priority[i], 2), row->cost[i], 4);
     return at;
@@ -1854,8 +2229,10 @@ static uint8_t *put_row(uint8_t *at, const struct mishtodran_row *row)
 /* The bytes of the rows, but no more than a table may have: the first fault, where there is one, is among them. */
 static void encode_rows(struct made_rows *made)
 {
-    const uint8_t *end = made->bytes.bytes + 1284;
+    bool flagged = made->count > 0 && made->row[0].form == MISHTODRAN_LARGEST_FORM;
+    size_t limit = flagged ? MISHTODRAN_MOST_TABLE_BYTES : MISHTODRAN_MOST_GAP_TABLE_BYTES;
     uint8_t *at = made->bytes.bytes;
+    const uint8_t *end = at + limit;
     for (unsigned i = 0; i < made->count && at < end; i++)
         at = put_row(at, &made->row[i]);
     at = put(put_mark(at, "EN"), made->count, 2);
@@ -1867,11 +2244,13 @@ struct made_rows generate_rows(struct source *source)
     const struct batch *batch = any_batch(source);
     struct ids ids = any_ids(source);
     struct made_rows made = {.count = draw_from(source, batch->rows), .bytes = {.family = batch->name, .damage = ""}};
+    bool largest = one_in(source, 2);
     for (unsigned i = 0; i < made.count; i++) {
-        unsigned tasks = draw_from(source, batch->tasks);
-        struct made_chain chain = any_chain(source, id_at(ids, i), tasks, draw_from(source, batch->listed));
+        struct made_chain chain = any_chain(source, id_at(ids, i), batch->tasks, batch->listed);
         if (one_in(source, 4))
             reach_limits(source, &chain);
+        if (largest)
+            any_largest(source, &chain);
         made.row[i] = row_of(source, &chain);
     }
     if (made.count > 0 && one_in(source, 2))

@@ -25,11 +25,14 @@ struct made_task {
     uint32_t priority, cost;
 };
 
+/* Of either form: one of "CH" has its gap, one of "CG" its flag and with flag 1 its largest distances. */
 struct made_chain {
+    uint16_t form;
     uint32_t id, deadline, gap;
+    uint8_t flag;
     bool asynchronous, overload;
     unsigned listed, tasks;
-    uint32_t distance[8];
+    uint32_t distance[8], largest[8];
     struct made_task task[16];
 };
 
@@ -47,10 +50,22 @@ struct generated {
     const char *family, *damage; /* what it is, and what was done to it or "" */
 };
 
-/* A chain with one listed distance and no task yet, added to a table; its id is its place. */
+/* A chain with one listed distance and no task yet, added to a table; its id is its place, its form "CH". */
 struct made_chain *add_chain(struct made_table *table, uint32_t deadline, uint32_t gap, uint32_t distance);
 void add_task(struct made_chain *chain, uint32_t priority, uint32_t cost);
+/* The table in the form "CG", so many times the gap for each distance that is listed. */
+struct made_table in_largest_form(struct made_table table);
 size_t encode(const struct made_table *table, uint8_t *bytes);
+
+/* Where the parts of a chain record stand, from its first byte, by its own mark, flag and counts. Any mark but "CG"
+   counts as "CH". Without largest distances their place is that of the tasks. */
+struct parts {
+    bool flagged; /* of the form "CG" */
+    size_t list_length_at, task_count_at, list_at, largest_at, tasks_at, end;
+    unsigned listed, tasks;
+};
+
+struct parts parts_of(const uint8_t *record);
 
 /* ---- Families ---- */
 
@@ -61,7 +76,7 @@ struct made_table horizon_edge(void);
 
 /* At most 16 chains that keep the processor busy for less than nine tenths of the time. */
 struct made_table light_table(struct source *source, unsigned chains);
-/* 16 chains, 8 distances each, 64 tasks: 1,284 bytes. */
+/* 16 chains, 8 distances each, 64 tasks: 1,284 bytes, and 1,748 in the form "CG". */
 struct made_table full_table(struct source *source);
 /* Overload chains of `segments` active segments together, against the first chain, with capacities up to 40. */
 struct made_table packing_table(struct source *source, unsigned segments);
@@ -97,8 +112,10 @@ struct made_rows {
     size_t room;
 };
 
-/* Rows without fault, or with one, or with some; anything stands in the places past a count. */
+/* Rows without fault, or with one, or with some; anything stands in the places that do not count. */
 struct made_rows generate_rows(struct source *source);
+/* The row as it reads back, with 0 in these places; its counts are right. */
+struct mishtodran_row without_rest(struct mishtodran_row row);
 /* Whether rows are the same in all their places; what stands between two fields does not count. */
 bool same_rows(const struct mishtodran_row *one, const struct mishtodran_row *other, size_t count);
 

@@ -74,6 +74,18 @@ uint32_t mishtodran_record(const uint8_t *table, size_t table_len, uint32_t id, 
     return plain_record(table, table_len, id, answer, answer_len);
 }
 
+uint32_t mishtodran_to_largest(const uint8_t *table, size_t table_len, uint8_t *buffer, size_t buffer_len,
+                               uint8_t *answer, size_t answer_len)
+{
+    return plain_to_largest(table, table_len, buffer, buffer_len, answer, answer_len);
+}
+
+uint32_t mishtodran_to_gap(const uint8_t *table, size_t table_len, uint8_t *buffer, size_t buffer_len, uint8_t *answer,
+                           size_t answer_len)
+{
+    return plain_to_gap(table, table_len, buffer, buffer_len, answer, answer_len);
+}
+
 uint32_t mishtodran_report(const uint8_t *table, size_t table_len, uint8_t *text, size_t text_len, uint8_t *answer,
                            size_t answer_len)
 {

@@ -3,9 +3,12 @@
           rows read     takes a table on standard input, and writes its rows to standard output
 
    A row is a line of decimal numbers with blanks between them:
-     id kind overload deadline gap listed tasks, then so many distances, then the priority and the cost of so many tasks
-   with kind 0 for synchronous and 1 for asynchronous, overload 1 for an overload chain, `listed` the number of distances
-   and `tasks` that of tasks. The library makes the bytes and judges them; nothing is written of what it refuses.
+     form id kind overload flag deadline gap listed tasks, then so many distances, then as many largest ones where the
+     form is CG and the flag 1, then the priority and the cost of so many tasks
+   with form 18499 for CH and 18243 for CG, the mark as a number, kind 0 for synchronous and 1 for asynchronous,
+   overload 1 for an overload chain, `listed` the number of distances and `tasks` that of tasks. The flag of CH and the
+   gap of CG count for nothing, and are 0 in what is read. The library makes the bytes and judges them; nothing is
+   written of what it refuses.
 
    Ends with 0. With 1 where the library refuses, and then says on standard error
      refused N in row R: WHY     of rows: row R, counted from 1, is the first that may not stand after those before it;
@@ -26,9 +29,9 @@ enum { REFUSED = 1, FAILED = 2 };
 
 /* The header's sentences for what a table is refused with. */
 static const char *const sentences[] = {
-    [MISHTODRAN_TABLE_LENGTH] = "the table's length is 0, above 1,284 or above its buffer",
+    [MISHTODRAN_TABLE_LENGTH] = "the table's length is 0, above 1,284 (1,748 for CG) or above its buffer",
     [MISHTODRAN_CUT_SHORT] = "bytes run out inside a record or before the end record",
-    [MISHTODRAN_MARK] = "a mark is not one allowed there",
+    [MISHTODRAN_MARK] = "a mark is not one allowed there, or is of another form than the first",
     [MISHTODRAN_ID] = "an id is 0 or used earlier",
     [MISHTODRAN_KIND] = "a kind or overload byte is above 1",
     [MISHTODRAN_DEADLINE] = "a deadline is not 1 to 10,000,000",
@@ -40,6 +43,7 @@ static const char *const sentences[] = {
     [MISHTODRAN_DISTANCE] = "a distance falls or exceeds 10,000,000",
     [MISHTODRAN_LAST_DISTANCE] = "the last distance is 0",
     [MISHTODRAN_GAP_TOO_SMALL] = "a gap other than 0 is too small for the distances",
+    [MISHTODRAN_LARGEST] = "a flag is above 1, or a largest distance falls, is too large or too small",
 };
 
 static void fail(const char *what, const char *why)
@@ -65,6 +69,12 @@ static void flush_output(void)
 static uint32_t get(const uint8_t *at)
 {
     return at[0] | (uint32_t)at[1] << 8 | (uint32_t)at[2] << 16 | (uint32_t)at[3] << 24;
+}
+
+/* Whether a row has largest distances. */
+static int knows_largest(const struct mishtodran_row *row)
+{
+    return row->form == MISHTODRAN_LARGEST_FORM && row->flag == 1;
 }
 
 /* ---- Rows to a table ---- */
@@ -121,22 +131,32 @@ static uint64_t number(size_t row, const char *what, uint64_t most)
     return found;
 }
 
+/* So many distances of a row. */
+static void take_list(size_t row, const char *what, uint64_t count, uint32_t *list)
+{
+    for (uint64_t i = 0; i < count; i++) {
+        uint32_t distance = (uint32_t)number(row, what, UINT32_MAX);
+        if (i < MISHTODRAN_MOST_DISTANCES)
+            list[i] = distance;
+    }
+}
+
 /* The row of a line. Distances and tasks past the places of a row are read and left out: its counts are refused. */
 static struct mishtodran_row row_of_line(size_t row)
 {
     struct mishtodran_row found = {0};
+    found.form = (uint16_t)number(row, "the form", UINT16_MAX);
     found.id = (uint16_t)number(row, "the id", UINT16_MAX);
     found.kind = (uint8_t)number(row, "the kind", UINT8_MAX);
     found.overload = (uint8_t)number(row, "the overload mark", UINT8_MAX);
+    found.flag = (uint8_t)number(row, "the flag", UINT8_MAX);
     found.deadline = (uint32_t)number(row, "the deadline", UINT32_MAX);
     found.gap = (uint32_t)number(row, "the gap", UINT32_MAX);
     found.listed = number(row, "the number of distances", UINT64_MAX);
     found.tasks = number(row, "the number of tasks", UINT64_MAX);
-    for (uint64_t i = 0; i < found.listed; i++) {
-        uint32_t distance = (uint32_t)number(row, "a distance", UINT32_MAX);
-        if (i < MISHTODRAN_MOST_DISTANCES)
-            found.list[i] = distance;
-    }
+    take_list(row, "a distance", found.listed, found.list);
+    if (knows_largest(&found))
+        take_list(row, "a largest distance", found.listed, found.largest);
     for (uint64_t i = 0; i < found.tasks; i++) {
         uint16_t priority = (uint16_t)number(row, "a priority", UINT16_MAX);
         uint32_t cost = (uint32_t)number(row, "a cost", UINT32_MAX);
@@ -183,10 +203,13 @@ static void write_table(void)
 
 static void print_row(const struct mishtodran_row *row)
 {
-    printf("%" PRIu16 " %" PRIu8 " %" PRIu8 " %" PRIu32 " %" PRIu32 " %" PRIu64 " %" PRIu64, row->id, row->kind,
-           row->overload, row->deadline, row->gap, row->listed, row->tasks);
+    printf("%" PRIu16 " %" PRIu16 " %" PRIu8 " %" PRIu8 " %" PRIu8, row->form, row->id, row->kind, row->overload,
+           row->flag);
+    printf(" %" PRIu32 " %" PRIu32 " %" PRIu64 " %" PRIu64, row->deadline, row->gap, row->listed, row->tasks);
     for (uint64_t i = 0; i < row->listed; i++)
         printf(" %" PRIu32, row->list[i]);
+    for (uint64_t i = 0; i < row->listed && knows_largest(row); i++)
+        printf(" %" PRIu32, row->largest[i]);
     for (uint64_t i = 0; i < row->tasks; i++)
         printf(" %" PRIu16 " %" PRIu32, row->priority[i], row->cost[i]);
     putchar('\n');

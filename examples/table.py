@@ -7,7 +7,11 @@ Usage: table.py TEXT TABLE       makes the table of a text
 The text has a line for each chain, then a line for each of its tasks, in order; '#' starts a comment:
 
     chain ID synchronous|asynchronous [overload] deadline D gap G list D2 D3 ..
+    chain ID synchronous|asynchronous [overload] deadline D list D2 D3 .. largest L2 L3 ..|unknown
     task PRIORITY COST
+
+The first line makes a chain record of the form CH, with its largest gap, 0 where none is known. The second makes one of the form
+CG, with as many largest distances as smallest ones, or none. All chains of a table have one form.
 
 Numbers are decimal digits. What a table may hold is judged by the library, which makes and reads its bytes: the program rows
 (examples/rows.c) asks it. `./mishtodran table` and `./mishtodran text` build that program and call this one. The environment
@@ -31,6 +35,7 @@ from itertools import chain as joined
 from reprlib import repr as shown
 
 KINDS = ("synchronous", "asynchronous")
+CH, CG = (int.from_bytes(mark, "little") for mark in (b"CH", b"CG"))  # the forms of a row
 U16, U32 = 2**16 - 1, 2**32 - 1  # the widths of a row's numbers
 LONGEST_TEXT = 2**20  # bytes of a file that is read
 TOLD = 20  # mistakes of a text
@@ -75,7 +80,7 @@ def rows(verb, **given):
 
 # ---- From text ----
 
-Chain = namedtuple("Chain", "line fields distances tasks")  # a chain of a text
+Chain = namedtuple("Chain", "line fields distances largest tasks")  # a chain of a text; fields are those before its counts
 
 
 def take(words, what):
@@ -84,10 +89,18 @@ def take(words, what):
     return words.popleft()
 
 
-def keyword(words, due):
-    word = take(words, f"'{due}'")
-    if word != due:
-        raise Mistake(f"{shown(word)} stands where '{due}' is due")
+def keyword(words, *due):
+    """The next word, which is one of those due."""
+    names = " or ".join(f"'{name}'" for name in due)
+    word = take(words, names)
+    if word not in due:
+        raise Mistake(f"{shown(word)} stands where {names} is due")
+    return word
+
+
+def no_more(words):
+    if words:
+        raise Mistake(f"{shown(words[0])} is a word too many")
 
 
 def number(words, what, greatest):
@@ -100,8 +113,32 @@ def number(words, what, greatest):
     return int(digits)
 
 
+def distances(words, what, until=None):
+    """The distances up to a word, which stays, or to the end of the line; there is at least one."""
+    found = [number(words, f"the first {what}", U32)]
+    while words and words[0] != until:
+        found.append(number(words, f"a {what}", U32))
+    return found
+
+
+def read_largest(words, written):
+    """Adds the distances of a line without a gap, and the largest ones after them; the flag."""
+    written.distances.extend(distances(words, "distance", "largest"))
+    if not words:
+        raise Mistake("there is neither 'gap' before the list nor 'largest' after it")
+    keyword(words, "largest")
+    if words and words[0] == "unknown":
+        words.popleft()
+        no_more(words)
+        return 0
+    written.largest.extend(distances(words, "largest distance"))
+    if len(written.largest) != len(written.distances):
+        raise Mistake(f"as many largest distances are due as there are distances, {len(written.distances)}")
+    return 1
+
+
 def read_chain(words, written):
-    """Adds what stands on a chain's line after 'chain': id, kind, overload, deadline and gap, and the distances."""
+    """Adds what stands on a chain's line after 'chain': the fields before the counts, and the distances."""
     ident = number(words, "the id", U16)
     kind = take(words, "the kind")
     if kind not in KINDS:
@@ -112,27 +149,27 @@ def read_chain(words, written):
         overload = 1
     keyword(words, "deadline")
     deadline = number(words, "the deadline", U32)
-    keyword(words, "gap")
-    gap = number(words, "the gap", U32)
-    keyword(words, "list")
-    written.fields.extend((ident, KINDS.index(kind), overload, deadline, gap))
-    written.distances.append(number(words, "the first distance", U32))
-    while words:
-        written.distances.append(number(words, "a distance", U32))
+    form, flag, gap = CG, 0, 0
+    if keyword(words, "gap", "list") == "gap":
+        form, gap = CH, number(words, "the gap", U32)
+        keyword(words, "list")
+        written.distances.extend(distances(words, "distance"))
+    else:
+        flag = read_largest(words, written)
+    written.fields.extend((form, ident, KINDS.index(kind), overload, flag, deadline, gap))
 
 
 def read_line(line, words, chains):
     """Adds what stands on a line to the chains."""
     first = words.popleft()
     if first == "chain":
-        chains.append(Chain(line, [], [], []))
+        chains.append(Chain(line, [], [], [], []))
         read_chain(words, chains[-1])
     elif first == "task":
         if not chains:
             raise Mistake("a task before the first chain")
         chains[-1].tasks.append((number(words, "the priority", U16), number(words, "the cost", U32)))
-        if words:
-            raise Mistake(f"{shown(words[0])} is a word too many")
+        no_more(words)
     else:
         raise Mistake(f"{shown(first)} is neither 'chain' nor 'task'")
 
@@ -140,7 +177,7 @@ def read_line(line, words, chains):
 def row_of(written):
     """A chain as the program rows takes it."""
     counts = len(written.distances), len(written.tasks)
-    return " ".join(map(str, joined(written.fields, counts, written.distances, *written.tasks))) + "\n"
+    return " ".join(map(str, joined(written.fields, counts, written.distances, written.largest, *written.tasks))) + "\n"
 
 
 def chains_of(lines):
@@ -173,10 +210,14 @@ def table_of(text):
 
 def chain_text(row):
     """The lines of a chain, given as the program rows gives it."""
-    ident, kind, overload, deadline, gap, listed, tasks, *rest = map(int, row.split())
-    distances, rest = rest[:listed], rest[listed:]
-    words = ["chain", ident, KINDS[kind], *["overload"] * overload, "deadline", deadline, "gap", gap, "list", *distances]
-    return [words, *(["task", *rest[2 * turn:2 * turn + 2]] for turn in range(tasks))]
+    form, ident, kind, overload, flag, deadline, gap, listed, tasks, *rest = map(int, row.split())
+    words = ["chain", ident, KINDS[kind], *["overload"] * overload, "deadline", deadline]
+    if form == CH:
+        words += ["gap", gap, "list", *rest[:listed]]
+    else:
+        words += ["list", *rest[:listed], "largest", *(rest[listed:2 * listed] if flag else ["unknown"])]
+    of_tasks = rest[listed * (1 + flag):]
+    return [words, *(["task", *of_tasks[2 * turn:2 * turn + 2]] for turn in range(tasks))]
 
 
 def text_of(**table):

@@ -46,7 +46,7 @@ help_and_links() {
     expect 0 "a report" "*built the report program in*" "*rt check report" "$room/links/two" report examples/sample.table
 }
 
-# says SCRIPT: what the programs of report, check, misses and merge do.
+# says SCRIPT: what the programs of report, check, misses, merge and convert do.
 says() {
     echo "$1" >"$room/says"
 }
@@ -127,13 +127,21 @@ misses() {
     says 'echo a report'
 }
 
-# holds TEXT: what RESULT holds after a merge. Nothing is left beside it.
+# holds TEXT: what the file `made/result` holds after a merge or a conversion. Nothing is left beside it.
 holds() {
-    is "RESULT" "$(cat "$copy/merged/result")" "$1"
-    is "what is beside RESULT" "$(ls -A "$copy/merged")" result
+    is "RESULT" "$(cat "$copy/made/result")" "$1"
+    is "what is beside RESULT" "$(ls -A "$copy/made")" result
 }
 
-# interrupted SIGNAL WORDS..: a merge that is ended so in the middle, with all that it has started, as a terminal does it. In
+# stays STATUS ERR WORDS..: a merge or a conversion that ends so, and writes nothing.
+stays() {
+    local expected=$1 err=$2
+    shift 2
+    expect "$expected" "" "$err" "" "$@"
+    holds "as it was"
+}
+
+# interrupted SIGNAL WORDS..: one that is ended so in the middle, with all that it has started, as a terminal does it. In
 # the gate this script runs in the background, where some signals are ignored.
 interrupted() {
     local signal=$1 group
@@ -145,77 +153,108 @@ interrupted() {
     group=$!
     set +m
     until [ -e "$room/started" ]; do
-        kill -0 "$group" 2>/dev/null || found "the merge ended before it was interrupted: $(cat "$room/out")"
+        kill -0 "$group" 2>/dev/null || found "$*: it ended before it was interrupted: $(cat "$room/out")"
         sleep 0.05
     done
     kill -s "$signal" -- "-$group"
-    wait "$group" 2>/dev/null && found "a merge that is interrupted by $signal ends with 0"
+    wait "$group" 2>/dev/null && found "$*: interrupted by $signal it ends with 0"
     while kill -0 -- "-$group" 2>/dev/null; do
         sleep 0.05
     done
     holds "as it was"
-    rmdir "$room/temporary" || found "a merge that is interrupted by $signal leaves a temporary folder"
+    rmdir "$room/temporary" || found "$*: interrupted by $signal it leaves a temporary folder"
 }
 
-merges() {
-    local merge=(./mishtodran merge examples/{sample,sample,case_study}.table merged/result) conflict signal tool
-    mkdir "$copy/merged"
-    says 'cat "$3"'
-    expect 0 "" "*built the merge program in*" "*rt check table_merge" "${merge[@]}"
-    cmp "$copy/merged/result" "$copy/examples/case_study.table" || found "the result is not what the program gives"
-    expect 0 "" "" "" "${merge[@]}"
-    says 'echo a note >&2 && cat "$3"'
-    expect 0 "" "a note" "" "${merge[@]}"
+# results NAME WORDS..: a command, in the program of this name, into made/result, which the program's result alone replaces, and only
+# where it is whole.
+results() {
+    local program=$1 signal tool
+    shift
+    mkdir "$copy/made"
+    says 'echo new'
+    expect 0 "" "*built the $program program in*" "*rt check table_$program" "$@"
+    holds new
+    expect 0 "" "" "" "$@"
+    says 'echo a note >&2 && echo new'
+    expect 0 "" "a note" "" "$@"
     says 'wc -c'
-    expect 0 "" "" "" sh -c 'echo more | ./mishtodran merge examples/sample.table examples/sample.table examples/sample.table merged/result'
+    expect 0 "" "" "" sh -c 'echo more | "$@"' sh "$@"
     holds 0
-    echo as it was >"$copy/merged/result"
-    conflict=$'refused 32: some id is changed differently on both sides\nconflict: chain 7'
-    says "echo '$conflict' >&2"
-    expect 1 "" "$conflict" "" "${merge[@]}"
-    holds "as it was"
-    says "echo a note >&2 && echo '$conflict' >&2"
-    expect 1 "" "a note"$'\n'"$conflict" "" "${merge[@]}"
-    holds "as it was"
-    says 'echo first copy: refused 32: no >&2'
-    expect 2 "" $'first copy: refused 32: no\nmishtodran: there is no result' "" "${merge[@]}"
-    holds "as it was"
+    echo as it was >"$copy/made/result"
     says :
-    expect 2 "" "mishtodran: there is no result" "" "${merge[@]}"
-    holds "as it was"
+    stays 2 "mishtodran: there is no result" "$@"
     says 'echo half && exit 3'
-    expect 2 "" "mishtodran: there is no result" "" "${merge[@]}"
-    holds "as it was"
+    stays 2 "mishtodran: there is no result" "$@"
     says 'echo half && kill -9 $$'
-    expect 2 "" "*mishtodran: there is no result" "" "${merge[@]}"
-    holds "as it was"
-    says 'cat "$3"'
-    expect 2 "" "cat: *mishtodran: there is no result" "" \
-        bash -o pipefail -c '(trap "" XFSZ && ulimit -f 0 && "$@") 2>&1 | cat >&2' sh "${merge[@]}"
-    holds "as it was"
+    stays 2 "*mishtodran: there is no result" "$@"
+    says 'cat examples/sample.table'
+    stays 2 "cat: *mishtodran: there is no result" \
+        bash -o pipefail -c '(trap "" XFSZ && ulimit -f 0 && "$@") 2>&1 | cat >&2' sh "$@"
     says 'echo half && echo >"$ROOM/started" && sleep 9'
     for signal in INT TERM HUP; do
-        interrupted "$signal" "${merge[@]}"
+        interrupted "$signal" "$@"
     done
     says 'echo new'
     for tool in chmod mv; do
         mv "$tools/$tool" "$room/$tool"
         stand_in "$tools/$tool" <<<'exit 1'
-        expect 2 "" "mishtodran: merged/result cannot be written" "" "${merge[@]}"
-        holds "as it was"
+        stays 2 "mishtodran: made/result cannot be written" "$@"
         stand_in "$tools/$tool" <<<'kill -s TERM "$PPID" && exec "$ROOM/'"$tool"'" "$@"'
-        expect 0 "" "" "" "${merge[@]}"
+        expect 0 "" "" "" "$@"
         holds new
         mv "$room/$tool" "$tools/$tool"
-        echo as it was >"$copy/merged/result"
+        echo as it was >"$copy/made/result"
     done
+}
+
+# A conflict is known by its line alone.
+merges() {
+    local merge=(./mishtodran merge examples/{sample,sample,case_study}.table made/result) conflict
+    results merge "${merge[@]}"
+    conflict=$'refused 32: some id is changed differently on both sides\nconflict: chain 7'
+    says "echo '$conflict' >&2"
+    stays 1 "$conflict" "${merge[@]}"
+    says "echo a note >&2 && echo '$conflict' >&2"
+    stays 1 "a note"$'\n'"$conflict" "${merge[@]}"
+    says 'echo first copy: refused 32: no >&2'
+    stays 2 $'first copy: refused 32: no\nmishtodran: there is no result' "${merge[@]}"
+    says 'cat "$3"'
+    expect 0 "" "" "" "${merge[@]}"
+    cmp "$copy/made/result" "$copy/examples/case_study.table" || found "the result is not what the program gives"
+    rm -r "$copy/made"
+    says 'echo a report'
+}
+
+# The program is given the file, and whether it is to be converted back. What it refuses is known by its line.
+converts() {
+    local convert=(./mishtodran convert examples/sample.table made/result) refused
+    results convert "${convert[@]}"
+    for refused in 'refused 29 at byte 24: a distance falls (chain record 1, distance 3)' 'refused 34: no such form (chain 7)'; do
+        says "echo '$refused' >&2"
+        stays 1 "$refused" "${convert[@]}"
+    done
+    for refused in 'refused 1 (a file): not a table' 'refused: (no)' 'not refused 34: (no)' 'refused 24: no room'; do
+        says "echo '$refused' >&2"
+        stays 2 "$refused"$'\n'"mishtodran: there is no result" "${convert[@]}"
+    done
+    says 'echo "$@"'
+    expect 0 "" "" "" "${convert[@]}"
+    holds examples/sample.table
+    expect 0 "" "" "" ./mishtodran convert --back examples/sample.table made/result
+    holds "examples/sample.table back"
+    cp "$copy/examples/sample.table" "$copy/-x"
+    expect 0 "" "" "" ./mishtodran convert --back -x made/result
+    holds "-x back"
+    says 'cat "$1"'
+    expect 0 "" "" "" ./mishtodran convert examples/case_study.table made/result
+    cmp "$copy/made/result" "$copy/examples/case_study.table" || found "the result is not what the program gives"
     says 'echo a report'
 }
 
 # What the library is built from, and when it is built again.
 builds() {
     local built="rt check *saving*"$'\n'"rt staticlib editor"
-    expect 0 "library: *" "mishtodran: building the library: 14 crates*crate 13 of 14 is proved: *built the library in*" "$built" ./mishtodran lib
+    expect 0 "library: *" "mishtodran: building the library: 15 crates*crate 14 of 15 is proved: *built the library in*" "$built" ./mishtodran lib
     expect 0 "library: *" "" "" ./mishtodran lib
     echo "/* more */" >>"$copy/include/mishtodran.h"
     expect 0 "library: *" "" "" ./mishtodran lib
@@ -424,8 +463,8 @@ glpk() {
 
 # The gate over checks that are stood in for: it locks while it proves, ends with a check's status, and its last line is rt's.
 gate() {
-    local checks=("$copy"/{tests/{wrong_uses,commands,table_commands,merge_command,text_commands,run_c}.sh,compare/{sanitized,run,run_report}.sh})
-    local samples=(crates/{sample,report,save_story,merge_story,table_misses}/stdin crates/table_merge/data/ancestor.table) one
+    local checks=("$copy"/{tests/{wrong_uses,commands,table_commands,merge_command,convert_command,text_commands,run_c}.sh,compare/{sanitized,run,run_report}.sh})
+    local samples=(crates/{sample,report,save_story,merge_story,table_misses}/stdin crates/{table_merge/data/ancestor,table_convert/data/sample}.table) one
     for one in "${samples[@]}"; do
         mkdir -p "$copy/${one%/*}"
         cp "$copy/examples/sample.table" "$copy/$one"
@@ -475,6 +514,7 @@ reports
 checks
 misses
 merges
+converts
 builds
 builds_that_go_wrong
 two_at_once

@@ -39,10 +39,13 @@ enum {
     WRITE,
     RECORD,
     MISSES_PLAIN,
-    MISSES_AT_MOST
+    MISSES_AT_MOST,
+    TO_LARGEST,
+    TO_GAP
 };
 enum { TABLE, OLD, NEW, TEXT, ANSWER, SLICES };
-/* What a merge, and the question for its conflicts, lend in these places; what a write, and what a read. */
+/* What a merge, and the question for its conflicts, lend in these places, a write and a conversion in the last; what
+   else a write lends, and what a read. */
 enum { ANCESTOR = TABLE, FIRST = OLD, SECOND = NEW, BUFFER = TEXT };
 enum { ROWS_TO_WRITE = TABLE, ROWS_TO_FILL = TEXT };
 
@@ -117,18 +120,37 @@ static void take_case(struct entry_case *given)
     take_after(&given->slice[ANSWER]);
 }
 
+/* Puts packed bytes into `to`, each 0 as often as the byte after it says. How many there are then; 0 where they are too
+   many, or a 0 is the last byte. */
+static size_t expand(const uint8_t *from, size_t length, uint8_t *to, size_t room)
+{
+    size_t put = 0;
+    for (size_t i = 0; i < length; i++) {
+        uint8_t byte = from[i];
+        size_t count = 1;
+        if (byte == 0 && ++i < length)
+            count = from[i];
+        if (i == length || count > room - put)
+            return 0;
+        memset(to + put, byte, count);
+        put += count;
+    }
+    return put;
+}
+
 static void load_cases(const char *path)
 {
     FILE *file = fopen(path, "rb");
-    static uint8_t bytes[16 << 20];
+    static uint8_t bytes[16 << 20], expanded[64 << 20];
     size_t length = file ? fread(bytes, 1, sizeof bytes, file) : 0;
-    if (length == 0 || length == sizeof bytes) {
+    size_t count = length < sizeof bytes ? expand(bytes, length, expanded, sizeof expanded) : 0;
+    if (count == 0) {
         printf("%s: no cases could be read\n", path);
         exit(2);
     }
     fclose(file);
-    packed = bytes;
-    packed_end = bytes + length;
+    packed = expanded;
+    packed_end = expanded + count;
     for (unsigned i = 0; i < sizeof junk; i++)
         junk[i] = (uint8_t)(0x5A + 11 * i);
 }
@@ -158,11 +180,16 @@ static void protect(unsigned which, int how)
     }
 }
 
-/* An entry writes the answer; save, merge and write their buffer, report its text, and read its rows. */
+static bool writes_buffer(unsigned entry)
+{
+    return entry == MERGE || entry == WRITE || entry == TO_LARGEST || entry == TO_GAP;
+}
+
+/* An entry writes the answer; save, merge, write and a conversion their buffer, report its text, and read its rows. */
 static bool is_written(unsigned entry, unsigned which)
 {
     return which == ANSWER || (entry == SAVE && which == TABLE) || (entry == REPORT && which == TEXT) ||
-           (entry == READ && which == ROWS_TO_FILL) || ((entry == MERGE || entry == WRITE) && which == BUFFER);
+           (entry == READ && which == ROWS_TO_FILL) || (writes_buffer(entry) && which == BUFFER);
 }
 
 /* Where a slice of this length stands: against the page after it, or against the page before it. */
@@ -199,8 +226,8 @@ static bool is_padding(const struct entry_case *given, unsigned which, size_t at
 {
     size_t row = at / sizeof(struct mishtodran_row), in_row = at % sizeof(struct mishtodran_row);
     return given->entry == READ && which == ROWS_TO_FILL && row < given->number[0] &&
-           in_row >= offsetof(struct mishtodran_row, gap) + sizeof(uint32_t) &&
-           in_row < offsetof(struct mishtodran_row, listed);
+           in_row >= offsetof(struct mishtodran_row, flag) + sizeof(uint8_t) &&
+           in_row < offsetof(struct mishtodran_row, deadline);
 }
 
 static bool is_as_expected(const struct entry_case *given, unsigned which, bool at_end)
@@ -292,6 +319,17 @@ static uint32_t call_misses(const struct entry_case *given, bool at_end)
     return mishtodran_misses(table, table_len, id, k, answer, answer_len);
 }
 
+static uint32_t call_conversion(const struct entry_case *given, bool at_end)
+{
+    const uint8_t *table = lent(given, TABLE, at_end);
+    uint8_t *buffer = lent(given, BUFFER, at_end), *answer = lent(given, ANSWER, at_end);
+    size_t table_len = given->slice[TABLE].length, buffer_len = given->slice[BUFFER].length;
+    size_t answer_len = given->slice[ANSWER].length;
+    if (given->entry == TO_GAP)
+        return mishtodran_to_gap(table, table_len, buffer, buffer_len, answer, answer_len);
+    return mishtodran_to_largest(table, table_len, buffer, buffer_len, answer, answer_len);
+}
+
 static uint32_t call(const struct entry_case *given, bool at_end)
 {
     called_from = __builtin_frame_address(0);
@@ -322,6 +360,9 @@ static uint32_t call(const struct entry_case *given, bool at_end)
         return call_with_rows(given, at_end);
     case RECORD:
         return mishtodran_record(table, table_len, (uint32_t)number[0], answer, answer_len);
+    case TO_LARGEST:
+    case TO_GAP:
+        return call_conversion(given, at_end);
     default:
         return mishtodran_save(table, table_len, number[0], lent(given, OLD, at_end), slice[OLD].length,
                                lent(given, NEW, at_end), slice[NEW].length, answer, answer_len);
@@ -352,7 +393,7 @@ static bool run(const struct entry_case *given, bool at_end)
     if (!is_as_expected(given, TABLE, at_end))
         return fails(given, "the table, or the rows to write, are not as expected");
     if (!is_as_expected(given, TEXT, at_end))
-        return fails(given, "the text, the buffer of a merge or a write, or the rows to fill, are not as expected");
+        return fails(given, "the text, the buffer for a result, or the rows to fill, are not as expected");
     if (!is_as_expected(given, OLD, at_end) || !is_as_expected(given, NEW, at_end))
         return fails(given, "a record, or a copy, has changed");
     return true;

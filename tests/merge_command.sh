@@ -81,13 +81,15 @@ table seven '' "$(chains 11 17 1 90)"
 table six '' "$(chains 21 26 1 90)"
 table long '' "$(chains 11 18 4 '1 2 3 4 5 6 7 8')"
 table longer '' "$(chains 21 28 4 '1 2 3 4 5 6 7 8')"
+table converted 's/gap 0 list \(.*\)/list \1 largest unknown/; s/gap \(.*\) list \(.*\)/list \2 largest \1/' # 1 to 4, to the form CG
 cp "$top/crates/table_check/stdin" damaged
 : >empty
 head -c 1285 /dev/zero >too_long
 
 # ---- Results and refusals ----
 
-length="refused 1 at byte 0: the table's length is 0, above 1,284 or above its buffer"
+length="refused 1 at byte 0: the table's length is 0, above 1,284 (1,748 for CG) or above its buffer"
+no_mark='a mark is not one allowed there, or is of another form than the first'
 task_count='a task count is not 1 to 16, or there are over 64 tasks so far'
 ended='a 17th chain, no chain, a wrong end count, or bytes after the end'
 damage=$(cat "$top/crates/table_check/stdout")
@@ -104,18 +106,23 @@ merges deadline ancestor deadline deadline
 merges without_first ancestor without_first ancestor
 merges ancestor added added ancestor
 merges added ancestor added added
+merges converted ancestor converted ancestor
+merges converted ancestor ancestor converted
+merges converted ancestor converted converted
 merges "$top/crates/table_merge/stdout" "$top"/crates/table_merge/data/{ancestor,first,second}.table
 
 refuses 1 "$(in_conflict 1)" ancestor deadline own_cost
 refuses 1 "$(in_conflict 1)" ancestor without_first own_cost
 refuses 1 "$(in_conflict 7)" ancestor added added_too
 refuses 1 "$(in_conflict 1 2 4)" ancestor three three_too
+refuses 1 "$(in_conflict 1)" ancestor converted deadline
 
 refuses 2 "ancestor: $damage"$'\n'"$none" damaged too_long too_long
 refuses 2 "first copy: $damage"$'\n'"$none" ancestor damaged too_long
 refuses 2 "second copy: $damage"$'\n'"$none" ancestor deadline damaged
 refuses 2 "ancestor: $length (the table has 0 bytes)"$'\n'"$none" empty deadline cost
 refuses 2 "second copy: $length (the table has more than 1,284 bytes)"$'\n'"$none" ancestor deadline too_long
+refuses 2 "result: refused 3 at byte 132: $no_mark"$'\n'"$none" ancestor converted added
 refuses 2 "result: refused 9 at byte 595: $task_count"$'\n'"$none" ancestor tasks more_tasks
 refuses 2 "result: refused 11 at byte 2: $ended"$'\n'"$none" ancestor first_alone without_first
 refuses 2 "result: refused 11 at byte 472: $ended"$'\n'"$none" ancestor seven six

@@ -1,4 +1,4 @@
-"""The misses of document 01, with document 02, requests 3 and 6, from their words: by windows, and by the sieve, which never
+"""The misses of document 01, with document 02, requests 3, 6 and 7, from their words: by windows, and by the sieve, which never
 comes to less. Over the rows of an accepted table."""
 from bisect import bisect_right
 from collections import namedtuple
@@ -23,9 +23,24 @@ Active = namedtuple("Active", "row segment cost")
 
 # ---- Arrivals ----
 
+def continued(distances, n):
+    """The distance of n activations, by a list that goes on."""
+    lists, rest = divmod(n - 1, len(distances))
+    return lists * distances[-1] + (distances[rest - 1] if rest else 0)
+
+
 def delta(row, n):
-    lists, rest = divmod(n - 1, row.listed)
-    return lists * row.list[row.listed - 1] + (row.list[rest - 1] if rest else 0)
+    return continued(row.list[:row.listed], n)
+
+
+def is_known(row):
+    """Whether a chain has a largest distance."""
+    return row.flag == 1 or row.gap > 0
+
+
+def largest(row, k):
+    """The largest distance of k activations, where one is known."""
+    return continued(row.largest[:row.listed], k) if row.flag else (k - 1) * row.gap
 
 
 def eta(row, t):
@@ -189,7 +204,7 @@ def missed_late(b, rows, k, found, test, limit):
         return Missed(18, None, 0)
     if any(eta(a, found.last) > 1 for a in overload):
         return Missed(19, None, 0)
-    room = [eta(one.row, (k - 1) * b.gap + found.latency) + 1 for one in bits]
+    room = [eta(one.row, largest(b, k) + found.latency) + 1 for one in bits]
     if any(capacity > CAPACITY for capacity in room):
         return Missed(21, None, 0)
     load = load_of(b, [a for a in rows if a is not b and not a.overload])
@@ -207,7 +222,7 @@ def missed(table, ident, k, test, limit):
     rows = [] if number else rows_of(table)
     b = next((row for row in rows if row.id == ident), None)
     for holds, refusal in ((number, number), (b is None, 12), (not 1 <= k <= RUN, 13), (b and b.overload, 14),
-                           (b and b.gap == 0, 15)):
+                           (b and not is_known(b), 15)):
         if holds:
             return Missed(refusal, None, 0)
     found = figures(b, tuple(a for a in rows if a is not b))

@@ -14,22 +14,25 @@ little-endian), the table's length (2 bytes), the table. The kinds and their six
 Each different table of any file of tests/cases gives a case of kind 0. Its verdict is worked out by a reader written from the
 documents (stored.py), and held against what the case says. Cases of refusal 27 speak of the answer buffer, which these
 queries do not have. After the cases of the files come those that only an order decides (orders.py), every start of the
-sample, those that document 01 and the published case study tell, and some at the edges, held here. Kinds 5 and 6 are
-pack_misses.py's.
+example tables, those that document 01 and the published case study tell, and some at the edges, held here. Each query of these
+about a table of CH records, and every second one of the files, is asked of the same table in the form CG too, which moves no
+figure. Kinds 5 and 6 are pack_misses.py's.
 """
 import json
 import struct
 import sys
 
 import orders
-from orders import alone, apart, backlog, bursts, crowd, edge, edge_of_second, lowly
-from records import chain, stored
-from stored import ACCEPTED, NUMBERS, TIME, TOP, Verdict, records, verdict
+from faults import NEW, OLD
+from orders import alone, apart, backlog, bursts, crowd, edge, edge_of_second, in_new_form, lowly
+from records import CH, bursty, chain, form_at, stored
+from stored import ACCEPTED, LARGEST, NUMBERS, TIME, TOP, Verdict, records, verdict
 
 CASES = TOP / "tests" / "cases"
 QUERY = {"tag", "table", "answer", "rc", "after"}
 REFUSED = {"table", "rc", "detail"}
 MERGE = {"ancestor", "first", "second", "room", "rc"}
+CONVERT = {"table", "form", "room", "rc"}
 KEYS = {  # of the cases of each file, one set of these; tests/cases/README.md has their meaning
     "latency": [QUERY | {"id"}],
     "misses": [QUERY | {"id", "k"}],
@@ -41,11 +44,11 @@ KEYS = {  # of the cases of each file, one set of these; tests/cases/README.md h
     "merge": [MERGE | {"table", "taken"}, MERGE | {"taken"}, MERGE | {"detail"}, MERGE | {"detail", "taken"}],
     "write": [{"rows", "room", "rc"}, {"rows", "room", "rc", "table"}],
     "sieve": [{"table", "id", "k", "latency", "misses", "sieve"}],
+    "convert": [CONVERT, CONVERT | {"result"}],
 }
 
-# The sample table of document 01, and the published case study.
-SAMPLE = (TOP / "examples" / "sample.table").read_bytes()
-STUDY = (TOP / "examples" / "case_study.table").read_bytes()
+# The sample table of document 01, the published case study, and a table in the form CG.
+SAMPLE, STUDY, TELEMETRY = ((TOP / "examples" / f"{name}.table").read_bytes() for name in ("sample", "case_study", "bursts"))
 
 # 'At the edge': ten tasks of 1,000,000; and one tick more from a free interferer.
 LONG = chain(1, 0, 0, 10_000_000, 0, [10_000_000], [(5, 1_000_000)] * 10)
@@ -87,6 +90,17 @@ def reaching(gap, cost):
     return stored(chain(1, 0, 0, cost, gap, [gap], [(5, cost)]), chain(2, 0, 1, 1000, 0, [10, 15], [(9, 1)]))
 
 
+def reaching_by(largest):
+    """The same of cost 1 with these largest distances, at least 2 ticks apart: a run reaches over that of k, and 2."""
+    return stored(bursty(1, 0, 0, 1, largest, [2] * len(largest), [(5, 1)]), bursty(2, 0, 1, 1000, (), [10, 15], [(9, 1)]))
+
+
+def at_once(largest, of_overload=()):
+    """Three activations at once each 99 ticks, 10 each, against overload of 21 each 90 ticks, which may have largest distances:
+    B(3) = 51 is late, and a run reaches over the largest distance of k, and 51."""
+    return stored(bursty(1, 0, 0, 45, largest, [0, 0, 99], [(5, 10)]), bursty(2, 0, 1, 1000, of_overload, [90], [(9, 21)]))
+
+
 # Lists 10, 15: η(10) = 1, η(11) = η(15) = 2, η(16) = η(25) = 3, η(26) = η(30) = 4, η(31) = η(40) = 5. Lists 0, 0, 10, which are
 # three at once: η(10) = 3, η(11) = η(20) = 6, η(21) = 9. Lists 0, 5, 5: two at first, and three every 5 from there on.
 # (distances, cost, window): a window that ends where the next ones come, and with a cost of 1 more, past them
@@ -100,8 +114,18 @@ COUNTED = [
     ([0] * 7 + [9], 1_111_111, 9_999_999),
 ]
 
+def is_old(table):
+    """Whether it is an accepted table of CH records."""
+    return form_at(table, 0) == CH and verdict(table) == ACCEPTED
+
+
+def with_new_form(found):
+    """These, and after them those of accepted tables of CH records, with the table in the form CG."""
+    return found + [(in_new_form(table), *rest) for table, *rest in found if is_old(table)]
+
+
 # (table, id, number, K, latency, late, margin)
-LATENCIES = [
+LATENCIES = with_new_form([
     (SAMPLE, 1, 0, 1, 64, 1, -24),
     (SAMPLE, 2, 0, 1, 5, 0, 95),
     (SAMPLE, 3, 0, 1, 62, 0, 438),
@@ -139,7 +163,9 @@ LATENCIES = [
     (first_part(5, [0, 10], 9), 1, 0, 2, 10, 1, -1),
     (first_part(2, [0, 0, 10], 4), 1, 0, 3, 6, 2, -2),
     (first_part(1_000_000, [1], TIME), 1, 16, 0, 0, 0, 0),
-]
+    # B(1) = 50, and B(2) = 60, 20 ticks after its activation
+    (TELEMETRY, 1, 0, 2, 50, 1, -5), (TELEMETRY, 2, 0, 1, 40, 0, 460),
+])
 
 
 def told(case):
@@ -192,10 +218,29 @@ def told_by_sieve(case):
                                **answered("<I", at_most["rc"], [at_most.get("misses")])}}
 
 
+def segment_moved(case, table, new):
+    """A segment's answer in the new form of its table: a task record stands as far from its chain record's end as before."""
+    offset, *rest = struct.unpack_from("<II", bytes.fromhex(case["after"]))
+    ends = next((after, new_after) for (_, after), (_, new_after) in zip(records(table), records(new)) if offset < after)
+    return (struct.pack("<II", offset - ends[0] + ends[1], *rest) + bytes.fromhex(case["after"])[8:]).hex()
+
+
+def in_new_form_too(name):
+    """Every second case of a query's file that is about an accepted table of CH records, with that in the form CG; and where the
+    case stands in the file."""
+    for turn, case in enumerate(cases(name), 1):
+        table = bytes.fromhex(case["table"])
+        if turn % 2 == 0 and case.get("rc") != 27 and is_old(table):
+            new = in_new_form(table)
+            case = {**case, "tag": f"{case['tag']}, in the form CG", "table": new.hex()}
+            yield turn, {**case, "after": segment_moved(case, table, new)} if "n" in case and case["rc"] == 0 else case
+
+
 def queries(name):
-    """The cases of latency.jsonl, misses.jsonl or segment.jsonl; after the first two, what sieve.jsonl tells of that query."""
+    """The cases of latency.jsonl, misses.jsonl or segment.jsonl; after the first two, what sieve.jsonl tells of that query; and
+    those in the new form."""
     told = [] if name == "segment" else [told_by_sieve(case)[name] for case in cases("sieve")]
-    return [case for case in cases(name) + told if case["rc"] != 27]
+    return [case for case in cases(name) + told if case["rc"] != 27] + [case for _, case in in_new_form_too(name)]
 
 
 def tables_in(case):
@@ -221,7 +266,7 @@ def of_files():
     """Each different table of any file with its verdict, named after the first case that has it."""
     found = {}
     # the order of the packed cases
-    for file in ("latency", "misses", "report", "save", "segment", "read", "faults", "merge", "sieve"):
+    for file in ("latency", "misses", "report", "save", "segment", "read", "faults", "merge", "sieve", "convert"):
         for turn, case in enumerate(cases(file), 1):
             name = f"{file}.jsonl:{turn}"
             for table in tables_in(case):
@@ -230,8 +275,9 @@ def of_files():
 
 
 def tables():
-    """Those tables, then those that only an order decides, and every start of the sample; with names and verdicts."""
-    starts = [(f"the sample's first {at} bytes", SAMPLE[:at], Verdict(2, at)) for at in range(1, len(SAMPLE))]
+    """Those tables, then those that only an order decides, and every start of a table in each form; with names and verdicts."""
+    starts = [(f"the {name}'s first {at} bytes", table[:at], Verdict(2, at))
+              for name, table in (("sample", SAMPLE), ("telemetry", TELEMETRY)) for at in range(1, len(table))]
     return of_files() + orders.calls(orders.READING) + starts
 
 
@@ -263,7 +309,7 @@ def latencies():
 
 
 # (table, id, k, misses)
-MISSES = [
+MISSES = with_new_form([
     # the sample's: 3 uses for k up to 10, 4 for 11
     (SAMPLE, 1, 1, 1), (SAMPLE, 1, 2, 2), (SAMPLE, 1, 3, 3), (SAMPLE, 1, 4, 3), (SAMPLE, 1, 10, 3), (SAMPLE, 1, 11, 4),
     # the case study's: 2 uses for k = 1, 3 for k = 3
@@ -282,7 +328,17 @@ MISSES = [
     (reaching(2, 1), 1, 5, 2), (reaching(2, 1), 1, 6, 3), (reaching(2, 1), 1, 8, 4), (reaching(2, 1), 1, 13, 5),
     (reaching(2, 1), 1, 15, 5), (reaching(2, 1), 1, 16, 6), (reaching(4, 2), 1, 4, 3), (reaching(4, 2), 1, 7, 5),
     (reaching(4, 2), 1, 8, 6), (reaching(5, 4), 1, 5, 4), (reaching(5, 4), 1, 8, 6),
-]
+    # runs of 11 and 12 reach over 550 and 630, and overload comes again at 600
+    (TELEMETRY, 1, 1, 1), (TELEMETRY, 1, 2, 2), (TELEMETRY, 1, 10, 2), (TELEMETRY, 1, 11, 2), (TELEMETRY, 1, 12, 3),
+    # runs of 3 to 9 reach over 11, 13, 20, 22, 29, 31 and 38
+    *((reaching_by((2, 9)), 1, k, misses) for k, misses in enumerate((1, 2, 3, 3, 4, 4, 5, 6, 6), 1)),
+    # runs of 8 reach over 4, of 9 and 10 over 32 and 34, of 17 over 62
+    *((reaching_by((2,) * 7 + (30,)), 1, k, misses) for k, misses in ((8, 2), (9, 6), (10, 6), (17, 10))),
+    # runs of 3, 4, 6 and 7 reach over 51, 150, 150 and 249; where all are 33 apart, one of 3 over 117
+    *((at_once((0, 0, 99), others), 1, k, misses) for others in ((), (90,), (LARGEST,))
+      for k, misses in ((3, 2), (4, 3), (6, 3), (7, 4))),
+    (at_once((33, 66, 99)), 1, 3, 3),
+])
 
 
 def returning(deadline, after=35, kind=0, tasks=((9, 20),), own=(1000,)):
@@ -317,7 +373,7 @@ def past_horizon(cost):
 FIRST_OF_TWO = ((9, 20), (1, 1))  # deferred below a floor of 5
 
 # (table, id, k, misses, a number that the sieve says they do not exceed)
-AT_MOST = [
+AT_MOST = with_new_form([
     # the demand for 4 alone, 54, is the deadline, or a tick above it: 4 and 7 alone are called bad, and 4 is not
     (returning(54), 1, 10, 2, 2), (returning(53), 1, 10, 2, 4), (returning(53), 1, 3, 2, 3), (returning(53), 1, 2, 2, 2),
     (returning(53), 1, 1, 1, 1),
@@ -338,7 +394,7 @@ AT_MOST = [
     (returning_itself(43), 1, 10, 2, 2), (returning_itself(42), 1, 10, 2, 4),
     # 10,003,998 and 10,004,001 at 10,004,000: 4 uses of both together, and 8 of each alone
     (past_horizon(3_331_734), 1, 5, 4, 4), (past_horizon(3_331_733), 1, 5, 4, 5), (past_horizon(3_331_733), 1, 10, 7, 10),
-]
+])
 
 
 def misses():
@@ -352,7 +408,7 @@ def misses():
 HEADER = "chain K latency late margin miss10\n"
 
 # (table, text)
-REPORTS = [
+REPORTS = with_new_form([
     (SAMPLE, HEADER + "1 1 64 1 -24 3\n2 1 5 0 95 0\n3 1 62 0 438 r14\n4 1 39 0 261 r14\n"),
     (EDGE, HEADER + "1 1 10000000 0 0 r15\n"),
     (PAST, HEADER + "1 r16\n2 1 1 0 0 r15\n"),
@@ -370,20 +426,28 @@ REPORTS = [
     (below(1_111_111, [0] * 7 + [9]), HEADER + "1 1 9999999 0 1 0\n2 8 8 0 992 r15\n"),
     (below(1_000_000, [1]), HEADER + "1 r16\n2 1 1 0 999 r15\n"),
     (below(1, [0] * 7 + [1]), HEADER + "1 r16\n2 r17\n"),
+    (TELEMETRY, HEADER + "1 2 50 1 -5 2\n2 1 40 0 460 r14\n"),
+    (stored(bursty(1, 0, 0, 9, (), [100], [(5, 10)])), HEADER + "1 1 10 1 -1 r15\n"),
     (b"", "refused 1 0\n"),
     (SAMPLE[:1], "refused 2 1\n"),
     (SAMPLE[:-1], "refused 2 139\n"),
     (SAMPLE + b"E", "refused 11 140\n"),
-    (orders.FULL[:-1], "refused 2 1283\n"),
-    (orders.FULL[:-1] + b"\1", "refused 11 1282\n"),
-    (orders.REFUSED[29], "refused 29 56\n"),
+    (OLD.full[:-1], "refused 2 1283\n"),
+    (OLD.full[:-1] + b"\1", "refused 11 1282\n"),
+    (NEW.full[:-1], "refused 2 1747\n"),
+    (NEW.full + b"E", "refused 1 0\n"),
+    (orders.refused(OLD)[29], "refused 29 56\n"),
+    (orders.refused(NEW)[33], "refused 33 47\n"),
+    (stored(OLD.good, NEW.record()), "refused 3 36\n"),
     (bytes(1284), "refused 3 0\n"),
     (bytes(1285), "refused 1 0\n"),
-]
+    (b"CG" + bytes(1746), "refused 4 2\n"),
+])
 
 
 def reports():
-    known = [(bytes.fromhex(case["table"]), case["text"]) for case in cases("report")]
+    found = cases("report") + [case for _, case in in_new_form_too("report")]
+    known = [(bytes.fromhex(case["table"]), case["text"]) for case in found]
     return [packed(4, 0, [len(text)], table) + text.encode("ascii") for table, text in known + REPORTS]
 
 

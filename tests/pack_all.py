@@ -1,7 +1,7 @@
 #!/usr/bin/env python3
 """Makes the packed cases of the gate anew, from tests/cases and the cases that stand in the pack modules.
 
-Usage: pack_all.py            writes the five files
+Usage: pack_all.py            writes the six files
        pack_all.py --check    writes nothing and compares: 0 if all are the same, else 1 and the name of each that differs
 
 Status 2: a wrong use, or something cannot be read or written.
@@ -9,6 +9,7 @@ Status 2: a wrong use, or something cannot be read or written.
 import sys
 
 import pack
+import pack_convert
 import pack_entries
 import pack_merge
 import pack_misses
@@ -25,6 +26,7 @@ PACKED = {
     "crates/save_vectors/stdin": pack_save.everything,
     "crates/merge_vectors/stdin": pack_merge.everything,
     "crates/write_vectors/stdin": pack_write.everything,
+    "crates/convert_vectors/stdin": pack_convert.everything,
     "tests/entries.bin": pack_entries.everything,
 }
 

@@ -2,39 +2,45 @@
 
 A report of tests/cases has a table and its text alone: its buffers are made here, as long as the text, longer, or too short.
 After the cases of the files come those that the documents tell or that follow from their words (pack.py), those that only an
-order decides (orders.py), and answer buffers too short for each of them. Every table of all these is checked too. Then come the merges of pack_merge.py, each
-with its conflicts one after the other, and the writes of pack_write.py. Last, every table and every result is read into rows, too
-few of them too, its records are found, and the rows that were read are written back.
+order decides (orders.py), and answer buffers too short for each of them. Every table of all these is checked too. Then come the
+shapes of pack_save.py, the merges of pack_merge.py, each with its conflicts one after the other, the writes of pack_write.py and
+the conversions of pack_convert.py. Last, every table and every result is read into rows, too few of them too, its records are
+found, and the rows that were read are written back.
 
 A miss query of any of these is asked of the other two entries that answer with misses too (pack_misses.py).
 
 Packed, little-endian: for each case the entry (1 byte: 0 latency, 1 misses, 2 segment, 3 save, 4 report, 5 check, 6 merge,
-7 conflict, 8 read, 9 write, 10 record, 11 misses plain, 12 misses at most); its name (1 byte of length, text); three numbers (8
-bytes each: id; id, k; a, b, n; used; none; none; none; above; how many rows are filled, which is not lent; none; id; id, k; id, k);
-what it returns (4 bytes); then the slices.
+7 conflict, 8 read, 9 write, 10 record, 11 misses plain, 12 misses at most, 13 to largest, 14 to gap); its name (1 byte of length,
+text); three numbers (8 bytes each: id; id, k; a, b, n; used; none; none; none; above; how many rows are filled, which is not
+lent; none; id; id, k; id, k; none; none); what it returns (4 bytes); then the slices.
 Before the call, the table or buffer, the old record, the new record, the text and the answer: 2 bytes of length and the bytes;
 or 65,535 and 2 bytes of length, for as many bytes of junk (`lent`); or 65,534 alone, where they are those of the case before.
 After it the table or buffer, the text and the answer: 2 bytes, how many of the first bytes to compare with those that follow;
 the others stay. The ancestor of a merge stands in the table's place, its copies in those of the records, and its buffer in that
-of the text. So does the buffer of a write, whose rows are in the table's place; those of a read are in that of the text. Rows are
-packed as they stand in memory.
+of the text. So does the buffer of a write, whose rows are in the table's place, and that of a conversion; the rows of a read are
+in that of the text. Rows are packed as they stand in memory.
+Of all that, bytes of 0 that stand in a row are packed as a 0 and a byte that says how many there are, up to 255.
 """
+import re
 import struct
 from collections import namedtuple
 
 import orders
 import pack
+import pack_convert
 import pack_merge
 import pack_misses
+import pack_save
 import pack_write
+from converted import convert
 from merged import conflicts, first_fault, merge, next_conflict
-from records import fixed_part
+from records import CG, fixed_part
 from stored import NUMBERS, records
 from written import ROW, in_memory, rows_of, write
 
 JUNK, AS_BEFORE = 65535, 65534
 ANSWER_BYTES = {"latency": 16, "misses": 4, "segment": 8, "save": 4, "report": 4, "check": 8, "merge": 4, "conflict": 4,
-                "read": 4, "write": 4, "record": 8, "misses_plain": 4, "misses_at_most": 4}
+                "read": 4, "write": 4, "record": 8, "misses_plain": 4, "misses_at_most": 4, "to_largest": 4, "to_gap": 4}
 ENTRIES = [*ANSWER_BYTES]
 
 # A call of an entry, what it returns, and the slices lent to it, in the order in which they are packed: `before` all of them,
@@ -186,11 +192,24 @@ def short_answers():
         if entry != "latency" or rc not in NUMBERS:
             answer = lent(0 if turn % 5 == 0 else ANSWER_BYTES[entry] - 1)
             yield call(entry, f"27 before {name}", numbers, 27, table, answer, old=old, new=new)
-    for number, table in orders.REFUSED.items():
+    for number, table in orders.REFUSED:
         for entry, numbers in (("latency", (1,)), ("misses", (1, 10)), ("misses_plain", (1, 10)), ("misses_at_most", (1, 10)),
-                               ("segment", (1, 2, 1)), ("save", (len(table),)), ("check", ())):
+                               ("segment", (1, 2, 1)), ("save", (len(table),)), ("check", ()), ("to_largest", ()),
+                               ("to_gap", ())):
             yield call(entry, f"27 before {number}", numbers, 27, table, lent(ANSWER_BYTES[entry] - 1))
         yield call("report", f"27 before 24, a table refused {number}", (), 27, table, lent(3), text=lent(9))
+
+
+# ---- Saves ----
+
+def saves():
+    """Each shape of a save, and 27 for it."""
+    for turn, (table, used, old, new, number, length, after) in enumerate(pack_save.made()):
+        answer, accepted = lent(ANSWER_BYTES["save"] + turn % 3), number == 0
+        yield call("save", f"save, shape {turn + 1}", (used,), number, table, answer, old=old, new=new,
+                   after=written(struct.pack("<I", length), answer) if accepted else None,
+                   table_after=after if accepted else None)
+        yield call("save", f"save, 27 before shape {turn + 1}", (used,), 27, table, lent(turn % 4), old=old, new=new)
 
 
 # ---- Every table, checked ----
@@ -236,6 +255,20 @@ def merges():
         ancestor, first, second = tables
         for entry, length, buffer in (("merge", turn % 4, lent(min(room, 8))), ("conflict", 3 - turn % 4, b"")):
             yield call(entry, f"{entry}, 27 before {name}", (), 27, ancestor, lent(length), old=first, new=second, text=buffer)
+
+
+# ---- Conversions ----
+
+def conversions():
+    """Each conversion, and 27 for it; that comes before all else, so a short buffer will do for it."""
+    for turn, (name, (table, form, room)) in enumerate(pack_convert.calls()):
+        entry, found = "to_largest" if form == CG else "to_gap", convert(table, form, room)
+        buffer, answer = lent(room), lent(ANSWER_BYTES[entry] + turn % 3)
+        accepted = found.number == 0
+        yield call(entry, f"{entry}, {name}", (), found.number, table, answer, text=buffer,
+                   after=written(struct.pack("<I", len(found.result)), answer) if accepted else None,
+                   text_after=written(found.result, buffer) if accepted else None)
+        yield call(entry, f"{entry}, 27 before {name}", (), 27, table, lent(turn % 4), text=lent(min(room, 8)))
 
 
 # ---- Rows ----
@@ -292,7 +325,7 @@ def finds(turn, name, table, number):
 
 
 def results():
-    """The tables that accepted saves, merges and writes come to, each with the name of its case."""
+    """The tables that accepted saves, merges, writes and conversions come to, each with the name of its case."""
     for turn, case in enumerate(pack.cases("save"), 1):
         if case["rc"] == 0:
             used, = struct.unpack_from("<I", bytes_of(case, "after"))
@@ -301,6 +334,8 @@ def results():
         yield f"result of {name}", merge(*call_of).result
     for name, rows, room in pack_write.calls():
         yield f"result of {name}", write(rows, room).table
+    for name, call_of in pack_convert.calls():
+        yield f"result of {name}", convert(*call_of).result
 
 
 def known_tables():
@@ -328,6 +363,8 @@ def of_files():
     for name in ("latency", "misses", "segment", "save", "report"):
         for turn, case in enumerate(pack.cases(name), 1):
             yield from of_file(name, turn, case)
+        for turn, case in pack.in_new_form_too(name) if name != "save" else ():
+            yield from of_file(name, turn, case)
     for turn, case in enumerate(pack.cases("sieve"), 1):
         told = pack.told_by_sieve(case)
         for query in ("latency", "misses"):
@@ -336,9 +373,15 @@ def of_files():
 
 def calls():
     return [*of_files(), *documented(), *two_refusals(), *short_answers(), *of_misses("misses_plain", pack_misses.plain()),
-            *of_misses("misses_at_most", pack_misses.at_most()), *checks(), *merges(), *writes(), *rows_and_records()]
+            *of_misses("misses_at_most", pack_misses.at_most()), *checks(), *saves(), *merges(), *writes(),
+            *conversions(), *rows_and_records()]
+
+
+def shortened(data):
+    """The bytes with those of 0 counted."""
+    return re.sub(rb"\0{1,255}", lambda zeros: bytes([0, len(zeros[0])]), data)
 
 
 def everything():
     found = calls()
-    return map(packed, found, [(b"",) * 5, *(one.before for one in found)])
+    return [shortened(b"".join(map(packed, found, [(b"",) * 5, *(one.before for one in found)])))]

@@ -2,8 +2,8 @@
 
 After those of tests/cases/merge.jsonl, each held against the merge written from the words (merged.py), come the shapes made
 here: every way in which an id can be there, changed or missing in the three tables; records that move within their table;
-additions of both sides. Each of them has just the room that it needs, less and more. Last come the cases that only an order
-decides (orders.py).
+additions of both sides; these also with tables in the form CG, and copies of which one is in another form. Each of them has just
+the room that it needs, less and more. Last come the cases that only an order decides (orders.py).
 
 A packed case, every number little-endian:
 
@@ -73,9 +73,29 @@ def orders_of_records():
     yield three, stored(new[0]), stored(new[0], new[1])
 
 
+def in_new_form(tables):
+    return tuple(map(orders.in_new_form, tables))
+
+
+def converted(ancestor, first, second):
+    """Three tables with a copy in the form CG, both, or the ancestor alone."""
+    new, one, two = in_new_form((ancestor, first, second))
+    return [(ancestor, one, second), (ancestor, first, two), (ancestor, one, two), (new, first, second)]
+
+
+def other_forms():
+    """One side converted, and the other untouched; both; and an edit, a removal or an addition beside it."""
+    three, added = stored(FIRST, KEPT, LAST), stored(FIRST, KEPT, LAST, AS_IT_WAS)
+    for first, second in ((three, three), (three, stored(FIRST, plain(3, 50, (5, 10)), LAST)), (three, stored(FIRST, LAST)),
+                          (three, added), (added, added), (added, three)):
+        yield from converted(three, first, second)
+    yield from converted(three, stored(AS_IT_WAS), stored(plain(8, 40, (5, 10))))
+
+
 def shapes():
-    for turn, tables in enumerate([*one_id(), *orders_of_records()], 1):
-        length = len(merge(*tables, orders.MUCH_ROOM).result) or len(end(0))
+    plainly = [*one_id(), *orders_of_records()]
+    for turn, tables in enumerate([*plainly, *map(in_new_form, plainly), *other_forms()], 1):
+        length = sum(one.length for one in merge(*tables, orders.MUCH_ROOM).taken) + len(end(0))
         for room in (length, length - 1, length + 64):
             yield f"shape {turn} of a merge, {room} bytes of room", (*tables, room)
 

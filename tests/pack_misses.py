@@ -34,7 +34,7 @@ def asked(case):
 
 
 def of_files():
-    for turn, case in enumerate(pack.cases("misses"), 1):
+    for turn, case in [*enumerate(pack.cases("misses"), 1), *pack.in_new_form_too("misses")]:
         if case["rc"] != 27:
             yield Query(f"misses:{turn} {case['tag']}", asked(case), told_by(case), None)
     for turn, case in enumerate(pack.cases("sieve"), 1):

@@ -1,8 +1,9 @@
-"""Cases of a save with known answers, packed for the program save_vectors.
+"""Cases of a save with known answers, packed for the program save_vectors, and some of them for the C entry (pack_entries.py).
 
 Cases of refusal 27 are left out: it belongs to the C entry, and a save knows no answer buffer. After those of
 tests/cases/save.jsonl come the shapes made here: a record that stays as long, grows or shrinks, as the only, first, middle or
-last one, with and without room; then the cases that only an order decides (orders.py).
+last one, with and without room, in both forms; an only record that changes its form; then the cases that only an order decides
+(orders.py).
 
 A packed case, every number little-endian:
 
@@ -18,15 +19,22 @@ A packed case, every number little-endian:
     B bytes   the whole buffer afterwards
 """
 import struct
+from collections import namedtuple
 
 import orders
 import pack
-from records import chain, stored
+from faults import NEW, OLD
+from records import stored
 
 
-def packed(buffer, used, old, new, number, length, after):
-    assert len(after) == len(buffer)
-    return struct.pack("<IQIIII", len(buffer), used, len(old), len(new), number, length) + buffer + old + new + after
+# What is lent, the number, 0 where the save is accepted, then the new used length, and the buffer afterwards.
+Save = namedtuple("Save", "buffer used old new number length after")
+
+
+def packed(save):
+    assert len(save.after) == len(save.buffer)
+    head = struct.pack("<IQIIII", len(save.buffer), save.used, len(save.old), len(save.new), save.number, save.length)
+    return head + save.buffer + save.old + save.new + save.after
 
 
 def of_file():
@@ -36,42 +44,58 @@ def of_file():
         buffer = bytes.fromhex(case["buffer"])
         after = buffer if case["buffer_after"] == "=" else bytes.fromhex(case["buffer_after"])
         length = struct.unpack("<I", bytes.fromhex(case["after"])[:4])[0] if case["rc"] == 0 else 0
-        yield packed(buffer, case["used"], bytes.fromhex(case["old"]), bytes.fromhex(case["new"]), case["rc"], length, after)
+        yield Save(buffer, case["used"], bytes.fromhex(case["old"]), bytes.fromhex(case["new"]), case["rc"], length, after)
 
 
-def plain(ident, deadline, distances, tasks):
-    """A chain record: synchronous, no overload, no gap known."""
-    return chain(ident, 0, 0, deadline, 0, distances, tasks)
+def shape(records, at, new, room):
+    """The save of a new record in the place of this one, which comes to a table; so many bytes follow the table, 0xAA each, to
+    see what stays."""
+    before, result = stored(*records), stored(*records[:at], new, *records[at + 1:])
+    buffer = before + b"\xaa" * room
+    if len(buffer) < len(result):
+        return Save(buffer, len(before), records[at], new, 24, 0, buffer)
+    cleared = result + bytes(max(0, len(before) - len(result)))
+    return Save(buffer, len(before), records[at], new, 0, len(result), cleared + buffer[len(cleared):])
 
 
-def shapes():
-    """Every place of a record with every change of its length; the rest of the buffer is 0xAA, to see what stays."""
+def changes(of, ident):
+    """A record that stays as long, grows, shrinks, or stays as it is; in the form CG also without its largest distances."""
+    yield of.record(id=ident, deadline=30, gap=0)
+    yield of.record(id=ident, gap=0, distances=(100, 200), tasks=[(5, 10), (3, 10), (2, 1)])
+    yield of.record(id=ident, gap=0, tasks=[(5, 10)])
+    yield of.record(id=ident, deadline=39 + ident, gap=0)
+    if of.has_largest:
+        yield of.record(id=ident, largest=())
+
+
+def shapes(of):
+    """Every place of a record with every change of its length."""
     for count in (1, 3):
-        records = [plain(i + 1, 40 + i, [100], [(5, 10), (3, 10)]) for i in range(count)]
+        records = [of.record(id=i + 1, deadline=40 + i, gap=0) for i in range(count)]
         for at in range(count):
-            for new in (
-                plain(at + 1, 30, [100], [(5, 10), (3, 10)]),
-                plain(at + 1, 40, [100, 200], [(5, 10), (3, 10), (2, 1)]),
-                plain(at + 1, 40, [100], [(5, 10)]),
-                records[at],
-            ):
-                old, before = records[at], stored(*records)
-                result = stored(*records[:at], new, *records[at + 1:])
-                for room in (0, 5, 64):
-                    buffer = before + b"\xaa" * room
-                    if len(buffer) < len(result):
-                        yield packed(buffer, len(before), old, new, 24, 0, buffer)
-                        continue
-                    cleared = result + bytes(max(0, len(before) - len(result)))
-                    yield packed(buffer, len(before), old, new, 0, len(result), cleared + buffer[len(cleared):])
+            for new in changes(of, at + 1):
+                yield from (shape(records, at, new, room) for room in (0, 5, 64))
                 # a used length of more than 32 bits is above any buffer
-                yield packed(before, len(before) + 2**32, old, new, 1, 0, before)
+                before = stored(*records)
+                yield Save(before, len(before) + 2**32, records[at], new, 1, 0, before)
+
+
+def other_forms():
+    """The only record changes its form, and the table has that form and its limit."""
+    for one, other in ((OLD, NEW), (NEW, OLD)):
+        for new in (other.record(id=1), other.record(id=1, distances=range(100, 900, 100), tasks=[(5, 10)] * 16)):
+            yield from (shape([one.good], 0, new, room) for room in (0, 5, 200))
+
+
+def made():
+    """All that are made here."""
+    return [*shapes(OLD), *shapes(NEW), *other_forms()]
 
 
 def two_refusals():
     for _, (buffer, used, old, new), number in orders.calls(orders.SAVE):
-        yield packed(buffer, used, old, new, number, 0, buffer)
+        yield Save(buffer, used, old, new, number, 0, buffer)
 
 
 def everything():
-    return [*of_file(), *shapes(), *two_refusals()]
+    return [*map(packed, [*of_file(), *made(), *two_refusals()])]

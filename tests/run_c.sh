@@ -75,6 +75,13 @@ diff "$room/out" "$top/examples/editor.expected" || found "the example editor wr
 holds "a save" 40 64
 [ -L "$room/link" ] || found "the example editor replaced a link"
 
+# The same with a table in the form CG: chain 1's deadline, 45, is at 6 there too.
+cp "$top/examples/bursts.table" "$table" || fail "examples/bursts.table cannot be copied"
+echo 50 | editor "$table" 1 >"$room/out" || found "the example editor ended with a failure"
+{ head -c 6 "$top/examples/bursts.table" && printf '\x32' && tail -c +8 "$top/examples/bursts.table"; } | cmp -s - "$table" ||
+    found "the example editor: a table in the form CG: another table"
+[ "$(tail -n 1 "$room/out")" = "2 1 40 0 460 r14" ] || found "the example editor: a table in the form CG: another report"
+
 ends 0 "" "" "$table" 1
 ends 0 "" $'\n' "$table" 1
 ends 2 "editor: usage: editor TABLE ID" 64 "$table"
@@ -208,6 +215,13 @@ merges 1 $'chain 1 is in conflict\nchain 2 is in conflict' "$conflict" ancestor 
 { head -c 64 "$sample" | tail -c 28 && printf 'EN\1\0'; } >"$tables/only2"
 { head -c 64 "$sample" && printf 'EN\2\0'; } >"$tables/both"
 merges 1 "chain 1 is in conflict" "$conflict" both only2 mine result
+
+# One copy is in the form CG: where the other is as the ancestor it is the result, and where that adds a chain there are two forms.
+cp "$top/examples/bursts.table" "$tables/bursts" || fail "examples/bursts.table cannot be copied"
+cp "$tables/bursts" "$tables/wanted"
+{ head -c 108 "$sample" && printf 'EN\3\0'; } >"$tables/three"
+merges 0 "merged, the table has 74 bytes" "" both both bursts result
+merges 1 "" "merge: result refused, 3: both edits together are no table" both three bursts result
 
 # The copies are tables, and the result is none: no chain is left, or there are 1,684 bytes.
 wide() {

@@ -39,12 +39,14 @@ bytes() {
     printf '%b' "$(printf '\\x%02x' "$@")"
 }
 
-# A table of 1,284 bytes: 16 chains of 8 distances and 4 tasks of cost 1, each below the ones before it.
+# full_table LISTS: a table of 1,284 bytes, or with two lists one in the form CG of 1,748: 16 chains of 8 distances, the same as
+# largest ones, and 4 tasks of cost 1, each below the ones before it.
 full_table() {
-    local i n
+    local i n mark=72 rest=(232 3 0 0 8 4) listed=({1..8})
+    [ "$1" = 1 ] || { mark=71 && rest=(1 8 4) && listed+=({1..8}); }
     for i in {1..16}; do
-        bytes 67 72 "$i" 0 0 0 232 3 0 0 232 3 0 0 8 4
-        for n in {1..8}; do bytes $((n * 1000 % 256)) $((n * 1000 / 256)) 0 0; done
+        bytes 67 "$mark" "$i" 0 0 0 232 3 0 0 "${rest[@]}"
+        for n in "${listed[@]}"; do bytes $((n * 1000 % 256)) $((n * 1000 / 256)) 0 0; done
         for n in {1..4}; do bytes 84 75 $((17 - i)) 0 1 0 0 0; done
     done
     bytes 69 78 16 0
@@ -77,32 +79,48 @@ study="$header
 2 1 111 0 889 r14
 1 1 137 0 863 r14"
 
+bursts="$header
+1 2 50 1 -5 2
+2 1 40 0 460 r14"
+
 ./mishtodran report examples/sample.table >"$room/out" || found "the sample: it failed"
 printf '%s\n' "$sample" | cmp -s - "$room/out" || found "the sample: another text"
 prints report "the sample on standard input" "$sample" <examples/sample.table
 prints report "the case study" "$study" <examples/case_study.table
+prints report "largest distances" "$bursts" <examples/bursts.table
 prints report "no bytes" "refused 1 0" </dev/null
 prints report "a cut table" "refused 2 139" < <(head -c 139 examples/sample.table)
 prints report "a distance that falls" "refused 29 24" <crates/table_check/stdin
 prints report "a table in two parts" "$sample" < <(head -c 70 examples/sample.table && sleep 1 && tail -c +71 examples/sample.table)
 prints report "too many bytes" "refused 1 0" < <(head -c 1285 /dev/zero)
+prints report "as many as a table of CG has" "refused 1 0" < <(head -c 1748 /dev/zero)
 prints report "far too many bytes" "refused 1 0" < <(head -c 100000 /dev/zero)
 
-# The longest table, and one byte more, as a pipe may bring them.
+# The longest table of a form, and one byte more, as a pipe may bring them.
 full=$header$(for i in {1..16}; do printf '\n%d 1 %d 0 %d 0' "$i" $((4 * i)) $((1000 - 4 * i)); done)
-full_table >"$room/full"
-{ full_table && printf E; } >"$room/longer"
-[ "$(wc -c <"$room/full")" -eq 1284 ] || found "the full table has not 1,284 bytes"
-prints report "a full table" "$full" <"$room/full"
-prints report "a byte more" "refused 1 0" <"$room/longer"
-for pieces in "1283" "1284" "1 1282" "7 7 1269" "1 1 1 1 1 7 1271"; do
-    # shellcheck disable=SC2086
-    prints report "a full table in pieces of $pieces and the rest" "$full" < <(in_pieces "$room/full" $pieces)
+
+# in_full LENGTH: the full table and the longer one, which stand in $room, the full one with this length.
+in_full() {
+    local pieces
+    [ "$(wc -c <"$room/full")" -eq "$1" ] || found "the full table has not $1 bytes"
+    prints report "a full table of $1 bytes" "$full" <"$room/full"
+    prints report "a byte more than $1" "refused 1 0" <"$room/longer"
+    for pieces in "$(($1 - 1))" "$1" "1 $(($1 - 2))" "7 7 $(($1 - 15))" "1 1 1 1 1 7 $(($1 - 13))"; do
+        # shellcheck disable=SC2086
+        prints report "a full table in pieces of $pieces and the rest" "$full" < <(in_pieces "$room/full" $pieces)
+    done
+    for pieces in "$(($1 - 1))" "$1" "$(($1 - 1)) 1" "1 $(($1 - 1))" "7 $(($1 - 7))" "1 7 $(($1 - 9)) 1"; do
+        # shellcheck disable=SC2086
+        prints report "a byte more in pieces of $pieces and the rest" "refused 1 0" < <(in_pieces "$room/longer" $pieces)
+    done
+}
+
+for lists in 2 1; do
+    full_table "$lists" >"$room/full"
+    { cat "$room/full" && printf E; } >"$room/longer"
+    in_full $((lists == 1 ? 1284 : 1748))
 done
-for pieces in "1283" "1284" "1283 1" "1 1283" "7 1277" "1 7 1275 1"; do
-    # shellcheck disable=SC2086
-    prints report "a byte more in pieces of $pieces and the rest" "refused 1 0" < <(in_pieces "$room/longer" $pieces)
-done
+full_table 2 >"$room/full_of_largest"
 
 # ---- The check ----
 
@@ -137,7 +155,9 @@ cut() {
         < <(head -c "$2" examples/sample.table)
 }
 
-length="refused 1 at byte 0: the table's length is 0, above 1,284 or above its buffer"
+length="refused 1 at byte 0: the table's length is 0, above 1,284 (1,748 for CG) or above its buffer"
+no_mark='a mark is not one allowed there, or is of another form than the first'
+bad_largest='a flag is above 1, or a largest distance falls, is too large or too small'
 cut_short='bytes run out inside a record or before the end record'
 ended='a 17th chain, no chain, a wrong end count, or bytes after the end'
 
@@ -149,6 +169,10 @@ prints check "a full table" "accepted, 16 chains" <"$room/full"
 prints check "a damaged table" "$(cat crates/table_check/stdout)" <crates/table_check/stdin
 prints check "no bytes" "$length (the table has 0 bytes)" </dev/null
 prints check "a byte more" "$length (the table has more than 1,284 bytes)" <"$room/longer"
+prints check "a full table of CG" "accepted, 16 chains" <"$room/full_of_largest"
+prints check "a byte more in the form CG" "$length (the table has more than 1,748 bytes)" \
+    < <(cat "$room/full_of_largest" && printf E)
+prints check "bytes that begin with no mark" "$length (the table has more than 1,284 bytes)" < <(head -c 1748 /dev/zero)
 cut "after 1 byte, in the mark of record 1" 1
 cut "after 2 bytes, in chain record 1" 2
 cut "after 18 bytes, in chain record 1" 18
@@ -159,9 +183,10 @@ cut "after 136 bytes, before the end record" 136
 cut "after 137 bytes, in the mark of record 5" 137
 cut "after 138 bytes, in the end record" 138
 whole=examples/sample.table
-broke "3 at byte 0: a mark is not one allowed there (record 1, mark)" 0 84 75
-broke "3 at byte 36: a mark is not one allowed there (record 2, mark)" 36 88 88
-broke "3 at byte 92: a mark is not one allowed there (chain record 3, task 2, mark)" 92 88
+broke "3 at byte 0: $no_mark (record 1, mark)" 0 84 75
+broke "3 at byte 36: $no_mark (record 2, mark)" 36 88 88
+broke "3 at byte 36: $no_mark (record 2, mark)" 36 67 71
+broke "3 at byte 92: $no_mark (chain record 3, task 2, mark)" 92 88
 broke "4 at byte 66: an id is 0 or used earlier (chain record 3, id)" 66 0
 broke "4 at byte 110: an id is 0 or used earlier (chain record 4, id)" 110 2
 broke "5 at byte 40: a kind or overload byte is above 1 (chain record 2, kind)" 40 2 2
@@ -184,17 +209,40 @@ whole=$room/mended
 changed crates/table_check/stdin 24 44 1 >"$whole"
 prints check "the damaged table, mended" "accepted, 4 chains" <"$whole"
 broke "29 at byte 20: a distance falls or exceeds 10,000,000 (chain record 1, distance 2)" 20 1
-broke "3 at byte 36: a mark is not one allowed there (chain record 1, task 2, mark)" 36 88
+broke "3 at byte 36: $no_mark (chain record 1, task 2, mark)" 36 88
 broke "10 at byte 38: a priority is 0, or a cost is not 1 to 1,000,000 (chain record 1, task 2, priority)" 38 0
 broke "6 at byte 50: a deadline is not 1 to 10,000,000 (chain record 2, deadline)" 50 0
+
+# Largest distances: chain 1 of the table has 13 bytes, two distances from 13 on, their largest ones from 21 on, and two tasks;
+# chain 2 begins at 45 and has flag 0 and one distance.
+whole=examples/bursts.table
+prints check "largest distances" "accepted, 2 chains" <"$whole"
+prints check "12 bytes of CG" "refused 2 at byte 12: $cut_short (after 12 bytes, in chain record 1)" < <(head -c 12 "$whole")
+prints check "28 bytes of CG" "refused 2 at byte 28: $cut_short (after 28 bytes, in chain record 1)" < <(head -c 28 "$whole")
+broke "3 at byte 45: $no_mark (record 2, mark)" 45 67 72
+broke "33 at byte 10: $bad_largest (chain record 1, flag)" 10 2
+broke "33 at byte 55: $bad_largest (chain record 2, flag)" 55 255
+broke "28 at byte 11: a list length is not 1 to 8 (chain record 1, list length)" 11 9
+broke "9 at byte 57: a task count is not 1 to 16, or there are over 64 tasks so far (chain record 2, task count)" 57 0
+broke "29 at byte 17: a distance falls or exceeds 10,000,000 (chain record 1, distance 2)" 17 19
+broke "30 at byte 58: the last distance is 0 (chain record 2, distance 1)" 58 0 0
+broke "33 at byte 21: $bad_largest (chain record 1, largest distance 1)" 21 19
+broke "33 at byte 21: $bad_largest (chain record 1, largest distance 1)" 21 255 255 255 255
+broke "33 at byte 25: $bad_largest (chain record 1, largest distance 2)" 25 99
+broke "33 at byte 25: $bad_largest (chain record 1, largest distance 2)" 21 101
+broke "3 at byte 29: $no_mark (chain record 1, task 1, mark)" 29 88
+broke "10 at byte 41: a priority is 0, or a cost is not 1 to 1,000,000 (chain record 1, task 2, cost)" 41 0
+broke "11 at byte 72: $ended (end record, count)" 72 1
 
 # After 16 chains.
 prints check "16 chains" "refused 2 at byte 448: $cut_short (after 448 bytes, before the end record)" < <(seventeen | head -c 448)
 prints check "16 chains and an end cut off" "refused 2 at byte 450: $cut_short (after 450 bytes, in the end record)" \
     < <(seventeen | head -c 448 && bytes 69 78)
-prints check "16 chains and no mark" "refused 3 at byte 448: a mark is not one allowed there (record 17, mark)" \
+prints check "16 chains and no mark" "refused 3 at byte 448: $no_mark (record 17, mark)" \
     < <(seventeen | head -c 448 && bytes 88 88)
 prints check "a 17th chain" "refused 11 at byte 448: $ended (chain record 17, mark)" < <(seventeen)
+prints check "a 17th of the other form" "refused 3 at byte 448: $no_mark (record 17, mark)" \
+    < <(seventeen | head -c 448 && bytes 67 71 17 0)
 
 # ---- The misses ----
 
@@ -245,6 +293,8 @@ cmp -s crates/table_misses/stdout "$room/out" || found "misses, the sample: anot
 counts $'1 1 1 1\n2 0 0 0\n'"$(none_of 3 4)" "" examples/sample.table 1
 counts $'1 4 4 4\n2 0 0 0\n'"$(none_of 3 4)" "" examples/sample.table 11
 counts $'4 0 0 0\n3 5 5 5\n'"$(none_of 2 1)" "" examples/case_study.table
+counts $'1 2 2 2\n'"$(none_of 2)" "" examples/bursts.table 11
+counts $'1 3 3 3\n'"$(none_of 2)" "" examples/bursts.table 12
 many_packings >"$room/many"
 counts $'1 8 8 10\n2 0 0 0\n'"$(none_of {3..8})" "" "$room/many"
 counts $'1 10 - 13\n2 0 0 0\n'"$(none_of {3..8})" \

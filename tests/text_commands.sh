@@ -29,8 +29,9 @@ sample=$(sed '/^#/d' examples/sample.txt)
 ends 0 "$sample" "" text examples/sample.table
 ends 0 "$sample" "" text <examples/sample.table
 ends 0 "$sample" "" text <(cat examples/sample.table)
+ends 0 "$(sed '/^#/d' examples/bursts.txt)" "" text examples/bursts.table
 : >"$room/empty"
-ends 1 "" "$room/empty: refused 1 at byte 0: the table's length is 0, above 1,284 or above its buffer" text "$room/empty"
+ends 1 "" "$room/empty: refused 1 at byte 0: the table's length is 0, above 1,284 (1,748 for CG) or above its buffer" text "$room/empty"
 ends 1 "" "standard input: refused 2 at byte 139: bytes run out inside a record or before the end record" \
     text < <(head -c 139 examples/sample.table)
 ./mishtodran text examples/sample.table >/dev/full 2>"$room/err"
@@ -39,12 +40,18 @@ status=$?
 [ "$(cat "$room/err")" = "table.py: standard output: No space left on device" ] ||
     found "text, a full disk: it says '$(cat "$room/err")'"
 
-for table in sample case_study; do
+for table in sample bursts case_study; do
     ends 0 "" "" table "examples/$table.txt" "$room/table"
     cmp -s "examples/$table.table" "$room/table" || found "examples/$table.txt makes another table"
 done
 sed 's/gap 50 list 50/gap 49 list 50/' examples/sample.txt >"$room/text"
 ends 1 "" "$room/text:5: refused 31: a gap other than 0 is too small for the distances" table "$room/text" "$room/table"
+sed 's/largest 80 100/largest 80 99/' examples/bursts.txt >"$room/text"
+ends 1 "" "$room/text:3: refused 33: a flag is above 1, or a largest distance falls, is too large or too small" \
+    table "$room/text" "$room/table"
+sed 's/list 600 largest unknown/gap 0 list 600/' examples/bursts.txt >"$room/text"
+ends 1 "" "$room/text:6: refused 3: a mark is not one allowed there, or is of another form than the first" \
+    table "$room/text" "$room/table"
 sed 's/^task 9/tsak 9/' examples/sample.txt >"$room/text"
 ends 2 "" "$room/text:6: 'tsak' is neither 'chain' nor 'task'" table "$room/text" "$room/table"
 ends 2 "" "table.py: $room/text: the text itself, which would be lost" table "$room/text" "$room/text"

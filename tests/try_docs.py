@@ -1,6 +1,7 @@
 #!/usr/bin/env python3
-"""Holds the docs, and the sentences of `./mishtodran check` and `merge` and of examples/rows.c, against what they speak of: the
-header's refusals, fields, entries and version, the bytes of the sample, and the lines for a damaged table and a conflict.
+"""Holds the docs, and the sentences of `./mishtodran check`, `merge` and `convert` and of examples/rows.c, against what they
+speak of: the header's refusals, fields, entries and version, the bytes of the examples, and the lines for a damaged table and a
+conflict.
 
 Usage: try_docs.py
 
@@ -40,6 +41,8 @@ def refusals():
 FIELDS = [("mark", "CHAIN_MARK"), ("id", "CHAIN_ID"), ("kind", "CHAIN_KIND"), ("overload", "CHAIN_OVERLOAD"),
           ("deadline", "CHAIN_DEADLINE"), ("largest gap", "CHAIN_GAP"), ("list length", "CHAIN_LISTED"),
           ("task count", "CHAIN_TASKS"), ("distances", "CHAIN_DISTANCES"),
+          ("mark", "CHAIN_MARK"), ("flag", "CG_FLAG"), ("list length", "CG_LISTED"), ("task count", "CG_TASKS"),
+          ("distances", "CG_DISTANCES"),
           ("mark", "TASK_MARK"), ("priority", "TASK_PRIORITY"), ("cost", "TASK_COST"),
           ("mark", "END_MARK"), ("number of chains", "END_CHAINS")]
 
@@ -76,13 +79,13 @@ def entries():
     return lines
 
 
-# The numbers that have a sentence: a table's, and a merge's own.
-SAID = NUMBERS | {24, 32}
+# The numbers that have a sentence: a table's, a merge's own, and a conversion's.
+SAID = NUMBERS | {24, 32, 34}
 
 
 def sentences():
-    """Lines for the sentences of `./mishtodran check` and `merge` that are not the header's, and for docs that show another
-    line."""
+    """Lines for the sentences of `./mishtodran check`, `merge` and `convert` that are not the header's, and for docs that show
+    another line."""
     said = re.findall(r'^ +(\d+) => put\(\s*to,\s*b"(.*)",?\s*\),$', text_of("crates/verdict_text/src/sentence.rt"), re.M)
     due = [(number, what) for _, number, what in REFUSALS if int(number) in SAID]
     lines = [f"sentence.rt has not the header's {number}: {what}" for number, what in due if (number, what) not in said]
@@ -100,17 +103,18 @@ def sentences_of_rows():
     return [f"rows.c has {said}, the header {due}"] if said != due else []
 
 
-def drawing():
-    """Lines for the bytes that docs/TABLE.md draws otherwise than the sample has them."""
-    sample = (TOP / "examples" / "sample.table").read_bytes()
-    first, *_, last = records(sample)
-    text = text_of("docs/TABLE.md")
-    drawn = bytes.fromhex("".join(re.findall(r"^    bytes ([0-9a-f ]+)$", text, re.M)))
-    lines = []
-    if drawn != sample[slice(*first)]:
-        lines.append(f"TABLE.md draws {drawn.hex(' ')}, and the sample's first record is {sample[slice(*first)].hex(' ')}")
-    if f"the end record, `{end(4).hex(' ')}`, at {last[1]}." not in text:
-        lines.append("TABLE.md has the sample's end record otherwise")
+def drawings():
+    """Lines for the bytes that docs/TABLE.md draws otherwise than the example tables have them."""
+    text, lines = text_of("docs/TABLE.md"), []
+    for name in ("sample", "bursts"):
+        table = (TOP / "examples" / f"{name}.table").read_bytes()
+        first, *_, last = records(table)
+        drawn = text.partition(f"Chain 1 of `examples/{name}.table`")[2].partition("\n## ")[0]
+        shown = bytes.fromhex("".join(re.findall(r"^    bytes ([0-9a-f ]+)$", drawn, re.M)))
+        if shown != table[slice(*first)]:
+            lines.append(f"TABLE.md draws {shown.hex(' ')}, and the first record of {name} is {table[slice(*first)].hex(' ')}")
+        if name == "sample" and f"the end record, `{end(4).hex(' ')}`, at {last[1]}." not in drawn:
+            lines.append("TABLE.md has the sample's end record otherwise")
     return lines
 
 
@@ -118,7 +122,7 @@ def main(words):
     if words:
         print("try_docs.py: usage: try_docs.py", file=sys.stderr)
         return 2
-    wrong = refusals() + fields() + entries() + sentences() + sentences_of_rows() + drawing()
+    wrong = refusals() + fields() + entries() + sentences() + sentences_of_rows() + drawings()
     for line in wrong or ["as it should be"]:
         print(f"try_docs: {line}")
     return 1 if wrong else 0

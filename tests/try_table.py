@@ -21,7 +21,7 @@ from contextlib import redirect_stderr
 from pathlib import Path
 
 import pack
-from records import chain, stored
+from records import CG, CH, bursty, chain, stored
 from stored import ACCEPTED, TOP, verdict
 from try_docs import REFUSALS
 
@@ -58,7 +58,7 @@ def at_once(function, values):
 # ---- The example tables ----
 
 def examples():
-    for name in ("sample", "case_study"):
+    for name in ("sample", "case_study", "bursts"):
         kept = (EXAMPLES / f"{name}.table").read_bytes()
         due(run(str(EXAMPLES / f"{name}.txt"), "made") == (0, b"", ""), f"{name}.txt: the command failed")
         due(Path("made").read_bytes() == kept, f"{name}.txt does not make {name}.table")
@@ -88,24 +88,46 @@ def round_trips():
 
 
 def generated(chance):
-    """Chains, a few of their fields at an edge of what is allowed."""
+    """Chains, a few of their fields at an edge of what is allowed: each its form, and what its record is made of. In the form CG
+    largest distances stand for the gap, none where they are not known. Now and then one has the other form."""
     def field(most):
         return chance.choice((0, most, most + 1, *[chance.randint(1, most)] * 20))
 
-    return [(chance.choice((turn, turn, turn, field(60_000))), chance.randint(0, 1), chance.randint(0, 1), field(10_000_000),
-             chance.choice((0, 10_000_000, field(10_000_000))),
-             sorted(field(10_000_000) for _ in range(chance.choice((1, 2, 3, 8, 8, 9))))[::chance.choice((1, 1, 1, -1))],
-             [(field(65_534), field(1_000_000)) for _ in range(chance.choice((1, 1, 2, 3, 16, 17)))])
-            for turn in range(1, chance.choice((2, 3, 4, 18)))]
+    def longest(form, distances):
+        if form == CH:
+            return chance.choice((0, 10_000_000, field(10_000_000)))
+        if chance.randrange(3) == 0:
+            return ()
+        return sorted(chance.choice((distance, 80_000_000, chance.randint(distance, 80_000_000 + distance // 100)))
+                      for distance in distances)[::chance.choice((1, 1, 1, -1))]
+
+    found, form = [], chance.choice((CH, CG))
+    for turn in range(1, chance.choice((2, 3, 4, 18))):
+        own = chance.choice((CH, CG)) if chance.randrange(20) == 0 else form
+        distances = sorted(field(10_000_000) for _ in range(chance.choice((1, 2, 3, 8, 8, 9))))[::chance.choice((1, 1, 1, -1))]
+        found.append((own, (chance.choice((turn, turn, turn, field(60_000))), chance.randint(0, 1), chance.randint(0, 1),
+                            field(10_000_000), longest(own, distances), distances,
+                            [(field(65_534), field(1_000_000)) for _ in range(chance.choice((1, 1, 2, 3, 16, 17)))])))
+    return found
+
+
+def record(form, fields):
+    return (chain if form == CH else bursty)(*fields)
 
 
 def text_with(chains):
     """Their text, and the line of each."""
+    def listed(name, distances):
+        return "".join(f" {word}" for word in (name, *distances))
+
     lines, at = [], []
-    for ident, kind, overload, deadline, gap, distances, tasks in chains:
-        lines.append(f"chain {ident} {KINDS[kind]}{' overload' * overload} deadline {deadline} gap {gap} list")
+    for form, (ident, kind, overload, deadline, longest, distances, tasks) in chains:
+        lines.append(f"chain {ident} {KINDS[kind]}{' overload' * overload} deadline {deadline}")
         at.append(len(lines))
-        lines[-1] += "".join(f" {distance}" for distance in distances)
+        if form == CH:
+            lines[-1] += f" gap {longest}" + listed("list", distances)
+        else:
+            lines[-1] += listed("list", distances) + listed("largest", longest or ["unknown"])
         lines += (f"task {priority} {cost}" for priority, cost in tasks)
     return "\n".join(lines), at
 
@@ -114,10 +136,10 @@ def judged(chains):
     """What the library makes of them: a table, or a number and the line of the chain at fault."""
     text, lines = text_with(chains)
     for turn, line in enumerate(lines, 1):
-        told = verdict(stored(*(chain(*one) for one in chains[:turn])))
+        told = verdict(stored(*(record(*one) for one in chains[:turn])))
         if told != ACCEPTED:
             return text, (told.number, line)
-    return text, stored(*(chain(*one) for one in chains))
+    return text, stored(*(record(*one) for one in chains))
 
 
 def from_text(case):
@@ -132,16 +154,18 @@ def from_text(case):
 def made_up():
     """How many texts were tried. Those of too many bytes are left out: the library does not judge the length of rows."""
     chance = random.Random(1)
-    cases = [case for case in map(judged, (generated(chance) for _ in range(600))) if case[1][0] != 1]
+    cases = [case for case in map(judged, (generated(chance) for _ in range(1200))) if case[1][0] != 1]
     at_once(from_text, cases)
     numbers = {told[0] for _, told in cases if isinstance(told, tuple)}
-    due(numbers >= {4, 6, 7, 9, 10, 28, 29, 30, 31}, f"the texts that were made up have only the numbers {numbers}")
+    due(numbers >= {3, 4, 6, 7, 9, 10, 28, 29, 30, 31, 33}, f"the texts that were made up have only the numbers {numbers}")
     return len(cases)
 
 
 # ---- Texts ----
 
 FIELDS = "chain 1 synchronous deadline 40 gap 100 list 100"
+BURSTY = "chain 1 synchronous deadline 40 list 100 largest 100"
+TWO = "chain 1 synchronous deadline 40 list 100 150 largest"
 TASK = "\ntask 5 10\n"
 SIXTEEN = "".join(GOOD.replace("1", str(ident), 1) for ident in range(1, 17))
 
@@ -154,6 +178,13 @@ TEXTS = [
     ("chain 65535 asynchronous overload deadline 10000000 gap 10000000 list 0 10000000\ntask 65535 1000000",
      stored(chain(65535, 1, 1, 10_000_000, 10_000_000, [0, 10_000_000], [(65535, 1_000_000)]))),
     (FIELDS + " 100" * 7 + TASK * 16, stored(chain(1, 0, 0, 40, 100, [100] * 8, [(5, 10)] * 16))),
+    (BURSTY + TASK, stored(bursty(1, 0, 0, 40, [100], [100], [(5, 10)]))),
+    (BURSTY.replace("est 100", "est\t unknown # none") + TASK, stored(bursty(1, 0, 0, 40, (), [100], [(5, 10)]))),
+    (TWO + " 0000150 80000000" + TASK, stored(bursty(1, 0, 0, 40, [150, 80_000_000], [100, 150], [(5, 10)]))),
+    ("chain 65535 asynchronous overload deadline 10000000 list 0 10000000 largest 0 80000000\ntask 65535 1000000",
+     stored(bursty(65535, 1, 1, 10_000_000, [0, 80_000_000], [0, 10_000_000], [(65535, 1_000_000)]))),
+    ("chain 1 synchronous deadline 40 list" + " 100" * 8 + " largest" + " 100" * 8 + TASK * 16,
+     stored(bursty(1, 0, 0, 40, [100] * 8, [100] * 8, [(5, 10)] * 16))),
 ]
 
 # Text, the number that it is refused with, and the line.
@@ -176,6 +207,13 @@ REFUSED = [
     (FIELDS + f" {2**32 - 1}" + TASK, 29, 1),
     (GOOD.replace("list 100", "list 0"), 30, 1),
     (GOOD.replace("gap 100", "gap 99"), 31, 1),
+    (TWO + " 100 149" + TASK, 33, 1),
+    (TWO + " 200 199" + TASK, 33, 1),
+    (TWO + f" 150 {2**32 - 1}" + TASK, 33, 1),
+    (GOOD + BURSTY.replace("1", "2", 1) + TASK, 3, 3),
+    (BURSTY + TASK + FIELDS.replace("1", "0", 1) + TASK, 3, 3),
+    (SIXTEEN + BURSTY.replace("1", "17", 1) + TASK, 3, 33),
+    ("chain 1 synchronous deadline 40 list" + " 100" * 9 + " largest" + " 100" * 9 + TASK, 28, 1),
     (GOOD + "task 0 10", 10, 1),
     (GOOD + f"task 65535 {2**32 - 1}", 10, 1),
 ]
@@ -202,7 +240,21 @@ MISTAKES = [
     ("chain 1 synchronous overload overload", ["1: 'overload' stands where 'deadline' is due"]),
     ("chain 1 synchronous deadline", ["1: the deadline is missing"]),
     ("chain 1 synchronous deadline 4294967296", ["1: the deadline is above 4294967295"]),
-    ("chain 1 synchronous deadline 40 list 100", ["1: 'list' stands where 'gap' is due"]),
+    ("chain 1 synchronous deadline 40", ["1: 'gap' or 'list' is missing"]),
+    ("chain 1 synchronous deadline 40 gpa 100", ["1: 'gpa' stands where 'gap' or 'list' is due"]),
+    ("chain 1 synchronous deadline 40 largest 100", ["1: 'largest' stands where 'gap' or 'list' is due"]),
+    ("chain 1 synchronous deadline 40 list", ["1: the first distance is missing"]),
+    ("chain 1 synchronous deadline 40 list largest 100", ["1: the first distance is 'largest', not a number"]),
+    ("chain 1 synchronous deadline 40 list 100", ["1: there is neither 'gap' before the list nor 'largest' after it"]),
+    ("chain 1 synchronous deadline 40 list 100 larger 100", ["1: a distance is 'larger', not a number"]),
+    (TWO, ["1: the first largest distance is missing"]),
+    (TWO + " none", ["1: the first largest distance is 'none', not a number"]),
+    (TWO + " 150 unknown", ["1: a largest distance is 'unknown', not a number"]),
+    (TWO + " unknown 150", ["1: '150' is a word too many"]),
+    (TWO + " 150", ["1: as many largest distances are due as there are distances, 2"]),
+    (TWO + " 150 200 250", ["1: as many largest distances are due as there are distances, 2"]),
+    (TWO + " 150 4294967296", ["1: a largest distance is above 4294967295"]),
+    (FIELDS + " largest 100", ["1: a distance is 'largest', not a number"]),
     ("chain 1 synchronous deadline 40 gap", ["1: the gap is missing"]),
     ("chain 1 synchronous deadline 40 gap 4294967296", ["1: the gap is above 4294967295"]),
     ("chain 1 synchronous deadline 40 gap 100", ["1: 'list' is missing"]),
@@ -257,48 +309,64 @@ def refused_tables():
 
 # ---- Rows ----
 
-ROW = "1 0 0 40 100 1 2 100 5 10 3 10"
-NUMBERS = ROW.split()
-NAMES = ("the id", "the kind", "the overload mark", "the deadline", "the gap", "the number of distances", "the number of tasks",
-         "a distance", "a priority", "a cost", "a priority", "a cost")
-WIDTHS = (16, 8, 8, 32, 32, 64, 64, 32, 16, 32, 16, 32)
+ROW = "18499 1 0 0 0 40 100 1 2 100 5 10 3 10"
+BURSTY_ROW = "18243 1 0 0 1 40 0 2 1 100 150 150 200 5 10"
+FIXED = (("the form", 16), ("the id", 16), ("the kind", 8), ("the overload mark", 8), ("the flag", 8), ("the deadline", 32),
+         ("the gap", 32), ("the number of distances", 64), ("the number of tasks", 64))
+TASK_NUMBERS = (("a priority", 16), ("a cost", 32))
+# Rows, and the name and the width of each of their numbers.
+ROWS = [(ROW, (*FIXED, ("a distance", 32), *TASK_NUMBERS * 2)),
+        (BURSTY_ROW, (*FIXED, *(("a distance", 32),) * 2, *(("a largest distance", 32),) * 2, *TASK_NUMBERS))]
 
 
-def with_number(turn, word):
-    return " ".join([*NUMBERS[:turn], word, *NUMBERS[turn + 1:]])
+def with_number(turn, word, row=ROW):
+    numbers = row.split()
+    return " ".join([*numbers[:turn], word, *numbers[turn + 1:]])
 
 
 # Lines, and the number and the row that they are refused with.
 REFUSED_ROWS = [
     ("", 11, 0),
-    (with_number(0, "0"), 4, 1),
-    (with_number(1, "2"), 5, 1),
-    (with_number(2, "255"), 5, 1),
-    (with_number(3, str(2**32 - 1)), 6, 1),
-    (with_number(4, str(2**32 - 1)), 7, 1),
-    ("1 0 0 40 100 0 1 5 10", 28, 1),
-    ("1 0 0 40 100 9 1" + " 100" * 9 + " 5 10", 28, 1),
-    ("1 0 0 40 100 1 0 100", 9, 1),
-    ("1 0 0 40 100 1 300 100" + " 5 10" * 300, 9, 1),
-    (with_number(7, "101"), 31, 1),
-    (with_number(11, str(2**32 - 1)), 10, 1),
-    (f"{ROW}\n{with_number(0, '2')}\n{ROW}\n{with_number(0, '0')}", 4, 3),
-    ("".join(f"{with_number(0, str(turn))}\n" for turn in range(1, 41)), 11, 17),
+    (with_number(0, "0"), 3, 1),
+    (with_number(0, "65535"), 3, 1),
+    (with_number(0, str(int.from_bytes(b"EN", "little"))), 3, 1),
+    (with_number(1, "0"), 4, 1),
+    (with_number(2, "2"), 5, 1),
+    (with_number(3, "255"), 5, 1),
+    ("18243 1 0 0 2 40 0 1 1 100 5 10", 33, 1),
+    (with_number(5, str(2**32 - 1)), 6, 1),
+    (with_number(6, str(2**32 - 1)), 7, 1),
+    ("18499 1 0 0 0 40 100 0 1 5 10", 28, 1),
+    ("18499 1 0 0 0 40 100 9 1" + " 100" * 9 + " 5 10", 28, 1),
+    ("18243 1 0 0 1 40 0 9 1" + " 100" * 18 + " 5 10", 28, 1),
+    ("18499 1 0 0 0 40 100 1 0 100", 9, 1),
+    ("18499 1 0 0 0 40 100 1 300 100" + " 5 10" * 300, 9, 1),
+    (with_number(9, "101"), 31, 1),
+    (with_number(11, "99", BURSTY_ROW), 33, 1),
+    (with_number(12, "80000001", BURSTY_ROW), 33, 1),
+    (with_number(13, str(2**32 - 1)), 10, 1),
+    (f"{ROW}\n{with_number(1, '2')}\n{ROW}\n{with_number(1, '0')}", 4, 3),
+    (f"{ROW}\n{with_number(1, '2', BURSTY_ROW)}", 3, 2),
+    (f"{BURSTY_ROW}\n{with_number(1, '0')}", 3, 2),
+    ("".join(f"{with_number(1, str(turn))}\n" for turn in range(1, 41)), 11, 17),
 ]
 
 # Lines that are no rows, and what is said.
 NO_ROWS = [
-    ("\n", "row 1: the id is missing"),
-    (f"{ROW}\n\n", "row 2: the id is missing"),
+    ("\n", "row 1: the form is missing"),
+    (f"{ROW}\n\n", "row 2: the form is missing"),
     (f"{ROW}\r\n", "row 1: a cost is not a number"),
     (f"{ROW} 7", "row 1: there are more numbers than its counts say"),
+    (f"{BURSTY_ROW} 7", "row 1: there are more numbers than its counts say"),
+    (with_number(4, "0", BURSTY_ROW), "row 1: there are more numbers than its counts say"),
     (f"{ROW}\n{ROW}\0\n", "row 2: a cost is not a number"),
-    (f"{ROW}\n" * 40 + "x", "row 41: the id is not a number"),
-    *((" ".join(NUMBERS[:turn]), f"row 1: {name} is missing") for turn, name in enumerate(NAMES) if turn > 0),
-    *((with_number(turn, word), f"row 1: {name} is not a number") for turn, name in enumerate(NAMES)
-      for word in ("x", "-1", "+1", "1x", "1,", "0x1", "1.0", "\u0663")),
-    *((with_number(turn, str(number)), f"row 1: {name} is too large") for turn, name in enumerate(NAMES)
-      for number in (2**WIDTHS[turn], 2**64 + 1, 10**30)),
+    (f"{ROW}\n" * 40 + "x", "row 41: the form is not a number"),
+    *((" ".join(row.split()[:turn]), f"row 1: {name} is missing") for row, names in ROWS for turn, (name, _) in enumerate(names)
+      if turn > 0),
+    *((with_number(turn, word, row), f"row 1: {name} is not a number") for row, names in ROWS
+      for turn, (name, _) in enumerate(names) for word in ("x", "-1", "+1", "1x", "1,", "0x1", "1.0", "\u0663")),
+    *((with_number(turn, str(number), row), f"row 1: {name} is too large") for row, names in ROWS
+      for turn, (name, width) in enumerate(names) for number in (2**width, 2**64 + 1, 10**30)),
 ]
 
 
@@ -323,6 +391,8 @@ def program():
     due(status == 0 and lines.decode().splitlines()[0] == ROW and lines.count(b"\n") == 4, f"the sample's rows: {lines}")
     for given in (lines, lines[:-1], b" " + lines.replace(b" ", b"\t 0").replace(b"\n", b" \t\n")):
         due(asked("write", given) == (0, SAMPLE, ""), f"rows of the sample: {asked('write', given)}")
+    for row, turn in ((ROW, 4), (BURSTY_ROW, 6)):
+        due(as_rows(with_number(turn, "255", row)) == as_rows(row), f"number {turn + 1} of {row} counts for something")
     found = at_once(as_rows, [lines for lines, *_ in REFUSED_ROWS + NO_ROWS])
     for (lines, number, row), said in zip(REFUSED_ROWS, found):
         due(said == (1, b"", (number, row, SENTENCES[number])), f"{lines[:200]!r}: {said}")

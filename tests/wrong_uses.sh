@@ -41,6 +41,21 @@ for command in report check text; do
     wrong 2 "mishtodran: standard output is closed" bash -c "./mishtodran $command examples/sample.table >&-"
 done
 
+# no_result WORDS..: a command into a file that cannot be made, or replaced.
+no_result() {
+    local file
+    wrong 2 "mishtodran: examples is a folder" "$@" examples
+    for file in /dev/null new/; do
+        wrong 2 "mishtodran: $file is not a file that can be replaced" "$@" "$file"
+    done
+    for file in none/new loop ""; do
+        wrong 2 "mishtodran: $file cannot be written" "$@" "$file"
+    done
+    for file in unwritten shut/new; do
+        wrong 2 "mishtodran: $file cannot be written" "${user[@]}" "$@" "$file"
+    done
+}
+
 # A merge of three files into a fourth. No mode stops root, so what a mode forbids is tried as another user.
 user=()
 [ "$(id -u)" != 0 ] || user=("$(command -v setpriv)" --reuid=65534 --regid=65534 --clear-groups)
@@ -57,15 +72,26 @@ for file in none loop ""; do
 done
 wrong 2 "mishtodran: examples is a folder" ./mishtodran merge examples t t new
 wrong 2 "mishtodran: unread cannot be read" "${user[@]}" ./mishtodran merge t unread t new
-wrong 2 "mishtodran: examples is a folder" ./mishtodran merge t t t examples
-for file in /dev/null new/; do
-    wrong 2 "mishtodran: $file is not a file that can be replaced" ./mishtodran merge t t t "$file"
-done
-for file in none/new loop ""; do
-    wrong 2 "mishtodran: $file cannot be written" ./mishtodran merge t t t "$file"
-done
-for file in unwritten shut/new; do
-    wrong 2 "mishtodran: $file cannot be written" "${user[@]}" ./mishtodran merge t t t "$file"
+no_result ./mishtodran merge t t t
+
+# A table into the other form, and back.
+usage="mishtodran: usage: ./mishtodran convert [--back] FILE RESULT"
+wrong 2 "$usage" ./mishtodran convert
+wrong 2 "$usage" ./mishtodran convert t
+wrong 2 "$usage" ./mishtodran convert --back
+wrong 2 "$usage" ./mishtodran convert --back t
+wrong 2 "$usage" ./mishtodran convert t new new
+wrong 2 "$usage" ./mishtodran convert t --back new
+wrong 2 "$usage" ./mishtodran convert t new --back
+wrong 2 "$usage" ./mishtodran convert --back t new new
+for back in "" --back; do
+    convert=(./mishtodran convert ${back:+"$back"})
+    for file in none loop "" -x; do
+        wrong 2 "mishtodran: there is no file $file" "${convert[@]}" "$file" new
+    done
+    wrong 2 "mishtodran: examples is a folder" "${convert[@]}" examples new
+    wrong 2 "mishtodran: unread cannot be read" "${user[@]}" "${convert[@]}" unread new
+    no_result "${convert[@]}" t
 done
 
 # The misses of a table, in so many activations.
@@ -96,16 +122,7 @@ done
 wrong 2 "mishtodran: examples is a folder" ./mishtodran table examples new
 wrong 2 "mishtodran: unread cannot be read" "${user[@]}" ./mishtodran table unread new
 wrong 2 "mishtodran: unread cannot be read" "${user[@]}" ./mishtodran text unread
-wrong 2 "mishtodran: examples is a folder" ./mishtodran table t examples
-for file in /dev/null new/; do
-    wrong 2 "mishtodran: $file is not a file that can be replaced" ./mishtodran table t "$file"
-done
-for file in none/new loop ""; do
-    wrong 2 "mishtodran: $file cannot be written" ./mishtodran table t "$file"
-done
-for file in unwritten shut/new; do
-    wrong 2 "mishtodran: $file cannot be written" "${user[@]}" ./mishtodran table t "$file"
-done
+no_result ./mishtodran table t
 wrong 2 "mishtodran: there is no python3 here: install Debian's package python3" ./mishtodran table t new
 wrong 2 "mishtodran: there is no python3 here: install Debian's package python3" ./mishtodran text t
 wrong 2 "mishtodran: usage: ./mishtodran lib" ./mishtodran lib target
@@ -155,6 +172,7 @@ wrong 2 "run_c: there is no library none.a" tests/run_c.sh none.a
 wrong 2 "run_c: there is no mishtodran.h in examples" tests/run_c.sh lib.a examples
 wrong 2 "table_commands: usage: tests/table_commands.sh" tests/table_commands.sh all
 wrong 2 "merge_command: usage: tests/merge_command.sh" tests/merge_command.sh all
+wrong 2 "convert_command: usage: tests/convert_command.sh" tests/convert_command.sh all
 wrong 2 "text_commands: usage: tests/text_commands.sh" tests/text_commands.sh all
 wrong 2 "gate: usage: .ci/run" .ci/run all
 

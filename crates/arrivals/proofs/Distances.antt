@@ -9,44 +9,58 @@ use lib.ListN.{length, getD}
 use Rattle.table.specs.Limits.{maxDistance}
 use Rattle.arrivals.specs.Arrivals.{asListed, δ}
 use Rattle.table.specs.code.Good.{GoodDistances}
-use Rattle.arrivals.proofs.Lists.{listed-rises, listed-near, last-above, δ-lists, δ-first, δ-step}
+use Rattle.arrivals.proofs.Lists.{Rising, rising, listed-rises, listed-near, last-above, δ-lists, δ-first, δ-step}
 
-module _ {ds : List ℕ} (good : GoodDistances ds) where
+-- of any list that does not fall
+module _ {most : ℕ} {ds : List ℕ} (list : Rising most ds) where
   -- δ(1) = 0
-  pub δ-one : δ ds 1 ≡ 0
+  pub δ-start : δ ds 1 ≡ 0
   unfolding asListed
-  δ-one = δ-first good 0 zero-le
+  δ-start = δ-first list 0 zero-le
 
   -- the listed distances are δ(2), δ(3), ..
   pub δ-listed : (j : ℕ) → j < length ds → δ ds (j + 2) ≡ getD ds j 0
   unfolding asListed
-  δ-listed j h = ap (δ ds) (omega arith) ∙ δ-first good (suc j) h
+  δ-listed j h = ap (δ ds) (omega arith) ∙ δ-first list (suc j) h
 
   -- 01's rule, as it stands there
   pub δ-rule : (i j : ℕ) → j < length ds → δ ds (1 + i * length ds + j) ≡ i * δ ds (length ds + 1) + δ ds (1 + j)
   δ-rule i j h =
-      let last : δ ds (length ds + 1) ≡ asListed ds (length ds) = ap (δ ds) (omega arith) ∙ δ-first good (length ds) (le-refl _) in
-      let part : δ ds (1 + j) ≡ asListed ds j = ap (δ ds) (omega arith) ∙ δ-first good j (omega arith) in
-      rw (last, part) (ap (δ ds) (omega arith) ∙ δ-lists good i j (omega arith))
+      let last : δ ds (length ds + 1) ≡ asListed ds (length ds) = ap (δ ds) (omega arith) ∙ δ-first list (length ds) (le-refl _) in
+      let part : δ ds (1 + j) ≡ asListed ds j = ap (δ ds) (omega arith) ∙ δ-first list j (omega arith) in
+      rw (last, part) (ap (δ ds) (omega arith) ∙ δ-lists list i j (omega arith))
 
   -- δ never falls
-  δ-rises : (n : ℕ) → δ ds n ≤ δ ds (suc n)
+  δ-next : (n : ℕ) → δ ds n ≤ δ ds (suc n)
   unfolding δ
-  δ-rises zero = zero-le
-  δ-rises (suc n) = δ-step good _≤_ (λ x j u. omega (arith, listed-rises good j u)) n
+  δ-next zero = zero-le
+  δ-next (suc n) = δ-step list _≤_ (λ x j u. omega (arith, listed-rises list j u)) n
 
+  pub δ-rises : (m n : ℕ) → m ≤ n → δ ds m ≤ δ ds n
+  δ-rises m zero h = le-of-eq (ap (δ ds) (omega arith))
+  δ-rises m (suc n) h =
+      ⊎-elim (λ e. le-of-eq (ap (δ ds) e)) (λ g. le-trans (δ-rises m n (le-of-suc-le-suc g)) (δ-next n)) (eq-or-lt-of-le h)
+
+  -- δ(n) is at most n times the bound
+  pub δ-bounded : (n : ℕ) → δ ds n ≤ n * most
+  unfolding δ
+  δ-bounded zero = zero-le
+  δ-bounded (suc zero) = omega (arith, δ-start)
+  δ-bounded (suc (suc n)) =
+      omega (arith, δ-bounded (suc n), δ-step list (λ a b. b ≤ a + most) (λ x j u. omega (arith, listed-near list (suc j))) n)
+
+-- of a chain's distances
+module _ {ds : List ℕ} (good : GoodDistances ds) where
+  -- δ(1) = 0
+  pub δ-one : δ ds 1 ≡ 0
+  δ-one = δ-start (rising good)
+
+  -- δ never falls, and δ(n) is at most n times the greatest distance
   pub δ-mono : (m n : ℕ) → m ≤ n → δ ds m ≤ δ ds n
-  δ-mono m zero h = le-of-eq (ap (δ ds) (omega arith))
-  δ-mono m (suc n) h =
-      ⊎-elim (λ e. le-of-eq (ap (δ ds) e)) (λ g. le-trans (δ-mono m n (le-of-suc-le-suc g)) (δ-rises n)) (eq-or-lt-of-le h)
+  δ-mono = δ-rises (rising good)
 
-  -- δ(n) is at most n times the greatest distance
   pub δ-near : (n : ℕ) → δ ds n ≤ n * maxDistance
-  unfolding δ
-  δ-near zero = zero-le
-  δ-near (suc zero) = omega (arith, δ-one)
-  δ-near (suc (suc n)) =
-      omega (arith, δ-near (suc n), δ-step good (λ a b. b ≤ a + maxDistance) (λ x j u. omega (arith, listed-near good (suc j))) n)
+  δ-near = δ-bounded (rising good)
 
   -- no n above L·t has δ(n) < t
   pub δ-reach : (n t : ℕ) → δ ds n < t → n ≤ length ds * t

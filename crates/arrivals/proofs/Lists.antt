@@ -22,26 +22,35 @@ pub split-whole : (n : ℕ) {read l lists rest : ℕ} → 0 < l → read ≡ l �
 split-whole n {l = l} some e q r =
     (ap₂ (λ i j. i * l + j) (q ∙ ap (λ x. n / x) e) (r ∙ ap (λ x. n % x) e) ∙ div-add-mod' n l, omega (arith, r, ap (λ x. n % x) e, mod-lt n some))
 
-module _ {ds : List ℕ} (good : GoodDistances ds) where
+-- what δ's laws ask of a list: it is not empty, does not fall, and its numbers are bounded
+pub record Rising (most : ℕ) (ds : List ℕ) : Type 0 where
+  pub some : 1 ≤ length ds
+  pub rises : (j : ℕ) → j + 1 < length ds → getD ds j 0 ≤ getD ds (j + 1) 0
+  pub near : (j : ℕ) → getD ds j 0 ≤ most
+
+pub rising : {ds : List ℕ} → GoodDistances ds → Rising maxDistance ds
+rising good = record { some = good .some; rises = good .rises; near = good .near }
+
+pub last-above : {ds : List ℕ} → GoodDistances ds → 0 < asListed ds (length ds)
+last-above {ds} good = rw (listed-at ds (length ds) (good .some)) (good .ends)
+
+module _ {most : ℕ} {ds : List ℕ} (list : Rising most ds) where
   pub listed-rises : (j : ℕ) → j < length ds → asListed ds j ≤ asListed ds (suc j)
   unfolding asListed
   listed-rises zero h = zero-le
-  listed-rises (suc j) h = rw add-one at (good .rises j (omega arith))
+  listed-rises (suc j) h = rw add-one at (list .rises j (omega arith))
 
-  pub listed-near : (j : ℕ) → asListed ds j ≤ maxDistance
+  pub listed-near : (j : ℕ) → asListed ds j ≤ most
   unfolding asListed
   listed-near zero = zero-le
-  listed-near (suc j) = good .near j
-
-  pub last-above : 0 < asListed ds (length ds)
-  last-above = rw (listed-at ds (length ds) (good .some)) (good .ends)
+  listed-near (suc j) = list .near j
 
   -- i whole lists and j steps more, j up to another whole list
   pub δ-lists : (i j : ℕ) → j ≤ length ds → δ ds (suc (i * length ds + j)) ≡ i * asListed ds (length ds) + asListed ds j
   unfolding δ asListed
   δ-lists i j h =
       ⊎-elim
-      (λ e. ap (λ (n : ℕ). δ ds (suc n)) (omega arith) ∙ inside (suc i) 0 (good .some) ∙ omega (arith, ap (asListed ds) e))
+      (λ e. ap (λ (n : ℕ). δ ds (suc n)) (omega arith) ∙ inside (suc i) 0 (list .some) ∙ omega (arith, ap (asListed ds) e))
       (inside i j) (eq-or-lt-of-le h)
     where
       inside : (i j : ℕ) → j < length ds → δ ds (suc (i * length ds + j)) ≡ i * asListed ds (length ds) + asListed ds j
@@ -62,6 +71,6 @@ module _ {ds : List ℕ} (good : GoodDistances ds) where
       let i : ℕ = n / length ds in
       let j : ℕ = n % length ds in
       let e : i * length ds + j ≡ n = div-add-mod' n (length ds) in
-      let u : j < length ds = mod-lt n (good .some) in
+      let u : j < length ds = mod-lt n (list .some) in
       subst₂ P (sym (δ-lists i j (omega arith)) ∙ ap (δ ds) (omega arith)) (sym (δ-lists i (suc j) u) ∙ ap (δ ds) (omega arith))
       (f (i * asListed ds (length ds)) j u)

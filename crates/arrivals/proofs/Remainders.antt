@@ -17,7 +17,7 @@ use Rattle.search.proofs.Find.{last-le, last-hit, last-max}
 use Rattle.arrivals.specs.Arrivals.{asListed, η}
 use Rattle.arrivals.specs.code.WithinList.{withinList}
 use Rattle.table.specs.code.Good.{GoodDistances}
-use Rattle.arrivals.proofs.Lists.{last-above, listed-rises, δ-after}
+use Rattle.arrivals.proofs.Lists.{rising, last-above, listed-rises, δ-after}
 use Rattle.arrivals.proofs.Counts.{η-counts, η-stops}
 
 -- no more than are looked at
@@ -44,7 +44,7 @@ module _ {ds : List ℕ} (good : GoodDistances ds) {x : ℕ} (some : 0 < x) wher
   within-all j h g e =
       let m : ℕ = j - 1 in
       let f : suc m ≡ j = omega arith in
-      let r : asListed ds m ≤ asListed ds j = rw f at (listed-rises good m (omega arith)) in
+      let r : asListed ds m ≤ asListed ds j = rw f at (listed-rises (rising good) m (omega arith)) in
       let b : asListed ds m < x = omega (arith, r, e) in
       omega (arith, last-le lies j, last-max lies j m (omega arith) (lt-ltb _ _ b))
 
@@ -81,13 +81,13 @@ module _ {ds : List ℕ} (good : GoodDistances ds) {x : ℕ} (some : 0 < x) wher
             (eq-or-lt-of-le few)
 
         none-more : η ds t ≤ i * length ds + n
-        none-more = η-stops good (i * length ds + n) t (omega (arith, δ-after good i n few, beyond))
+        none-more = η-stops good (i * length ds + n) t (omega (arith, δ-after (rising good) i n few, beyond))
 
         last-in : asListed ds (n - 1) < x
         last-in = ltb-true _ _ (last-hit lies (length ds) (n - 1) (omega (arith, some-there)))
 
         all-there : i * length ds + n ≤ η ds t
-        all-there = omega (arith, some-there, η-counts good (i * length ds + (n - 1)) t (omega (arith, δ-after good i (n - 1) (omega (arith, few)), last-in)))
+        all-there = omega (arith, some-there, η-counts good (i * length ds + (n - 1)) t (omega (arith, δ-after (rising good) i (n - 1) (omega (arith, few)), last-in)))
 
 -- t is so many whole lists and a remainder, of at least 1 and at most the last distance
 module _ {ds : List ℕ} (good : GoodDistances ds) (t : ℕ) (some : 0 < t) where

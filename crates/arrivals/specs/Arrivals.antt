@@ -1,9 +1,12 @@
--- Arrivals (01, 'Arrivals'), over a chain's listed distances: δ, η, and the largest distance.
+-- Arrivals (01, 'Arrivals'; 02, request 7), over a chain's listed distances: δ, η, and the largest distance.
 use Prim.Native.Nat.{ℕ, zero, suc, _+_, _*_, _/_, _%_, _-_}
 use mathlib.Core.List.{List}
+use mathlib.Core.Bool.{Bool, _&&_}
 use lib.ListN.{length, getD}
-use lib.Dec.{ltb}
+use lib.Dec.{eqb, ltb}
+use Rattle.search.specs.Choice.{_when_else_}
 use Rattle.search.specs.Find.{last}
+use Rattle.table.specs.Record.{largests}
 use Rattle.table.specs.declared.Row.{Row}
 
 -- the distance of 1 + j activations as listed: 0 for one activation, and then the list
@@ -20,6 +23,11 @@ unfoldable pub δ : List ℕ → ℕ → ℕ
 unfoldable pub η : List ℕ → ℕ → ℕ
 η ds t = last (λ m. ltb (δ ds (suc m)) t) (length ds * t)
 
--- the largest distance of k activations: (k − 1) times the gap
+-- the largest distance of k activations: with flag 1 the listed largest ones, which go on by the same rule; else (k − 1) times the gap. A row
+-- of `CH` has flag 0, one of `CG` gap 0
 unfoldable pub largest : Row → ℕ → ℕ
-largest r k = (k - 1) * r .gap
+largest r k = δ (largests r) k when eqb (r .flag) 1 else (k - 1) * r .gap
+
+-- it is unknown: there is neither a gap nor a list
+unfoldable pub unknown : Row → Bool
+unknown r = eqb (r .gap) 0 && eqb (r .flag) 0

@@ -1,13 +1,18 @@
 // Arrivals (document 01): δ and η of the chain whose record stands at `at` in the stored bytes.
 use table::distance_at;
+use table::flag_at;
+use table::gap_at;
+use table::largest_at;
 use table::listed_at;
 ghost use mathlib.Core.Path.{_≡_};
 ghost use Prim.Native.Nat.{_+_, _*_, _/_, _%_, _≤_, _<_, min};
 ghost use lib.Dec.{ltb};
+ghost use lib.ListN.{length};
 ghost use Rattle.search.specs.Choice.{_when_else_};
-ghost use Rattle.table.specs.Record.{listedAt, rowAt, distances};
+ghost use Rattle.table.specs.Limits.{maxRun};
+ghost use Rattle.table.specs.Record.{formAt, headLength, listedAt, knownAt, rowAt, distances, largests};
 ghost use Rattle.table.specs.code.Taken.{Stands};
-ghost use Rattle.arrivals.specs.Arrivals.{asListed, δ, η};
+ghost use Rattle.arrivals.specs.Arrivals.{asListed, δ, η, largest as largestOf, unknown as unknownOf};
 ghost use Rattle.arrivals.specs.code.Bounds.{longestSpan, farthest};
 ghost use Rattle.arrivals.specs.code.WithinList.{withinList};
 
@@ -116,4 +121,37 @@ pub fn eta_up_to(s: &[u8], at: usize, t: u64, most: u64) -> u64
 {
     let n = eta_from(s, at, t, 0);
     if n < most { n } else { most }
+}
+
+// The largest distance of 1 + j activations as listed.
+fn largest_listed(s: &[u8], at: usize, j: usize) -> u64
+    requires { ⌜ Stands (now s) at × (j ≤ knownAt (now s) at) ⌝ }
+    ensures { λ r. ⌜ r ≡ asListed (largests (rowAt (now (s .entry)) at)) j ⌝ }
+{
+    if j == 0 {
+        return 0;
+    }
+    largest_at(s, at, j - 1) as u64
+}
+
+// The largest distance of k activations.
+pub fn largest(s: &[u8], at: usize, k: u32) -> u64
+    requires { ⌜ Stands (now s) at × (1 ≤ k) × (k ≤ maxRun) ⌝ }
+    ensures { λ r. ⌜ r ≡ largestOf (rowAt (now (s .entry)) at) k ⌝ }
+{
+    let steps = (k - 1) as u64;
+    if flag_at(s, at) != 1 {
+        return steps * gap_at(s, at) as u64;
+    }
+    let listed = listed_at(s, at);
+    let before = split(steps, listed as u64);
+    before.lists * largest_listed(s, at, listed) + largest_listed(s, at, before.rest)
+}
+
+// Whether it is unknown.
+pub fn unknown(s: &[u8], at: usize) -> bool
+    requires { ⌜ at + headLength (formAt (now s) at) ≤ length (now s) ⌝ }
+    ensures { λ r. ⌜ r ≡ unknownOf (rowAt (now (s .entry)) at) ⌝ }
+{
+    gap_at(s, at) == 0 && flag_at(s, at) == 0
 }

@@ -1,26 +1,31 @@
 -- Every query is answered with its figures or refused with a number, never both. Assumes nothing.
 use Prim.Native.Nat.{ℕ, zero, suc, _≤_}
-use mathlib.Core.Path.{_≡_, refl}
+use mathlib.Core.Path.{_≡_, refl, sym, subst, _∙_}
+use mathlib.Core.Bool.{Bool, not, _||_}
 use mathlib.Core.List.{List, []}
 use mathlib.Core.Logic.{inl, inr, ⊎-elim}
 use native.Mathlib.Omega.{arith}
-use lib.Dec.{lit≤, ltb}
+use lib.Dec.{lit≤, eqb, ltb}
+use borrow.Author.Tests.{eqb-false, not-false}
 use lib.ListN.{length, take}
 use Rattle.search.specs.Choice.{_when_else_, byNumber}
-use Rattle.search.specs.Lists.{All}
+use Rattle.search.specs.Lists.{All, every}
 use Rattle.search.proofs.Choice.{when-cases}
-use Rattle.table.specs.Read.{byVerdict, readTable}
+use Rattle.table.specs.Bytes.{Bytes}
+use Rattle.table.specs.Find.{rows}
+use Rattle.table.specs.Read.{byVerdict, readTable, tableOf}
 use Rattle.table.specs.Field.{TableRefusal}
 use Rattle.table.specs.Read as read
 use Rattle.table.specs.declared.Row.{Row}
 use Rattle.table.specs.declared.Verdict.{Verdict}
 use Rattle.table.specs.declared.Verdict.the-variants.{Accepted, Refused as Faulty}
 use Rattle.table.proofs.Fields.{refused-placed, some-number}
+use Rattle.table.proofs.Firsts.{none-or}
 use Rattle.segments.specs.Query as segment
 use Rattle.segments.specs.declared.Answer.{Answer as Segment}
 use Rattle.segments.specs.declared.Answer.the-variants.{Refused as NoSegment}
 use Rattle.segments.specs.View.{View}
-use Rattle.table.specs.Record.{distances}
+use Rattle.table.specs.Record.{formAt, distances}
 use Rattle.windows.specs.Demand.{demandOf}
 use Rattle.windows.specs.Window.{windowOf}
 use Rattle.windows.specs.Latency as latency
@@ -53,10 +58,14 @@ use Rattle.writing.specs.declared.Written.{Written}
 use Rattle.writing.specs.declared.Written.the-variants.{Used as Table, Refused as NoWrite}
 use Rattle.writing.specs.declared.Filled.{Filled}
 use Rattle.writing.specs.declared.Filled.the-variants.{Chains, Refused as NoFill}
+use Rattle.converting.specs.Forms.{formOf, has}
+use Rattle.converting.specs.Convert.{rowsIn, convertedOf}
+use Rattle.converting.specs.declared.To.{To}
+use Rattle.converting.proofs.Results.{Given, unrefused, written}
 use Rattle.writing.proofs.Promises.{judged}
 use Rattle.writing.proofs.Refusals.{rows-refusal}
 use Rattle.editor.specs.Entry.{latencyFigures, verdictFigures}
-use Rattle.demands.specs.Entries.{CheckRefusal, LatencyRefusal, MissesRefusal, SegmentRefusal, SaveRefusal, MergeRefusal, WriteRefusal, ReadRefusal, RecordRefusal, OneAnswer}
+use Rattle.demands.specs.Entries.{CheckRefusal, LatencyRefusal, MissesRefusal, SegmentRefusal, SaveRefusal, MergeRefusal, WriteRefusal, ReadRefusal, RecordRefusal, ConvertRefusal, OneAnswer}
 use Rattle.demands.proofs.Numbers.{table-number, save-number}
 
 module _ (Refusal : ℕ → Type 0) (n : ℕ) where
@@ -227,7 +236,29 @@ write-one rs f room = by (write.verdictOn rs) refl
     by (Faulty n place) e = let r = rows-refusal rs _ (judged rs f) e in refuses WriteRefusal 1 n (some r) (inl r)
       where
         some : {n : ℕ} → write.RowsRefusal n → 1 ≤ n
-        some r = ⊎-elim (λ h. omega (arith, h .0)) (λ g. ⊎-elim (λ h. omega (arith, h .0)) (λ h. omega (arith, h .0)) g) r
+        some r = ⊎-elim (λ h. omega (arith, h .0)) (λ g. ⊎-elim (λ h. omega (arith, h .0)) (λ k. ⊎-elim (λ h. omega (arith, h .0)) (λ h. omega (arith, h)) k) g) r
+
+-- a table converted
+pub convert-one : (to : To) (s : List ℕ) → Bytes s → (room : ℕ)
+    → OneAnswer ConvertRefusal 1 (write.numberOf (convertedOf to room s)) (write.valuesOf (convertedOf to room s))
+unfolding convertedOf
+convert-one to s bytes room = by (readTable s .verdict) refl
+  where
+    One : Written → Type 0
+    One a = OneAnswer ConvertRefusal 1 (write.numberOf a) (write.valuesOf a)
+
+    wrong : Bool
+    wrong = eqb (formAt s 0) (formOf to) || not (every (has to) (rows (tableOf s)))
+
+    by : (v : Verdict) → readTable s .verdict ≡ v → One (byVerdict NoWrite v (NoWrite 34 when wrong else write.writtenOf room (rowsIn to s)))
+    by Accepted e = when-cases One wrong (λ f. refuses ConvertRefusal 1 34 (lit≤ tt) (inr (inl refl)))
+        (λ f. let c = none-or (eqb (formAt s 0) (formOf to)) _ f in
+        subst One (sym (sym (unrefused to (given e) (eqb-false _ _ (c .0)) (not-false _ (c .1)) room) ∙ written to (given e) (eqb-false _ _ (c .0)) (not-false _ (c .1)) room))
+        (when-cases One _ (λ g. refuses ConvertRefusal 1 24 (lit≤ tt) (inr (inr refl))) (λ g. answers ConvertRefusal 1 _ refl)))
+      where
+        given : readTable s .verdict ≡ Accepted → Given s
+        given e = record { bytes = bytes; accepted = e }
+    by (Faulty f place) e = faulty ConvertRefusal 1 (λ f h. inl h) s f place e
 
 -- a table read into rows
 pub fill-one : (room : ℕ) (s : List ℕ) → OneAnswer ReadRefusal 1 (fill.numberOf (fill.filledOf room s)) (fill.valuesOf (fill.filledOf room s))

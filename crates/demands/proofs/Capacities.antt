@@ -104,12 +104,12 @@ module _ (b : Row) (l : List Row) (k latency : ℕ) where
   long = capacities-long (largest b k + latency) 0 (marked b l)
 
   pub room-at : (i : ℕ) → getD (roomOf b (marked b l) k latency) i 0 ≡ capacityOf b l k latency i
-  unfolding roomOf largest capacityOf
+  unfolding roomOf capacityOf
   room-at i = ⊎-elim
       (λ h.
-      let c = capacity-at ((k - 1) * b .gap + latency) 0 (marked b l) i h in
+      let c = capacity-at (largest b k + latency) 0 (marked b l) i h in
       let j : pieceOf (pieces b l) i .chain ≡ c .j = c .chain ∙ omega arith in
-      c .room ∙ ap (λ x. η (getD (map (λ o. o .list) (marked b l)) x []) ((k - 1) * b .gap + latency) + 1) (sym j) ∙ sym (when-yes _ _ (lt-ltb _ _ h)))
+      c .room ∙ ap (λ x. η (getD (map (λ o. o .list) (marked b l)) x []) (largest b k + latency) + 1) (sym j) ∙ sym (when-yes _ _ (lt-ltb _ _ h)))
       (λ h. List·getD-eq-default (roomOf b (marked b l) k latency) 0 {n = i} (omega (arith, long, h)) ∙ sym (when-no _ _ (le-ltb _ _ h)))
       (lt-or-le i (length (pieces b l)))
 

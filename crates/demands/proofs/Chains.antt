@@ -66,8 +66,8 @@ module _ {s : List ℕ} (h : IsTable s) (id : ℕ) (none : chainNumber s id ≡ 
   pub latency-absent : latencyOf s id ≡ Refused 12
   latency-absent = latency.latency-accepted s id (h .accepted) ∙ latency.chain-none (tableOf s) id none
 
-  pub misses-absent : (k : ℕ) → missesOf s id k ≡ Unanswered 12
-  misses-absent k = misses.tested-accepted byWindows s id k (h .accepted) ∙ misses.chain-none byWindows (tableOf s) id k none
+  pub tested-absent : (test : Test) (k : ℕ) → testedOf test s id k ≡ Unanswered 12
+  tested-absent test k = misses.tested-accepted test s id k (h .accepted) ∙ misses.chain-none test (tableOf s) id k none
 
 -- so does one chain of a table bear the id, and the others do not
 abbrev pub bears : ℕ → Row → Bool

@@ -6,22 +6,24 @@ use Rattle.demands.specs.Demands.{Demand1, Demand2, Demand3}
 use Rattle.demands.proofs.Entries.{every-entry}
 use Rattle.demands.proofs.Saving.{seen-records}
 use Rattle.demands.proofs.Merges.{merge-of-copies}
+use Rattle.demands.proofs.Converts.{conversions}
 use Rattle.demands.proofs.Rows.{rows-and-tables}
-use Rattle.demands.proofs.Figures.{counted, latency-means, latency-only}
+use Rattle.demands.proofs.Figures.{counted, stretched, latency-means, latency-only}
 use Rattle.demands.proofs.Misses.{misses-mean, answers-right}
 use Rattle.demands.proofs.Runs.{within-run, last-column, longer-run}
 use Rattle.demands.proofs.Sieve.{second-ways}
-use Rattle.demands.proofs.Others.{same-besides, reordered, ids-deadlines-gaps, regrouped}
-use Rattle.demands.proofs.Saves.{saved-deadline-or-gap}
+use Rattle.demands.proofs.Others.{same-besides, reordered, ids-deadlines-largest, regrouped}
+use Rattle.demands.proofs.Saves.{saved-deadline-or-largest}
 use Rattle.demands.proofs.Calls.{same-latency-call, same-misses-call}
 use Rattle.demands.proofs.Witness.{met}
 
 pub demand-1 : Demand1
-demand-1 = record { entries = every-entry; places = λ s e. (refused-placed s e, blames s e); saves = seen-records; merges = merge-of-copies; writes = rows-and-tables }
+demand-1 = record { entries = every-entry; places = λ s e. (refused-placed s e, blames s e); saves = seen-records; merges = merge-of-copies; writes = rows-and-tables; converts = conversions }
 
 pub demand-2 : Demand2
 demand-2 = record {
   arrivals = counted;
+  largest = stretched;
   windows = latency-means;
   only = latency-only;
   misses = misses-mean;
@@ -38,9 +40,9 @@ demand-3 = record {
   same = same-besides;
   right = λ h. (answers-right (h .one), answers-right (h .two));
   order = reordered;
-  names-deadlines-gaps = ids-deadlines-gaps;
+  names-deadlines-largest = ids-deadlines-largest;
   splits = regrouped;
-  saved = saved-deadline-or-gap;
+  saved = saved-deadline-or-largest;
   latency-calls = λ h long x y. same-latency-call h long x y;
   misses-calls = λ h k long x y. same-misses-call h long k x y;
   witness = met;

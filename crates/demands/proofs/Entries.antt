@@ -21,15 +21,18 @@ use Rattle.merging.specs.Versions.{Versions}
 use Rattle.merging.specs.Merge as merge
 use Rattle.merging.specs.declared.Merged.{Merged}
 use Rattle.writing.specs.Rows.{Typed}
+use Rattle.converting.specs.Convert.{rowsIn, convertedOf, Converts}
+use Rattle.converting.specs.declared.To.{To}
+use Rattle.table.specs.Bytes.{Bytes}
 use Rattle.writing.specs.Write as write
 use Rattle.writing.specs.Fill as fill
 use Rattle.writing.specs.declared.Written.{Written}
 use Rattle.writing.specs.declared.Filled.{Filled}
 use Rattle.report_text.specs.Report.{reportOf}
-use Rattle.editor.specs.Entry.{figureBytes, returned, leftBy, tooLong, Answered, SaveEntry, MergeEntry, ReadEntry, WriteEntry, ReportEntry}
-use Rattle.demands.specs.Entries.{SaveRefusal, MergeRefusal, WriteRefusal, ReadRefusal, RecordRefusal, ReportRefusal, CheckRefusal, AtEntry, OneAnswer, Query, Call, OnePart, OneChosen, LatencyRefusal, MissesRefusal, SegmentRefusal, EveryEntry}
+use Rattle.editor.specs.Entry.{figureBytes, returned, leftBy, tooLong, Answered, SaveEntry, MergeEntry, ReadEntry, WriteEntry, ConvertEntry, ReportEntry}
+use Rattle.demands.specs.Entries.{SaveRefusal, MergeRefusal, WriteRefusal, ReadRefusal, RecordRefusal, ConvertRefusal, ReportRefusal, CheckRefusal, AtEntry, OneAnswer, Query, Call, OnePart, OneChosen, LatencyRefusal, MissesRefusal, SegmentRefusal, EveryEntry}
 use Rattle.misses.specs.Bad.{byWindows}
-use Rattle.demands.proofs.Answers.{verdict-one, check-one, latency-one, tested-one, sieve-one, segment-one, save-one, merge-one, conflict-one, write-one, fill-one, record-one}
+use Rattle.demands.proofs.Answers.{verdict-one, check-one, latency-one, tested-one, sieve-one, segment-one, save-one, merge-one, conflict-one, write-one, convert-one, fill-one, record-one}
 
 -- a statement that names the answer
 query : {A : Type 0} (right : A) (Refusal : ℕ → Type 0) (n : ℕ) (number : A → ℕ) (figures : A → List ℕ) → OneAnswer Refusal n (number right) (figures right) → Query (λ a. a ≡ right) Refusal n number figures
@@ -95,6 +98,16 @@ fill-call s before = record {
   refused = λ {x} {r} a h.
       let n = ap fill.numberOf (a .answers) in
       (subst ReadRefusal (sym n) (fill-one (length before) s .refused (λ e. h (n ∙ e)) .0), a .leaves ∙ when-no _ _ (ne-eqb (fill.numberOf r) 0 h));
+}
+
+-- a table converted
+convert-call : (to : To) (s buffer : List ℕ) → Bytes s → Call (λ after a. Converts to s buffer a after) ConvertRefusal write.numberOf buffer
+convert-call to s buffer bytes = record {
+  taken = (write.bufferAfter (convertedOf to (length buffer) s) (rowsIn to s) buffer, convertedOf to (length buffer) s, record { answers = refl; leaves = refl });
+  one = λ {x} {y} {r} {q} a b. let e = a .answers ∙ sym (b .answers) in (a .leaves ∙ ap (λ (w : Written). write.bufferAfter w (rowsIn to s) buffer) e ∙ sym (b .leaves), e);
+  refused = λ {x} {r} a h.
+      let n = ap write.numberOf (a .answers) in
+      (subst ConvertRefusal (sym n) (convert-one to s bytes (length buffer) .refused (λ e. h (n ∙ e)) .0), a .leaves ∙ when-no _ _ (ne-eqb (write.numberOf r) 0 h));
 }
 
 -- the record taken for an id
@@ -180,6 +193,12 @@ read-entry s rs answer =
     entry (λ x r a. record { answers = a .answers; leaves = a .leaves }) (λ x r e. record { answers = e .answers; leaves = e .leaves })
     (beside ReadRefusal _ _ (fill-one (length rs) s) rs (fill.rowsAfter (fill.filledOf (length rs) s) s rs) (λ h. when-no _ _ (ne-eqb _ 0 h)) answer)
 
+pub convert-entry : (to : To) (s : List ℕ) → Bytes s → (buffer answer : List ℕ)
+    → Call {A = List ℕ × List ℕ} (λ after r. ConvertEntry to s buffer answer (after .0) (after .1) r) (AtEntry ConvertRefusal) (λ r. r) (buffer, answer)
+convert-entry to s bytes buffer answer =
+    entry (λ x r a. record { answers = a .answers; leaves = a .leaves }) (λ x r e. record { answers = e .answers; leaves = e .leaves })
+    (beside ConvertRefusal _ _ (convert-one to s bytes (length buffer)) buffer (write.bufferAfter (convertedOf to (length buffer) s) (rowsIn to s) buffer) (λ h. when-no _ _ (ne-eqb _ 0 h)) answer)
+
 -- and so does the report entry: the text's buffer and the answer's
 module _ (s text answer : List ℕ) where
   report-one : OneAnswer ReportRefusal 1 (24 when tooLong s text else 0) ([] when tooLong s text else length (reportOf s) ∷ [])
@@ -221,6 +240,7 @@ every-entry = record {
   chosen = one-chosen;
   write = write-call;
   read-rows = fill-call;
+  convert = convert-call;
   record-place = λ s id. query _ RecordRefusal 2 _ _ (record-one s id);
   report = λ s before. record { one = λ a b. (a .leaves ∙ sym (b .leaves), a .answers ∙ sym (b .answers)) };
   latency-entry = λ s id before. entry (λ x r a. record { answers = a }) (λ x r e. e .answers) (answered LatencyRefusal 4 _ _ (latency-one s id) before);
@@ -235,6 +255,7 @@ every-entry = record {
   merge-entry = merge-entry;
   write-entry = write-entry;
   read-rows-entry = read-entry;
+  convert-entry = convert-entry;
   report-entry = report-entry;
   check-entry = λ s before. entry (λ x r a. record { answers = a }) (λ x r e. e .answers) (answered CheckRefusal 2 _ _ (check-one s) before);
   version-entry = λ e f. e ∙ sym f;

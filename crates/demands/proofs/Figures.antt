@@ -1,5 +1,5 @@
 -- Demand 2 for the latency query: its definition meets the words of document 01, 'Windows'. Assumes nothing.
-use Prim.Native.Nat.{ℕ, zero, suc, _+_, _-_, _≤_, _<_}
+use Prim.Native.Nat.{ℕ, zero, suc, _+_, _*_, _-_, _≤_, _<_}
 use mathlib.Core.Path.{_≡_, refl, ap, ap₂, sym, subst, _∙_}
 use mathlib.Core.Bool.{Bool, true, false}
 use mathlib.Core.List.{List}
@@ -7,6 +7,7 @@ use mathlib.Core.Logic.{_⊎_, inl, inr, ⊎-elim}
 use native.Mathlib.Omega.{arith}
 use lib.Dec.{ltb}
 use lib.IntN.{ℤ}
+use lib.ListN.{length}
 use borrow.Author.Tests.{lt-ltb, le-ltb, leb-true}
 use Rattle.search.specs.Choice.{_when_else_}
 use Rattle.search.specs.Find.{first, Greatest}
@@ -16,11 +17,14 @@ use Rattle.search.proofs.Find.{first-ge, first-hit, first-miss, greatest-unique
 use Rattle.table.specs.code.Good.{GoodRow}
 use Rattle.table.specs.declared.Row.{Row}
 use Rattle.table.specs.Limits.{maxActivations}
-use Rattle.arrivals.specs.Arrivals.{δ}
+use Rattle.arrivals.specs.Arrivals.{δ, largest}
 use Rattle.table.specs.code.Good.{GoodDistances}
-use Rattle.table.specs.Record.{distances}
-use Rattle.arrivals.proofs.Distances.{δ-one, δ-listed, δ-rule}
+use Rattle.table.specs.Record.{distances, largests}
+use Rattle.table.proofs.Largests.{largests-at, largests-long}
+use Rattle.arrivals.proofs.Distances.{δ-one, δ-start, δ-listed, δ-rule}
 use Rattle.arrivals.proofs.Counts.{η-zero, η-greatest}
+use Rattle.arrivals.proofs.Lists.{rising}
+use Rattle.arrivals.proofs.Rows.{largests-rising, largest-by-gap, largest-by-list}
 use Rattle.windows.specs.Demand.{viewsOf}
 use Rattle.windows.specs.Window.{Solution, windowOf}
 use Rattle.windows.specs.Latency.{long, ends, latencyAt, upTo, latencyTo, overOf, lateTo, marginOf, endsWith, windowsOf, boundOf, latencyOf}
@@ -38,7 +42,7 @@ use Rattle.windows.proofs.Closing as closing
 use Rattle.table.specs.Read.{tableOf}
 use Rattle.demands.specs.Chains.{Has, chainNumber, chainOf}
 use Rattle.demands.specs.Chains as chains
-use Rattle.demands.specs.Arrivals.{ArrivalRules}
+use Rattle.demands.specs.Arrivals.{ArrivalRules, LargestRules}
 use Rattle.demands.specs.Figures.{count, OpenTo, NoWindow, NoClose, Closes, Means}
 use Rattle.demands.specs.Misses.{full}
 use Rattle.demands.proofs.Chains.{table-good, latency-is}
@@ -239,7 +243,18 @@ module _ {s : List ℕ} {id : ℕ} (h : Has s id) where
   pub counted : ArrivalRules (distances b)
   counted =
       let g = good .list in
-      record { alone = δ-one g; listed = δ-listed g; turns = δ-rule g; never = η-zero g; greatest = η-greatest g }
+      record { alone = δ-one g; listed = δ-listed (rising g); turns = δ-rule (rising g); never = η-zero g; greatest = η-greatest g }
+
+  -- and so is the largest distance, by its gap or its list
+  pub stretched : LargestRules b
+  stretched = record {
+    by-gap = λ e k. largest-by-gap b k (λ f. omega (arith, f, good .flag-form e));
+    alone = λ e. largest-by-list b 1 e ∙ δ-start (largests-rising good e);
+    listed = λ e j h. largest-by-list b (j + 2) e ∙ δ-listed (largests-rising good e) j (omega (arith, h, largests-long good e)) ∙ largests-at good j;
+    turns = λ e i j h.
+        subst (λ n. j < n → largest b (1 + i * n + j) ≡ i * largest b (n + 1) + largest b (1 + j)) (largests-long good e)
+        (λ l. rw (largest-by-list b (1 + i * length (largests b) + j) e, largest-by-list b (length (largests b) + 1) e, largest-by-list b (1 + j) e) (δ-rule (largests-rising good e) i j l)) h;
+  }
 
   growing : Growing (full b l)
   unfolding viewsOf

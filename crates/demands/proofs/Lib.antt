@@ -17,6 +17,9 @@ pub mod Saves
 pub mod Calls
 pub mod Merges
 pub mod Rows
+pub mod InStep
+pub mod Kept
+pub mod Converts
 pub mod Tables
 pub mod StarredWindows
 pub mod StarredMisses

@@ -9,7 +9,7 @@ use lib.ListN.{length, take, drop}
 use lib.Seq.{take-at, drop-at}
 use borrow.Author.Tests.{eq-eqb}
 use Rattle.search.proofs.Choice.{when-yes, true-not-false, lt-or-le}
-use Rattle.slices.proofs.Sound.{TooMuch}
+use Rattle.slices.proofs.Sound.{NoTable}
 use Rattle.merging.specs.Versions.{Versions, three, swapped, stateOf}
 use Rattle.merging.specs.Rule.{takenOf, conflictOf, conflictAbove}
 use Rattle.merging.specs.Merge.{resultOf, mergedOf, foundOf, chosenOf}
@@ -128,11 +128,12 @@ edit-kept = record {
   numbers = λ {v} e room h. number (refused-for v (known e) (result-says room v (all e) h .2));
 }
   where
-    number : {rs : List (List ℕ)} {n : ℕ} → TooMuch rs n → (n ≡ 1) ⊎ (n ≡ 9) ⊎ (n ≡ 11)
-    number (TooMuch.bytes f h) = inl f
-    number (TooMuch.tasks f h) = inr (inl f)
-    number (TooMuch.chains f h) = inr (inr f)
-    number (TooMuch.none f h) = inr (inr f)
+    number : {rs : List (List ℕ)} {n : ℕ} → NoTable rs n → (n ≡ 1) ⊎ (n ≡ 3) ⊎ (n ≡ 9) ⊎ (n ≡ 11)
+    number (NoTable.bytes f h) = inl f
+    number (NoTable.forms f i h) = inr (inl f)
+    number (NoTable.tasks f i o h) = inr (inr (inl f))
+    number (NoTable.chains f o h) = inr (inr (inr f))
+    number (NoTable.none f h) = inr (inr (inr f))
 
     lost : {v : Versions} (e : AllTables v) → ((id : ℕ) → InConflict v id → ⊥) → ((id : ℕ) → takenOf v id ≡ []) → (room : ℕ) → 4 ≤ room → (place : ℕ) × (mergedOf room v ≡ Result 11 place)
     lost {v} e none missing room h =

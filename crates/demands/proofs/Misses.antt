@@ -29,6 +29,7 @@ use Rattle.windows.proofs.Besides.{others-good, others-paced}
 use Rattle.packing.proofs.Most.{most-greatest, most-is}
 use Rattle.packing.proofs.Laws.{most-same}
 use Rattle.packing.specs.Most.{mostUses}
+use Rattle.arrivals.proofs.Rows.{unknown-yes, unknown-no}
 use Rattle.misses.specs.Overloads.{Overload}
 use Rattle.misses.specs.Bad.{Test, byWindows}
 use Rattle.misses.specs.Misses.{earlyOf, badOf, roomOf, packingFigure, missedOf, byFigures, byBound, testedBeside, testedOf, missesOf}
@@ -107,7 +108,7 @@ module _ (b : Row) (l : List Row) (good : GoodRow b) (rows : All GoodRow l) (pac
 
   -- nothing is refused before the windows
   asked-early : MayAsk b l k → earlyOf b k ≡ 0
-  asked-early a = answers.early-none b k (inside (a .low) (a .high)) (a .typical) (λ e. omega (arith, e, a .gap))
+  asked-early a = answers.early-none b k (inside (a .low) (a .high)) (a .typical) (unknown-no b (a .known))
 
   early-refused : (n : ℕ) → earlyOf b k ≡ suc n → answer ≡ Refused (suc n)
   unfolding testedBeside byNumber
@@ -157,7 +158,7 @@ module _ (b : Row) (l : List Row) (good : GoodRow b) (rows : All GoodRow l) (pac
   says-answer (Says.run (inl h)) = early-refused 12 (answers.early-run b k (or-left _ (ltb maxRun k) (lt-ltb k 1 h)))
   says-answer (Says.run (inr h)) = early-refused 12 (answers.early-run b k (or-right (ltb k 1) _ (lt-ltb maxRun k h)))
   says-answer (Says.overload x y h) = early-refused 13 (answers.early-overload b k (inside x y) h)
-  says-answer (Says.gap x y t h) = early-refused 14 (answers.early-gap b k (inside x y) t h)
+  says-answer (Says.unknown x y t g f) = early-refused 14 (answers.early-unknown b k (inside x y) t (unknown-yes b g f))
   says-answer (Says.window a n) = refused-by a 16 (no-window (full b l) (distances b) (b .deadline) n)
   says-answer (Says.close a o) = refused-by a 17 (no-close (full b l) (distances b) (b .deadline) o)
   says-answer (Says.none f e) = by-figures f ∙ answers.none-late test b vs os k (f .close) (f .latency) (f .late) (lastOf b l f) e
@@ -225,8 +226,11 @@ module _ (b : Row) (l : List Row) (good : GoodRow b) (rows : All GoodRow l) (pac
       (λ h. is (Says.run (inr h)))
       (λ high. elim (ℕ-discrete (b .overload) 0) [
         | yes t ↦ elim (ℕ-discrete (b .gap) 0) [
-          | yes g ↦ is (Says.gap low high t g)
-          | no g ↦ asked-says (record { low = low; high = high; typical = t; gap = omega arith })
+          | yes g ↦ elim (ℕ-discrete (b .flag) 0) [
+            | yes f ↦ is (Says.unknown low high t g f)
+            | no f ↦ asked-says (record { low = low; high = high; typical = t; known = inr (omega arith) })
+          ]
+          | no g ↦ asked-says (record { low = low; high = high; typical = t; known = inl (omega arith) })
         ]
         | no t ↦ is (Says.overload low high t)
       ])

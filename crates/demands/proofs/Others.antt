@@ -28,7 +28,7 @@ use Rattle.slices.proofs.Parts.{rowIn}
 use Rattle.demands.specs.Chains.{IsTable, Has, chainOf, othersOf}
 use Rattle.demands.specs.Others.{SameSegment, Agrees, Besides, SameBesides, Unmoved, Reordered, SameWork, RegroupedTasks}
 use Rattle.demands.proofs.Regroupings.{grouped-actives, grouped-defers, grouped-first}
-use Rattle.demands.proofs.Chains.{own-row, latency-is, tested-are, latency-absent, misses-absent, bears, absent-or-there, none-bears, own-bears, one-bears, others-bear}
+use Rattle.demands.proofs.Chains.{own-row, latency-is, tested-are, latency-absent, tested-absent, bears, absent-or-there, none-bears, own-bears, one-bears, others-bear}
 
 -- chains that agree against b are alike to it
 agrees-alike : (b : Row) {a c : Row} → Agrees b a c → Alike (viewOf a b) (viewOf c b)
@@ -67,7 +67,7 @@ module _ {s r : List ℕ} {id : ℕ} (one : Has s id) (two : Has r id) (row : ch
 pub same-besides : {s r : List ℕ} {id : ℕ} → SameBesides s r id → Unmoved s r id
 same-besides h = rows-unmoved (h .one) (h .two) (sym (own-row (h .one)) ∙ ap rowIn (h .own) ∙ own-row (h .two)) (h .others)
 
--- other chains' ids, deadlines and gaps changed
+-- other chains' ids, deadlines and largest gaps or distances changed
 tasks-same : {a c : Row} → SameWork a c → tasksOf a ≡ tasksOf c
 tasks-same h = rw (h .priority, h .cost, h .tasks)
 
@@ -89,8 +89,8 @@ work-agrees b {a} {c} h =
 pub agrees-own : (b a : Row) → Agrees b a a
 agrees-own b a = work-agrees b (record { kind = refl; overload = refl; listed = refl; list = refl; tasks = refl; priority = refl; cost = refl })
 
-pub ids-deadlines-gaps : {s r : List ℕ} {id : ℕ} → Besides SameWork s r id → Unmoved s r id
-ids-deadlines-gaps {s} {r} {id} h =
+pub ids-deadlines-largest : {s r : List ℕ} {id : ℕ} → Besides SameWork s r id → Unmoved s r id
+ids-deadlines-largest {s} {r} {id} h =
     same-besides (record { one = h .one; two = h .two; own = h .own; others = paired-weaker (h .others) (λ a c e. work-agrees (chainOf s id) e) })
 
 -- segments with the same active-segment costs pair off
@@ -142,7 +142,7 @@ module _ {s r : List ℕ} (id : ℕ) (one : IsTable s) (two : IsTable r) (pairs 
   pub paired-unmoved : Unmoved s r id
   paired-unmoved = ⊎-elim
       (λ p. ⊎-elim
-      (λ q. record { latency = latency-absent one id p ∙ sym (latency-absent two id q); misses = λ k. misses-absent one id p k ∙ sym (misses-absent two id q k) })
+      (λ q. record { latency = latency-absent one id p ∙ sym (latency-absent two id q); misses = λ k. tested-absent one id p byWindows k ∙ sym (tested-absent two id q byWindows k) })
       (λ q. absurd (omega (arith, paired-length owns, ap length (none-bears one id p), ap length (one-bears two id q))))
       (absent-or-there two id))
       (λ p. ⊎-elim

@@ -11,12 +11,13 @@ use borrow.Author.Tests.{le-ltb, ltb-true, ltb-false, lt-ltb}
 use Rattle.search.specs.Choice.{_when_else_}
 use Rattle.search.specs.Lists.{All}
 use Rattle.search.proofs.Choice.{when-yes, when-no, when-cases}
-use Rattle.table.specs.Limits.{maxChains, maxBytes}
+use Rattle.table.specs.Limits.{maxChains}
+use Rattle.table.specs.Record.{formAt}
 use Rattle.table.specs.Bytes.{word, bytesOf}
 use Rattle.table.specs.Fault.{markOf, endFault}
 use Rattle.table.specs.Find.{rowOf, findOf, rows, used}
 use Rattle.table.specs.Place.{lengthOf, placeOf}
-use Rattle.table.specs.Read.{empty, unless, start, byVerdict, records, readTable, tableOf}
+use Rattle.table.specs.Read.{empty, unless, start, byVerdict, records, limitOf, readTable, tableOf}
 use Rattle.table.specs.declared.Reading.{Reading}
 use Rattle.table.specs.declared.Row.{Row}
 use Rattle.table.specs.declared.Verdict.{Verdict}
@@ -52,7 +53,7 @@ cases room rs = by (verdictOn rs) refl
         (λ f. Cases.noRoom e (ltb-true room (length (tableBytes rs)) f)) (λ f. Cases.fits e (ltb-false room (length (tableBytes rs)) f))
     by (Faulty n place) e = Cases.rule n place e
 
-used-says : (room : ℕ) (rs : List Row) (n : ℕ) → writtenOf room rs ≡ Used n → (verdictOn rs ≡ Accepted) × (length (tableBytes rs) ≤ room) × (n ≡ length (tableBytes rs))
+pub used-says : (room : ℕ) (rs : List Row) (n : ℕ) → writtenOf room rs ≡ Used n → (verdictOn rs ≡ Accepted) × (length (tableBytes rs) ≤ room) × (n ≡ length (tableBytes rs))
 used-says room rs n e = by n (subst (Cases room rs) e (cases room rs))
   where
     by : (n : ℕ) → Cases room rs (Used n) → (verdictOn rs ≡ Accepted) × (length (tableBytes rs) ≤ room) × (n ≡ length (tableBytes rs))
@@ -73,11 +74,11 @@ by-verdict : (room : ℕ) (rs : List Row) {v : Verdict} → verdictOn rs ≡ v �
 unfolding writtenOf
 by-verdict room rs e = ap (λ (v : Verdict). byVerdict Refused v (fitted room rs)) e
 
-refused-given : (room : ℕ) (rs : List Row) (n : ℕ) → RefusedFor room rs n → writtenOf room rs ≡ Refused n
+pub refused-given : (room : ℕ) (rs : List Row) (n : ℕ) → RefusedFor room rs n → writtenOf room rs ≡ Refused n
 refused-given room rs n (RefusedFor.rule e) = by-verdict room rs e
 refused-given room rs n (RefusedFor.noRoom a l e) = by-verdict room rs a ∙ when-yes (Refused 24) (Used (length (tableBytes rs))) (lt-ltb room (length (tableBytes rs)) l) ∙ ap Refused (sym e)
 
-used-given : (room : ℕ) (rs : List Row) → verdictOn rs ≡ Accepted → length (tableBytes rs) ≤ room → writtenOf room rs ≡ Used (length (tableBytes rs))
+pub used-given : (room : ℕ) (rs : List Row) → verdictOn rs ≡ Accepted → length (tableBytes rs) ≤ room → writtenOf room rs ≡ Used (length (tableBytes rs))
 used-given room rs a l = by-verdict room rs a ∙ when-no (Refused 24) (Used (length (tableBytes rs))) (le-ltb room (length (tableBytes rs)) l)
 
 -- the answer goes by the bytes alone
@@ -87,7 +88,7 @@ past-counts room rs =
     ap (λ (l : List ℕ). byVerdict Refused (records maxChains l 0 empty .verdict) (Refused 24 when ltb room (length l) else Used (length l))) (laws.table-past rs)
 
 -- the reader, where its length check changes nothing
-reads : (rs : List Row) → length (tableBytes rs) ≤ maxBytes → readTable (tableBytes rs) .verdict ≡ verdictOn rs
+reads : (rs : List Row) → length (tableBytes rs) ≤ limitOf (formAt (tableBytes rs) 0) → readTable (tableBytes rs) .verdict ≡ verdictOn rs
 unfolding verdictOn
 reads rs h = ap (λ (r : Reading). r .verdict) (laws.verdict-short rs h)
 

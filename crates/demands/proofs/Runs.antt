@@ -4,7 +4,9 @@ use mathlib.Core.Path.{_≡_, refl, subst}
 use mathlib.Core.Bool.{Bool, true, false}
 use mathlib.Core.List.{List}
 use mathlib.Core.Logic.{inl, inr}
+use native.Mathlib.Omega.{arith}
 use lib.Dec.{eqb}
+use borrow.Author.Tests.{eqb-false}
 use Rattle.search.specs.Choice.{_when_else_}
 use Rattle.table.specs.Bytes.{Bytes}
 use Rattle.table.specs.Find.{rowOf, findOf}
@@ -12,6 +14,7 @@ use Rattle.table.specs.Read.{byVerdict, readTable, tableOf}
 use Rattle.table.specs.declared.Row.{Row}
 use Rattle.table.specs.declared.Verdict.{Verdict}
 use Rattle.table.specs.declared.Verdict.the-variants.{Accepted, Refused as Faulty}
+use Rattle.table.proofs.Finds.{find-le}
 use Rattle.segments.specs.View.{View}
 use Rattle.windows.specs.Demand.{viewsOf, others}
 use Rattle.windows.proofs.Besides.{others-good}
@@ -55,13 +58,13 @@ module _ (s : List ℕ) (id : ℕ) where
   -- never fewer in a longer run
   answer-rises : Bytes s → (k long : ℕ) → k ≤ long → NoMore (missesOf s id k) (missesOf s id long)
   unfolding testedOf testedIn testedAt _when_else_ absent
-  answer-rises bytes k long longer = by (readTable s .verdict) refl absent
+  answer-rises bytes k long longer = by (readTable s .verdict) refl absent refl
     where
-      by : (v : Verdict) → readTable s .verdict ≡ v → (t : Bool) → NoMore (byVerdict Refused v (Refused 12 when t else missesAt (tableOf s) chain k)) (byVerdict Refused v (Refused 12 when t else missesAt (tableOf s) chain long))
-      by Accepted e true = tt
-      by Accepted e false =
-          beside-rises byWindows b views os (good-lists b (others (tableOf s) chain) (others-good (tableOf s) (table-good (record { bytes = bytes; accepted = e })) chain)) k long longer
-      by (Faulty n place) e t = tt
+      by : (v : Verdict) → readTable s .verdict ≡ v → (t : Bool) → absent ≡ t → NoMore (byVerdict Refused v (Refused 12 when t else missesAt (tableOf s) chain k)) (byVerdict Refused v (Refused 12 when t else missesAt (tableOf s) chain long))
+      by Accepted e true f = tt
+      by Accepted e false f =
+          beside-rises byWindows b views os (table-good (record { bytes = bytes; accepted = e }) .row chain (omega (arith, find-le (tableOf s) id, eqb-false chain (tableOf s .count) f))) (good-lists b (others (tableOf s) chain) (others-good (tableOf s) (table-good (record { bytes = bytes; accepted = e })) chain)) k long longer
+      by (Faulty n place) e t f = tt
 
 pub within-run : (s : List ℕ) (id k : ℕ) {n : ℕ} → missesOf s id k ≡ Misses n → n ≤ k
 within-run s id k e = subst (Within k) e (answer-within s id byWindows k)

@@ -1,4 +1,4 @@
--- After a save that changes only another chain's deadline or gap, no other chain's answers have moved. Assumes nothing.
+-- After a save that changes only another chain's deadline, gap or largest distances, no other chain's answers have moved. Assumes nothing.
 use Prim.Native.Nat.{ℕ, _+_, _*_, _≤_}
 use mathlib.Core.Path.{_≡_, ap, sym, _∙_}
 use mathlib.Core.List.{List}
@@ -27,57 +27,19 @@ use Rattle.saving.proofs.After.{all-passed}
 use Rattle.saving.proofs.Promises.{OneReplaced, reads-back}
 use Rattle.demands.specs.Chains.{IsTable}
 use Rattle.demands.specs.Saves.{AcceptedEdit}
-use Rattle.demands.specs.Others.{Unmoved, SameWork, DeadlineOrGap}
+use Rattle.demands.specs.Others.{Unmoved, SameWork, DeadlineOrLargest}
 use Rattle.demands.proofs.Chains.{table-read}
 use Rattle.demands.proofs.Others.{Beside, beside-own, work-agrees, paired-unmoved}
 
 -- such a record makes a row with the same id and the same work
-module _ {old new : List ℕ} (h : DeadlineOrGap old new) where
-  far : (n at : ℕ) → 14 ≤ at → word n new at ≡ word n old at
-  unfolding SameBytes
-  far n at l = word-moved new old n at at (λ i m. h .rest (at + i) (inr (omega arith)))
+beside : {old new : List ℕ} → DeadlineOrLargest old new → (id : ℕ) → (idAt old 0 ≡ id → ⊥) → Beside id (rowIn old) (rowIn new)
+unfolding rowAt
+beside h id n = record { bearing = ap (λ x. eqb x id) (sym (h .id)); own = λ e. absurd (n e); agrees = λ b. work-agrees b (h .work) }
 
-  same-id : idAt new 0 ≡ idAt old 0
-  unfolding SameBytes
-  same-id = word-moved new old 2 2 2 (λ i m. h .rest (2 + i) (inl (omega arith)))
-
-  listed : listedAt new 0 ≡ listedAt old 0
-  listed = h .rest 14 (inr (omega arith))
-
-  tasks : tasksAt new 0 ≡ tasksAt old 0
-  tasks = h .rest 15 (inr (omega arith))
-
-  same-distances : distancesAt new 0 ≡ distancesAt old 0
-  same-distances = rw listed (spaced-moved (word 4 new) (word 4 old) 4 (listedAt old 0) 16 16 (λ k l. far 4 (16 + 4 * k) (omega arith)))
-
-  same-priorities : prioritiesAt new 0 ≡ prioritiesAt old 0
-  same-priorities =
-      rw (listed, tasks) (spaced-moved (priorityAt new) (priorityAt old) 8 (tasksAt old 0) (16 + 4 * listedAt old 0) (16 + 4 * listedAt old 0) (λ k l. far 2 (16 + 4 * listedAt old 0 + 8 * k + 2) (omega arith)))
-
-  same-costs : costsAt new 0 ≡ costsAt old 0
-  same-costs =
-      rw (listed, tasks) (spaced-moved (costAt new) (costAt old) 8 (tasksAt old 0) (16 + 4 * listedAt old 0) (16 + 4 * listedAt old 0) (λ k l. far 4 (16 + 4 * listedAt old 0 + 8 * k + 4) (omega arith)))
-
-  same-work : SameWork (rowIn old) (rowIn new)
-  unfolding rowAt
-  same-work = record {
-    kind = sym (h .rest 4 (inl (omega arith)));
-    overload = sym (h .rest 5 (inl (omega arith)));
-    listed = sym listed;
-    list = ap (pad maxDistances) (sym same-distances);
-    tasks = sym tasks;
-    priority = ap (pad maxTasks) (sym same-priorities);
-    cost = ap (pad maxTasks) (sym same-costs);
-  }
-
-  beside : (id : ℕ) → (idAt old 0 ≡ id → ⊥) → Beside id (rowIn old) (rowIn new)
-  unfolding rowAt
-  beside id n = record { bearing = ap (λ x. eqb x id) (sym same-id); own = λ e. absurd (n e); agrees = λ b. work-agrees b same-work }
-
--- after an accepted save whose new record differs from the old in deadline or gap alone, every other id is answered as before
-pub saved-deadline-or-gap : (x : State) (e : Edit) → AcceptedEdit x e → DeadlineOrGap (e .old) (e .new)
+-- after an accepted save whose new record differs from the old in these alone, every other id is answered as before
+pub saved-deadline-or-largest : (x : State) (e : Edit) → AcceptedEdit x e → DeadlineOrLargest (e .old) (e .new)
     → (id : ℕ) → (idAt (e .old) 0 ≡ id → ⊥) → Unmoved (stored x) (stored (after x e)) id
-saved-deadline-or-gap x e took h id n = paired-unmoved id one two pairs
+saved-deadline-or-largest x e took h id n = paired-unmoved id one two pairs
   where
     o : OneReplaced x e
     o = reads-back x e (took .buffer) (took .new) (took .number)

@@ -20,7 +20,7 @@ use Rattle.table.specs.Find.{rowOf, findOf}
 use Rattle.table.specs.declared.Row.{Row}
 use Rattle.table.specs.declared.Table.{Table}
 use Rattle.table.specs.declared.Reading.{Reading}
-use Rattle.arrivals.specs.Arrivals.{asListed, δ, η, largest}
+use Rattle.arrivals.specs.Arrivals.{asListed, δ, η, largest, unknown}
 use Rattle.table.specs.code.Good.{GoodDistances}
 use Rattle.arrivals.proofs.Counts.{η-some, η-counts, η-stops}
 use Rattle.segments.specs.Tasks.{tasksFrom, lowest, before}
@@ -227,21 +227,21 @@ room-of k n e = ap (λ x. x + 1) e
 
 -- capacities and answers for k = 10, 11 and 1
 pub room-10 : roomOf b os 10 64 ≡ 2 ∷ 2 ∷ 2 ∷ []
-unfolding sampled largest
+unfolding sampled largest _when_else_
 room-10 = rooms 10 2 (room-of 10 1 (once 964 (lit≤ tt) (lit≤ tt)))
 
 pub room-11 : roomOf b os 11 64 ≡ 3 ∷ 3 ∷ 3 ∷ []
-unfolding sampled largest
+unfolding sampled largest _when_else_
 room-11 = rooms 11 3 (room-of 11 2 (twice 1064 (lit≤ tt) (lit≤ tt)))
 
 pub misses-10 : missesOf sample 1 10 ≡ Misses 3
-unfolding sampled largest earlyOf _when_else_
+unfolding sampled largest unknown earlyOf _when_else_
 misses-10 = answers 10 2 3 refl (room-of 10 1 (once 964 (lit≤ tt) (lit≤ tt))) (lit≤ tt) capacity-2
 
 pub misses-11 : missesOf sample 1 11 ≡ Misses 4
-unfolding sampled largest earlyOf _when_else_
+unfolding sampled largest unknown earlyOf _when_else_
 misses-11 = answers 11 3 4 refl (room-of 11 2 (twice 1064 (lit≤ tt) (lit≤ tt))) (lit≤ tt) capacity-3
 
 pub misses-1 : missesOf sample 1 1 ≡ Misses 1
-unfolding sampled largest earlyOf _when_else_
+unfolding sampled largest unknown earlyOf _when_else_
 misses-1 = answers 1 2 3 refl (room-of 1 1 (once 64 (lit≤ tt) (lit≤ tt))) (lit≤ tt) capacity-2

@@ -15,7 +15,7 @@ use Rattle.table.specs.Record.{distances}
 use Rattle.table.specs.Find.{rowOf, findOf}
 use Rattle.table.specs.declared.Row.{Row}
 use Rattle.table.specs.code.Good.{GoodDistances}
-use Rattle.arrivals.specs.Arrivals.{asListed, δ, η, largest}
+use Rattle.arrivals.specs.Arrivals.{asListed, δ, η, largest, unknown}
 use Rattle.arrivals.proofs.Counts.{η-some, η-stops}
 use Rattle.segments.specs.Tasks.{tasksFrom, lowest, before}
 use Rattle.segments.specs.Segments.{stretches, onward, around, nonempty, cuts, parts, cutSegments}
@@ -78,7 +78,7 @@ unfolding twiceTable overloads piecesFrom capacitiesOf roomOf largest some activ
 segments = (refl, refl, refl, refl)
 
 early : earlyOf b 1 ≡ 0
-unfolding twiceTable earlyOf _when_else_
+unfolding twiceTable unknown earlyOf _when_else_
 early = refl
 
 counts : (test : Test) → testedOf test twice 1 1 ≡ Misses (missedOf test b views os 1 1 14 1)

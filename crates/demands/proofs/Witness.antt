@@ -8,6 +8,7 @@ use lib.ListN.{length, take, drop}
 use Rattle.search.specs.Choice.{_when_else_}
 use Rattle.search.specs.Find.{first}
 use Rattle.search.specs.Lists.{sumOf, some, Paired}
+use Rattle.table.specs.Record.{gapWidth, known}
 use Rattle.table.specs.Find.{rowOf, findOf}
 use Rattle.table.specs.Read.{tableOf}
 use Rattle.table.specs.Place.{lengthOf, placeOf}
@@ -76,7 +77,7 @@ finds = (refl, refl, refl, refl, refl, refl)
 
 -- the three records stand in both
 same-records : (recordOf sample 0 ≡ recordOf altered 2) × (recordOf sample 1 ≡ recordOf altered 3) × (recordOf sample 3 ≡ recordOf altered 0)
-unfolding recordOf sample altered sampled alteration placeOf sumOf
+unfolding recordOf sample altered sampled alteration placeOf sumOf gapWidth known _when_else_
 same-records = rw (sample-table, altered-table) bytes
   where
     part : List ℕ → Table → ℕ → List ℕ

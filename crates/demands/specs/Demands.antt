@@ -25,11 +25,12 @@ use Rattle.demands.specs.Entries.{EveryEntry}
 use Rattle.demands.specs.Saves.{AcceptedEdit, SeenRecords}
 use Rattle.demands.specs.Merges.{MergeOfCopies}
 use Rattle.demands.specs.Rows.{RowsAndTables}
-use Rattle.demands.specs.Arrivals.{ArrivalRules}
+use Rattle.demands.specs.Converts.{Conversions}
+use Rattle.demands.specs.Arrivals.{ArrivalRules, LargestRules}
 use Rattle.demands.specs.Figures.{Exactly}
 use Rattle.demands.specs.Misses.{MeansOf, SaysMissed, LastColumn, Right}
 use Rattle.demands.specs.Sieve.{SecondWays}
-use Rattle.demands.specs.Others.{Besides, SameBesides, Unmoved, Reordered, SameWork, RegroupedTasks, DeadlineOrGap, SameCall}
+use Rattle.demands.specs.Others.{Besides, SameBesides, Unmoved, Reordered, SameWork, RegroupedTasks, DeadlineOrLargest, SameCall}
 use Rattle.demands.specs.Starred.{sample}
 use Rattle.demands.specs.Witness.{altered}
 
@@ -47,11 +48,15 @@ pub record Demand1 : Type 0 where
   -- a table is written from rows, and read into rows: what is written reads back, and writing what was read gives the same bytes (02,
   -- request 2)
   pub writes : RowsAndTables
+  -- a table is converted to the other form: every figure stays, and back gives the old bytes (02, request 7)
+  pub converts : Conversions
 
 -- every figure equals the published chain analysis as document 01 fixes it
 pub record Demand2 : Type 0 where
   -- arrivals are those of its rule for δ, and η(t) is the greatest n with δ(n) < t
   pub arrivals : {s : List ℕ} {id : ℕ} → Has s id → ArrivalRules (distances (chainOf s id))
+  -- the largest distance is (k − 1) times the gap, or the largest listed, which go on by the same rule (02, request 7)
+  pub largest : {s : List ℕ} {id : ℕ} → Has s id → LargestRules (chainOf s id)
   -- each window is the least solution of its demand equation up to the horizon, refused exactly when there is none; K, latency, late and
   -- margin are those of these windows
   pub windows : {s : List ℕ} {id : ℕ} → Has s id → MeansOf s id (latencyOf s id)
@@ -80,12 +85,12 @@ pub record Demand3 : Type 0 where
   pub right : {s r : List ℕ} {id : ℕ} → SameBesides s r id → Right s id × Right r id
   -- row order moves nothing, for any id
   pub order : {s r : List ℕ} → Reordered s r → (id : ℕ) → Unmoved s r id
-  -- nor do other chains' names, deadlines and largest gaps
-  pub names-deadlines-gaps : {s r : List ℕ} {id : ℕ} → Besides SameWork s r id → Unmoved s r id
+  -- nor do other chains' names, deadlines and largest gaps or distances
+  pub names-deadlines-largest : {s r : List ℕ} {id : ℕ} → Besides SameWork s r id → Unmoved s r id
   -- nor, where the active-segment costs stay the same, how an active segment is split into tasks
   pub splits : {s r : List ℕ} {id : ℕ} → Besides (RegroupedTasks (chainOf s id)) s r id → Unmoved s r id
-  -- so an accepted save that changes a record's deadline or gap alone leaves every other id's answers
-  pub saved : (x : State) (e : Edit) → AcceptedEdit x e → DeadlineOrGap (e .old) (e .new) → (id : ℕ) → (idAt (e .old) 0 ≡ id → ⊥) → Unmoved (stored x) (stored (after x e)) id
+  -- so an accepted save that changes a record's deadline, gap or largest distances alone leaves every other id's answers
+  pub saved : (x : State) (e : Edit) → AcceptedEdit x e → DeadlineOrLargest (e .old) (e .new) → (id : ℕ) → (idAt (e .old) 0 ≡ id → ⊥) → Unmoved (stored x) (stored (after x e)) id
   -- and two calls of the latency entry, or of the miss entry, with equally long answer buffers, are the same
   pub latency-calls : {s r : List ℕ} {id : ℕ} → Unmoved s r id → {before before′ : List ℕ} → length before ≡ length before′
       → {after after′ : List ℕ} {n m : ℕ} → LatencyEntry s id before after n → LatencyEntry r id before′ after′ m → SameCall 4 before after n before′ after′ m

@@ -7,6 +7,7 @@ use mathlib.Core.Logic.{_⊎_}
 use lib.ListN.{length}
 use denote.Ref.{RefT, ptr, now}
 use Rattle.search.specs.Lists.{All}
+use Rattle.table.specs.Bytes.{Bytes}
 use Rattle.table.specs.Read.{readTable, numberOf as verdictNumber}
 use Rattle.table.specs.Field.{TableRefusal}
 use Rattle.table.specs.declared.Reading.{Reading}
@@ -23,15 +24,17 @@ use Rattle.merging.specs.Merge.{Merges, foundOf, foundNumber, foundValues, Chos
 use Rattle.writing.specs.Rows.{Typed}
 use Rattle.writing.specs.Write.{RowsRefusal, Writes, numberOf as writeNumber}
 use Rattle.writing.specs.Fill.{Fills, numberOf as fillNumber}
+use Rattle.converting.specs.Convert.{Converts}
+use Rattle.converting.specs.declared.To.{To}
 use Rattle.report_text.specs.Report.{Reported}
-use Rattle.editor.specs.Entry.{latencyFigures, LatencyEntry, MissesEntry, PlainEntry, AtMostEntry, SegmentEntry, SaveEntry, CheckEntry, MergeEntry, ConflictEntry, ReadEntry, WriteEntry, RecordEntry, ReportEntry, version}
+use Rattle.editor.specs.Entry.{latencyFigures, LatencyEntry, MissesEntry, PlainEntry, AtMostEntry, SegmentEntry, SaveEntry, CheckEntry, MergeEntry, ConflictEntry, ReadEntry, WriteEntry, RecordEntry, ConvertEntry, ReportEntry, version}
 
 -- n lies between low and high, both included
 abbrev pub Between : ℕ → ℕ → ℕ → Type 0
 Between low high n = (low ≤ n) × (n ≤ high)
 
 -- the numbers that each query, a save and a merge can be refused with, a table's own among them, then those of rows written and read, of
--- the record's place, of a report and of the check, which has none; what asks for conflicts is refused with a table's own only; a C entry can also be refused with 27
+-- the record's place, of a conversion, of a report and of the check, which has none; what asks for conflicts is refused with a table's own only; a C entry can also be refused with 27
 abbrev pub LatencyRefusal : ℕ → Type 0
 LatencyRefusal n = TableRefusal n ⊎ (n ≡ 12) ⊎ Between 16 17 n
 
@@ -55,6 +58,9 @@ ReadRefusal n = TableRefusal n ⊎ (n ≡ 24)
 
 abbrev pub RecordRefusal : ℕ → Type 0
 RecordRefusal n = TableRefusal n ⊎ (n ≡ 12)
+
+abbrev pub ConvertRefusal : ℕ → Type 0
+ConvertRefusal n = TableRefusal n ⊎ (n ≡ 34) ⊎ (n ≡ 24)
 
 abbrev pub ReportRefusal : ℕ → Type 0
 ReportRefusal n = n ≡ 24
@@ -122,6 +128,8 @@ pub record EveryEntry : Type 0 where
   pub read-rows : (s : List ℕ) (before : List Row) → Call (λ after a. Fills s before a after) ReadRefusal fillNumber before
   -- `slices::record`
   pub record-place : (s : List ℕ) (id : ℕ) → Query (λ a. a ≡ locatedOf s id) RecordRefusal 2 locatedNumber locatedFigures
+  -- `converting::to_largest`, `converting::to_gap`
+  pub convert : (to : To) (s buffer : List ℕ) → Bytes s → Call (λ after a. Converts to s buffer a after) ConvertRefusal writeNumber buffer
   -- `report_text::report`
   pub report : (s before : List ℕ) → OneResult (Reported s before)
   -- `mishtodran_latency`, `mishtodran_misses`, `mishtodran_misses_plain`, `mishtodran_misses_at_most`, `mishtodran_record`, `mishtodran_segment`
@@ -133,8 +141,8 @@ pub record EveryEntry : Type 0 where
   pub segment-entry : (s : List ℕ) (id against number : ℕ) (before : List ℕ) → Call (SegmentEntry s id against number before) (AtEntry SegmentRefusal) (λ r. r) before
   -- `mishtodran_conflict`
   pub conflict-entry : (v : Versions) (above : ℕ) (before : List ℕ) → Call (ConflictEntry v above before) (AtEntry TableRefusal) (λ r. r) before
-  -- `mishtodran_save`, `mishtodran_merge`, `mishtodran_write`, `mishtodran_read` and `mishtodran_report`, which are lent two slices to
-  -- be written
+  -- `mishtodran_save`, `mishtodran_merge`, `mishtodran_write`, `mishtodran_read`, `mishtodran_to_largest`, `mishtodran_to_gap` and
+  -- `mishtodran_report`, which are lent two slices to be written
   pub save-entry : (buffer : List ℕ) (used : ℕ) (old new answer : List ℕ)
       → Call {A = List ℕ × List ℕ} (λ after r. SaveEntry buffer used old new answer (after .0) (after .1) r) (AtEntry SaveRefusal) (λ r. r) (buffer, answer)
   pub merge-entry : (v : Versions) (buffer answer : List ℕ)
@@ -143,6 +151,8 @@ pub record EveryEntry : Type 0 where
       → Call {A = List ℕ × List ℕ} (λ after r. WriteEntry rs buffer answer (after .0) (after .1) r) (AtEntry WriteRefusal) (λ r. r) (buffer, answer)
   pub read-rows-entry : (s : List ℕ) (rs : List Row) (answer : List ℕ)
       → Call {A = List Row × List ℕ} (λ after r. ReadEntry s rs answer (after .0) (after .1) r) (AtEntry ReadRefusal) (λ r. r) (rs, answer)
+  pub convert-entry : (to : To) (s : List ℕ) → Bytes s → (buffer answer : List ℕ)
+      → Call {A = List ℕ × List ℕ} (λ after r. ConvertEntry to s buffer answer (after .0) (after .1) r) (AtEntry ConvertRefusal) (λ r. r) (buffer, answer)
   pub report-entry : (s text answer : List ℕ)
       → Call {A = List ℕ × List ℕ} (λ after r. ReportEntry s text answer (after .0) (after .1) r) (AtEntry ReportRefusal) (λ r. r) (text, answer)
   -- `mishtodran_check`, which no table refuses

@@ -10,5 +10,6 @@ pub mod Sieve
 pub mod Others
 pub mod Merges
 pub mod Rows
+pub mod Converts
 pub mod Starred
 pub mod Witness

@@ -61,8 +61,8 @@ pub record NoEditLost : Type 0 where
   pub none : {v : Versions} → AllTables v → (above : ℕ) → Exactly (foundOf v above ≡ Id 0) ((id : ℕ) → above < id → InConflict v id → ⊥)
   -- a result that loses every chain is refused with 11
   pub emptied : {v : Versions} → AllTables v → ((id : ℕ) → InConflict v id → ⊥) → ((id : ℕ) → takenOf v id ≡ []) → (room : ℕ) → 4 ≤ room → (place : ℕ) × (mergedOf room v ≡ Result 11 place)
-  -- of a table's numbers a result can only meet 1, 9 and 11
-  pub numbers : {v : Versions} → AllTables v → (room : ℕ) {n place : ℕ} → mergedOf room v ≡ Result n place → (n ≡ 1) ⊎ (n ≡ 9) ⊎ (n ≡ 11)
+  -- of a table's numbers a result can only meet 1, 3 (its records have not one form; 02, request 7), 9 and 11
+  pub numbers : {v : Versions} → AllTables v → (room : ℕ) {n place : ℕ} → mergedOf room v ≡ Result n place → (n ≡ 1) ⊎ (n ≡ 3) ⊎ (n ≡ 9) ⊎ (n ≡ 11)
 
 pub record SwappedCopies : Type 0 where
   -- the same conflicts, and the same length

@@ -11,7 +11,7 @@ use Rattle.search.specs.Choice.{_when_else_}
 use Rattle.search.specs.Lists.{All}
 use Rattle.table.specs.Limits.{maxRun, maxOverloads, maxCapacity}
 use Rattle.table.specs.declared.Row.{Row}
-use Rattle.arrivals.specs.Arrivals.{δ, η}
+use Rattle.arrivals.specs.Arrivals.{δ, η, largest}
 use Rattle.table.specs.Record.{distances}
 use Rattle.windows.specs.Window.{Solution}
 use Rattle.windows.specs.Latency.{latencyOf}
@@ -53,10 +53,10 @@ module _ (b : Row) (l : List Row) where
   abbrev pub without : ℕ → ℕ → ℕ
   without = equation b (unmarked l)
 
-  -- capacity of each active segment of a chain a: η_a((k − 1) times b's gap + latency) + 1; a bit past the last one's has none
+  -- capacity of each active segment of a chain a: η_a(b's largest distance of k activations + latency) + 1; a bit past the last one's has none
   unfoldable pub capacityOf : ℕ → ℕ → ℕ → ℕ
   capacityOf k latency i =
-      η (getD (map (λ o. o .list) marked) (pieceOf pieces i .chain) []) ((k - 1) * b .gap + latency) + 1 when ltb i (length pieces) else 0
+      η (getD (map (λ o. o .list) marked) (pieceOf pieces i .chain) []) (largest b k + latency) + 1 when ltb i (length pieces) else 0
 
   -- a bad combination: with the set's costs added once, for some q ≤ K its window minus δ(q) exceeds the deadline
   pub record IsBad (close m : ℕ) : Type 0 where
@@ -76,12 +76,12 @@ module _ (b : Row) (l : List Row) where
     pub within : q ≤ close
     pub above : δ (distances b) q + b .deadline < withCost without (setCost (members pieces m)) q (δ (distances b) q + b .deadline)
 
-  -- before any window: k in 1 to 1,000, no overload chain, a known gap
+  -- before any window: k in 1 to 1,000, no overload chain, a known gap or known largest distances
   pub record MayAsk (k : ℕ) : Type 0 where
     pub low : 1 ≤ k
     pub high : k ≤ maxRun
     pub typical : b .overload ≡ 0
-    pub gap : 1 ≤ b .gap
+    pub known : (1 ≤ b .gap) ⊎ (1 ≤ b .flag)
 
   -- then the figures of the full analysis
   pub record Figured (k : ℕ) : Type 0 where
@@ -127,8 +127,8 @@ module _ (b : Row) (l : List Row) where
       run : (k < 1) ⊎ (maxRun < k) → Says k (Refused 13)
       -- asked of an overload chain
       overload : 1 ≤ k → k ≤ maxRun → (b .overload ≡ 0 → ⊥) → Says k (Refused 14)
-      -- asked of a chain with gap 0
-      gap : 1 ≤ k → k ≤ maxRun → b .overload ≡ 0 → b .gap ≡ 0 → Says k (Refused 15)
+      -- asked of a chain with neither: gap 0, or flag 0 (02, request 7)
+      unknown : 1 ≤ k → k ≤ maxRun → b .overload ≡ 0 → b .gap ≡ 0 → b .flag ≡ 0 → Says k (Refused 15)
       -- a needed window has no solution
       window : MayAsk k → NoWindow full (distances b) → Says k (Refused 16)
       -- no close by activation 1,024

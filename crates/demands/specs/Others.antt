@@ -7,7 +7,7 @@ use lib.ListN.{length, getD, take, drop}
 use Rattle.search.specs.Lists.{All, Paired}
 use Rattle.table.specs.Find.{rows}
 use Rattle.table.specs.declared.Row.{Row}
-use Rattle.table.specs.Record.{distances}
+use Rattle.table.specs.Record.{idAt, rowAt, distances}
 use Rattle.segments.specs.Tasks.{Task, tasksOf, costOf, floorOf, tailOf, below, deferred, firstCost}
 use Rattle.segments.specs.Segments.{cutSegmentsOf}
 use Rattle.windows.specs.Latency.{latencyOf}
@@ -52,7 +52,7 @@ pub record Reordered (s r : List ℕ) : Type 0 where
   pub two : IsTable r
   pub rows : List·Permᴰ (rows (tableOf s)) (rows (tableOf r))
 
--- a and c differ in id, deadline and gap at most
+-- a and c differ in form, id, deadline, gap and largest distances at most
 pub record SameWork (a c : Row) : Type 0 where
   pub kind : a .kind ≡ c .kind
   pub overload : a .overload ≡ c .overload
@@ -82,10 +82,10 @@ pub record RegroupedTasks (b a c : Row) : Type 0 where
   pub arrivals : distances a ≡ distances c
   pub tasks : Regrouped (floorOf b) (tailOf b) (tasksOf a) (tasksOf c)
 
--- the new record differs from the old one in deadline and gap at most, its bytes 6 to 13
-pub record DeadlineOrGap (old new : List ℕ) : Type 0 where
-  pub long : length new ≡ length old
-  pub rest : (i : ℕ) → (i < 6) ⊎ (14 ≤ i) → getD new i 0 ≡ getD old i 0
+-- the new record differs from the old one in deadline, gap and largest distances at most
+pub record DeadlineOrLargest (old new : List ℕ) : Type 0 where
+  pub id : idAt new 0 ≡ idAt old 0
+  pub work : SameWork (rowAt old 0) (rowAt new 0)
 
 -- two calls of a C entry of n figures that return r and q, whatever the answer buffers held: the same number; where it is 0, the same
 -- figure bytes, and the rest of each as it was; else all of each as it was

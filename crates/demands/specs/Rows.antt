@@ -1,13 +1,13 @@
--- Rows and tables (02, request 2): what is written reads back, what was read is written as the same bytes, and a refusal is the reader's.
+-- Rows and tables (02, requests 2 and 7): what is written reads back, what was read is written as the same bytes, and a refusal is the reader's.
 use Prim.Native.Nat.{ℕ, _<_, _≤_}
 use mathlib.Core.Path.{_≡_}
 use mathlib.Core.List.{List, [], map}
 use mathlib.Core.Logic.{_⊎_}
 use lib.ListN.{length, take, drop}
 use Rattle.search.specs.Lists.{All}
-use Rattle.table.specs.Limits.{maxBytes}
+use Rattle.table.specs.Record.{formAt}
 use Rattle.table.specs.Find.{rows}
-use Rattle.table.specs.Read.{readTable, tableOf}
+use Rattle.table.specs.Read.{limitOf, readTable, tableOf}
 use Rattle.table.specs.declared.Row.{Row}
 use Rattle.table.specs.declared.Verdict.the-variants.{Accepted, Refused as Faulty}
 use Rattle.slices.specs.Locate.{locatedOf}
@@ -33,19 +33,19 @@ pub record RowsAndTables : Type 0 where
   pub table : {rs : List Row} {room n : ℕ} → WrittenInto room rs n → IsTable (tableBytes rs) × (n ≡ length (tableBytes rs)) × (n ≤ room)
   -- the buffer then begins with it, and the rest of it is as it was
   pub written : {rs : List Row} {buffer after : List ℕ} {n : ℕ} → Writes rs buffer (Used n) after → (take n after ≡ tableBytes rs) × (drop n after ≡ drop n buffer)
-  -- it reads back as the same rows, with 0 in the places past a count
+  -- it reads back as the same rows, with 0 for what a form lacks and in the places past a count
   pub back : {rs : List Row} {room n : ℕ} → WrittenInto room rs n → rows (tableOf (tableBytes rs)) ≡ map cleared rs
   -- writing what was read gives the same bytes, wherever there is room for them
   pub again : {s : List ℕ} → IsTable s → tableBytes (rows (tableOf s)) ≡ s
   pub always : {s : List ℕ} → IsTable s → (room : ℕ) → length s ≤ room → writtenOf room (rows (tableOf s)) ≡ Used (length s)
-  -- what stands in a place past a count is neither judged nor written
+  -- what a form lacks, and what stands in a place past a count, is neither judged nor written
   pub past : (rs : List Row) → (tableBytes (map cleared rs) ≡ tableBytes rs) × ((room : ℕ) → writtenOf room (map cleared rs) ≡ writtenOf room rs)
   -- a refusal's number is the reader's for the bytes of the rows, its length check left out; 24 is the only other, after it
   pub refused : (rs : List Row) (room n : ℕ) → Exactly (writtenOf room rs ≡ Refused n) (RefusedFor room rs n)
   -- where these bytes are no more than a table has, and so wherever they are accepted, the length check changes nothing
-  pub reader : (rs : List Row) → length (tableBytes rs) ≤ maxBytes → readTable (tableBytes rs) .verdict ≡ verdictOn rs
-  pub short : (rs : List Row) → All Typed rs → verdictOn rs ≡ Accepted → length (tableBytes rs) ≤ maxBytes
-  -- 1, 2 and 3 are never given
+  pub reader : (rs : List Row) → length (tableBytes rs) ≤ limitOf (formAt (tableBytes rs) 0) → readTable (tableBytes rs) .verdict ≡ verdictOn rs
+  pub short : (rs : List Row) → All Typed rs → verdictOn rs ≡ Accepted → length (tableBytes rs) ≤ limitOf (formAt (tableBytes rs) 0)
+  -- 1 and 2 are never given
   pub numbers : (rs : List Row) → All Typed rs → {n place : ℕ} → verdictOn rs ≡ Faulty n place → RowsRefusal n
   -- no row at all is 11
   pub none : (room : ℕ) → writtenOf room [] ≡ Refused 11

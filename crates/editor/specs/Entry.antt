@@ -1,6 +1,6 @@
 -- The entries of the C editor (01, 'The C editor and the report'): what each returns, and what it leaves in the buffers it is lent.
 -- 01 has latency, misses, segment and save, 02 the check (request 1), the write (request 2), the merge and its conflicts (request 4), the misses
--- by the plain engine and by the sieve (request 6); reading into rows, where a record stands, the report as an entry, and the version, are ours.
+-- by the plain engine and by the sieve (request 6), the two conversions (request 7); reading into rows, where a record stands, the report as an entry, and the version, are ours.
 use Prim.Native.Nat.{ℕ, zero, suc, _*_, _-_}
 use mathlib.Core.Path.{_≡_}
 use mathlib.Core.List.{List, [], _∷_, _++_, map}
@@ -24,6 +24,8 @@ use Rattle.merging.specs.Versions.{Versions}
 use Rattle.merging.specs.Merge as merge
 use Rattle.writing.specs.Fill as fill
 use Rattle.writing.specs.Write as write
+use Rattle.converting.specs.Convert.{rowsIn, convertedOf}
+use Rattle.converting.specs.declared.To.{To}
 use Rattle.report_text.specs.Report.{reportOf}
 
 -- a signed number in two's complement
@@ -112,6 +114,11 @@ pub record WriteEntry (rows : List Row) (buffer answer bufferAfter answerAfter :
 pub record RecordEntry (table : List ℕ) (id : ℕ) (before after : List ℕ) (r : ℕ) : Type 0 where
   pub answers : Answered 2 (locate.numberOf (locate.locatedOf table id)) (locate.valuesOf (locate.locatedOf table id)) before after r
 
+-- convert, to either form: the used length, and the buffer as the conversion leaves it; 27 leaves that too
+pub record ConvertEntry (to : To) (table buffer answer bufferAfter answerAfter : List ℕ) (r : ℕ) : Type 0 where
+  pub answers : Answered 1 (write.numberOf (convertedOf to (length buffer) table)) (write.valuesOf (convertedOf to (length buffer) table)) answer answerAfter r
+  pub leaves : bufferAfter ≡ (buffer when ltb (length answer) 4 else write.bufferAfter (convertedOf to (length buffer) table) (rowsIn to table) buffer)
+
 -- report: 24 where its text is longer than the text buffer, else the text's length, and the text; a refused table has its text
 abbrev pub tooLong : List ℕ → List ℕ → Bool
 tooLong table text = ltb (length text) (length (reportOf table))
@@ -122,4 +129,4 @@ pub record ReportEntry (table text answer textAfter answerAfter : List ℕ) (r :
 
 -- the version of the entries, which a caller holds against its header's; a change of an answer, a refusal or an entry raises it
 abbrev pub version : ℕ
-version = 6
+version = 7

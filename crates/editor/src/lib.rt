@@ -1,4 +1,4 @@
-// The C editor's entries (document 01, 'The C editor and the report'; document 02, requests 1, 2, 4 and 6): numbers, bytes and rows only.
+// The C editor's entries (document 01, 'The C editor and the report'; document 02, requests 1, 2, 4, 6 and 7): numbers, bytes and rows only.
 // Each but the version returns 0 or the refusal's number; refused, every byte lent stays.
 use merging::Found;
 use merging::Merged;
@@ -17,14 +17,15 @@ ghost use Rattle.misses.specs.Misses.{numberOf as missesNumber, valuesOf as mis
 ghost use Rattle.merging.specs.Merge.{versions};
 ghost use Rattle.writing.specs.Fill.{numberOf as filledNumber, valuesOf as filledValues};
 ghost use Rattle.writing.specs.Write.{numberOf as writtenNumber, valuesOf as writtenValues};
-ghost use Rattle.editor.specs.Entry.{unsigned as unsignedOf, figureBytes, startingWith, Answered, LatencyEntry, MissesEntry, PlainEntry, AtMostEntry, SegmentEntry, SaveEntry, CheckEntry, MergeEntry, ConflictEntry, ReadEntry, WriteEntry, RecordEntry, ReportEntry, version};
+ghost use Rattle.editor.specs.Entry.{unsigned as unsignedOf, figureBytes, startingWith, Answered, LatencyEntry, MissesEntry, PlainEntry, AtMostEntry, SegmentEntry, SaveEntry, CheckEntry, MergeEntry, ConflictEntry, ReadEntry, WriteEntry, RecordEntry, ConvertEntry, ReportEntry, version};
+ghost use Rattle.converting.specs.declared.To.the-variants.{Largest, Gap};
 ghost use Rattle.editor.specs.code.Single.{singleOf};
 
 // What an entry returns where it has answered.
 const ANSWERED: u32 = 0;
 
 // Raised by each change that a caller can see, in the header and in specs/ too.
-const VERSION: u32 = 6;
+const VERSION: u32 = 7;
 
 // A signed number in two's complement.
 fn unsigned(x: i32) -> u32
@@ -294,7 +295,7 @@ pub extern "C" fn mishtodran_read(table: &[u8], rows: &mut [Row], answer: &mut [
     put_filled(writing::read(table, rows), answer)
 }
 
-// What writing from rows answers, put into an answer buffer.
+// What a write or a conversion answers, put into an answer buffer.
 fn put_written(written: Written, answer: &mut [u8]) -> u32
     requires { ⌜ 4 ≤ length (now answer) ⌝ }
     ensures { λ r. ⌜ Answered 1 (writtenNumber written) (writtenValues written) (now (answer .entry)) (now (answer .exit)) r ⌝ }
@@ -336,6 +337,28 @@ pub extern "C" fn mishtodran_record(table: &[u8], id: u32, answer: &mut [u8]) ->
         }
         slices::Located::Refused(n) => n,
     }
+}
+
+// Writes the table with largest distances in the place of gaps into a buffer: its length.
+#[no_mangle]
+pub extern "C" fn mishtodran_to_largest(table: &[u8], buffer: &mut [u8], answer: &mut [u8]) -> u32
+    ensures { λ r. ⌜ ConvertEntry Largest (now (table .entry)) (now (buffer .entry)) (now (answer .entry)) (now (buffer .exit)) (now (answer .exit)) r ⌝ }
+{
+    if answer.len() < 4 {
+        return 27;
+    }
+    put_written(converting::to_largest(table, buffer), answer)
+}
+
+// Writes the table with gaps in the place of largest distances into a buffer: its length.
+#[no_mangle]
+pub extern "C" fn mishtodran_to_gap(table: &[u8], buffer: &mut [u8], answer: &mut [u8]) -> u32
+    ensures { λ r. ⌜ ConvertEntry Gap (now (table .entry)) (now (buffer .entry)) (now (answer .entry)) (now (buffer .exit)) (now (answer .exit)) r ⌝ }
+{
+    if answer.len() < 4 {
+        return 27;
+    }
+    put_written(converting::to_gap(table, buffer), answer)
 }
 
 // The report's text at the start of a text buffer, and its length. It is made in a place of its own first, so that a text that does

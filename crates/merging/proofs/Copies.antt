@@ -19,12 +19,12 @@ use Rattle.table.specs.Find.{rowOf, findOf}
 use Rattle.table.specs.Read.{accepted, readTable, tableOf}
 use Rattle.table.specs.Place.{placeOf}
 use Rattle.table.specs.declared.Table.{Table}
-use Rattle.table.specs.declared.Verdict.{Verdict}
 use Rattle.table.specs.declared.Verdict.the-variants.{Accepted}
 use Rattle.table.specs.code.Taken.{Taken}
 use Rattle.table.proofs.Accepted.{taken}
 use Rattle.table.proofs.Firsts.{none-or}
 use Rattle.slices.specs.Stored.{recordOf}
+use Rattle.slices.proofs.Stored.{accepted-read}
 use Rattle.slices.proofs.Parts.{Parts, map-at}
 use Rattle.slices.proofs.Records.{recordsFrom, length-records, records-at, record-id, parts-of}
 use Rattle.merging.specs.Versions.{stateOf, idsOf}
@@ -68,7 +68,7 @@ module _ (s : List ℕ) (bytes : Bytes s) (verdict : readTable s .verdict ≡ Ac
   t = tableOf s
 
   pub read-as : readTable s ≡ accepted t
-  read-as = ap (λ (v : Verdict). record { verdict = v; table = t }) verdict
+  read-as = accepted-read s verdict
 
   held : Taken s
   held = taken s bytes verdict

@@ -10,6 +10,7 @@ use Rattle.search.specs.Choice.{_when_else_, byNumber}
 use Rattle.search.specs.Lists.{keep}
 use Rattle.search.proofs.Choice.{when-yes, when-no, when-cases}
 use Rattle.table.specs.Limits.{maxBytes}
+use Rattle.table.specs.Bytes.{word}
 use Rattle.table.specs.Record.{endRecord}
 use Rattle.table.specs.Read.{unless, readTable}
 use Rattle.table.specs.declared.Verdict.{Verdict}
@@ -17,6 +18,8 @@ use Rattle.table.specs.declared.Verdict.the-variants.{Accepted, Refused}
 use Rattle.table.specs.declared.Reading.{Reading}
 use Rattle.table.proofs.Words.{end-length}
 use Rattle.table.proofs.Firsts.{or-right}
+use Rattle.table.proofs.Widths.{beyond-both}
+use Rattle.table.proofs.Standing.{longestRecord}
 use Rattle.table.proofs.Steps.{read-long}
 use Rattle.table.proofs.Fields.{some-number}
 use Rattle.merging.specs.Versions.{Versions, three}
@@ -31,7 +34,7 @@ use Rattle.merging.proofs.Sizes.{taken-short, more-bytes}
 pub result-length : (states : List (List ℕ)) → length (resultFrom states) ≡ length (flatten states) + 4
 result-length states = length-append (flatten states) (endRecord (length (keep isRecord states))) ∙ ap (λ n. length (flatten states) + n) (end-length (length (keep isRecord states)))
 
-pub states-short : {ancestor first second : List ℕ} → AllTaken ancestor first second → (ids : List ℕ) → length (flatten (statesOf (three ancestor first second) ids)) ≤ 176 * length ids
+pub states-short : {ancestor first second : List ℕ} → AllTaken ancestor first second → (ids : List ℕ) → length (flatten (statesOf (three ancestor first second) ids)) ≤ longestRecord * length ids
 unfolding flatten
 states-short t [] = omega arith
 states-short {ancestor} {first} {second} t (id ∷ ids) =
@@ -65,7 +68,7 @@ module _ (v : Versions) (ids before : List ℕ) where
       }
 
       pub fits-long : maxBytes < length result → Fits v ids before (Result 1 0) before
-      fits-long l = fits-refused (ap (λ (r : Reading). r .verdict) (read-long result (or-right (eqb (length result) 0) _ (lt-ltb _ _ l))))
+      fits-long l = fits-refused (ap (λ (r : Reading). r .verdict) (read-long result (or-right (eqb (length result) 0) _ (beyond-both result (word 2 result 0) l))))
 
       pub fits-accepted : readTable result .verdict ≡ Accepted → Fits v ids before (Used (length result)) (result ++ drop (length result) before)
       unfolding unless

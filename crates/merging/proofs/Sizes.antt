@@ -10,11 +10,13 @@ use lib.ListN.{length, drop, getD, length-append, length-take}
 use Rattle.search.specs.Choice.{_when_else_}
 use Rattle.search.specs.Lists.{keep}
 use Rattle.search.proofs.Choice.{when-cases, lt-or-le}
-use Rattle.table.specs.Find.{findOf}
+use Rattle.table.specs.Find.{rowOf, findOf}
 use Rattle.table.specs.Read.{tableOf}
 use Rattle.table.specs.code.Taken.{Taken}
+use Rattle.table.proofs.Standing.{longestRecord}
 use Rattle.slices.specs.Slices.{same}
 use Rattle.slices.specs.Stored.{recordOf}
+use Rattle.slices.proofs.Stored.{record-most}
 use Rattle.merging.specs.Versions.{Versions, three, stateOf}
 use Rattle.merging.specs.Rule.{byStates, takenOf}
 use Rattle.merging.specs.Merge.{isRecord}
@@ -23,12 +25,12 @@ use Rattle.merging.specs.code.Size.{statesOf}
 use Rattle.merging.proofs.Rest.{rest}
 use Rattle.merging.proofs.Lookup.{state-used, state-unused}
 
--- a record has at most 176 bytes: 8 distances and 16 tasks
-state-short : {s : List ℕ} → Taken s → (id : ℕ) → length (stateOf s id) ≤ 176
+-- a state is no longer than a record can be
+state-short : {s : List ℕ} → Taken s → (id : ℕ) → length (stateOf s id) ≤ longestRecord
 unfolding recordOf
 state-short {s} t id = ⊎-elim
-    (λ h. let r = t .good .row (findOf (tableOf s) id) h in
-    rw (state-used s id h, length-take) (omega (arith, r .listed, r .list .few, r .tasks .few)))
+    (λ h. let chain = findOf (tableOf s) id in
+    rw (state-used s id h, length-take) (omega (arith, record-most (rowOf (tableOf s) chain) (t .good .row chain h))))
     (λ h. rw (state-unused s id h) (omega arith))
     (lt-or-le (findOf (tableOf s) id) (tableOf s .count))
 
@@ -39,9 +41,9 @@ unfolding byStates
 by-cases P was first second f s n =
     when-cases P (same first second) (λ e. f) (λ e. when-cases P (same first was) (λ g. s) (λ g. when-cases P (same second was) (λ h. f) (λ h. n)))
 
-pub taken-short : {ancestor first second : List ℕ} → AllTaken ancestor first second → (id : ℕ) → length (takenOf (three ancestor first second) id) ≤ 176
+pub taken-short : {ancestor first second : List ℕ} → AllTaken ancestor first second → (id : ℕ) → length (takenOf (three ancestor first second) id) ≤ longestRecord
 taken-short {ancestor} {first} {second} t id =
-    by-cases (λ (state : List ℕ). length state ≤ 176) (stateOf ancestor id) (stateOf first id) (stateOf second id)
+    by-cases (λ (state : List ℕ). length state ≤ longestRecord) (stateOf ancestor id) (stateOf first id) (stateOf second id)
     (state-short (t .of-first) id) (state-short (t .of-second) id) (omega arith)
 
 -- one state more: its bytes, and whether it is a record

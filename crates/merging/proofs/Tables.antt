@@ -1,25 +1,25 @@
 -- The result as a table: its records, its bytes, the state of each id, and why it can be refused. Assumes nothing.
-use Prim.Native.Nat.{ℕ, zero, suc, _+_, _/_, _<_, _≤_}
+use Prim.Native.Nat.{ℕ, zero, suc, _+_, _<_, _≤_}
 use native.Mathlib.Omega.{arith}
 use mathlib.Core.Path.{_≡_, refl, ap, sym, subst, _∙_}
-use mathlib.Core.List.{List, [], _∷_, _++_, map, flatten, append-nil, List·Permᴰ}
+use mathlib.Core.List.{List, [], _∷_, map, flatten, List·Permᴰ}
 use mathlib.Core.Logic.{⊎-elim}
 use mathlib.Core.Bool.{true, not}
 use lib.Dec.{eqb}
-use lib.ListN.{length, getD, drop, length-append, length-map}
+use lib.ListN.{length, getD, take, drop, length-append, length-map}
 use lib.Seq.{ext-getD}
 use borrow.Author.Tests.{ltb-true, lt-ltb}
 use Rattle.search.specs.Choice.{_when_else_}
 use Rattle.search.specs.Lists.{sumOf, All, keep}
 use Rattle.search.proofs.Choice.{when-cases, lt-or-le}
 use Rattle.search.proofs.Keeping.{keep-length}
-use Rattle.search.proofs.Lists.{all-map, perm-sum, perm-length, sum-map}
-use Rattle.table.specs.Limits.{maxBytes}
+use Rattle.search.proofs.Lists.{all-map, perm-sum, perm-length, perm-all, sum-map}
+use Rattle.table.specs.Limits.{maxChains, maxAllTasks}
 use Rattle.table.specs.Bytes.{word, bytesOf, Bytes}
-use Rattle.table.specs.Record.{tasksAt, rowAt}
+use Rattle.table.specs.Record.{formAt, tasksAt, rowAt, endRecord}
 use Rattle.table.specs.Fault.{markOf}
 use Rattle.table.specs.Find.{rowOf, rows}
-use Rattle.table.specs.Read.{accepted, readTable, tableOf}
+use Rattle.table.specs.Read.{limitOf, readTable, tableOf}
 use Rattle.table.specs.Place.{lengthOf, placeOf}
 use Rattle.table.specs.code.Good.{GoodTable}
 use Rattle.table.specs.declared.Row.{Row}
@@ -28,19 +28,17 @@ use Rattle.table.specs.declared.Table.{Table}
 use Rattle.table.specs.declared.Mark.the-variants.{End}
 use Rattle.table.specs.declared.Verdict.{Verdict}
 use Rattle.table.specs.declared.Verdict.the-variants.{Accepted, Refused}
-use Rattle.table.proofs.Words.{length-bytes, word-bytes}
 use Rattle.table.proofs.Firsts.{or-right, not-accepted}
 use Rattle.table.proofs.Steps.{read-long}
 use Rattle.table.proofs.Accepted.{taken}
-use Rattle.slices.specs.Stored.{recordOf}
+use Rattle.slices.specs.Stored.{recordOf, formIn, OneForm, Mixed}
 use Rattle.slices.proofs.Bytes.{bytes-append, bytes-take, bytes-drop, bytes-flatten}
-use Rattle.slices.proofs.Parts.{Parts, rowIn, map-at}
+use Rattle.slices.proofs.Parts.{Parts, rowIn, all-at, map-at}
 use Rattle.slices.proofs.Parsed.{parts-rows}
-use Rattle.slices.proofs.Records.{recordsFrom, length-records, records-at, parts-count, parts-record}
-use Rattle.slices.proofs.Sound.{Sound, record-sound, TooMuch, too-much}
+use Rattle.slices.proofs.Records.{recordsFrom, length-records, records-at, record-form, parts-count, parts-record, parts-form}
+use Rattle.slices.proofs.Sound.{Sound, record-sound, tasksIn, NoTable, tasks-first, limit-least, no-table, mixed-refused}
 use Rattle.merging.specs.Versions.{Versions, stateOf, idsOf}
 use Rattle.merging.specs.Rule.{takenOf, among, joined, order}
-use Rattle.table.specs.Record.{endRecord}
 use Rattle.merging.specs.Merge.{isRecord, takenRecords, resultOf}
 use Rattle.merging.proofs.Sizes.{by-cases}
 use Rattle.table.proofs.Words.{bytes-of, end-length, end-mark-word, end-count}
@@ -90,10 +88,11 @@ end-mark : (n : ℕ) → markOf (word 2 (endRecord n) 0) ≡ End
 unfolding markOf _when_else_
 end-mark n = ap markOf (end-mark-word n)
 
--- an accepted table is within the limit
-pub accepted-short : (s : List ℕ) → readTable s .verdict ≡ Accepted → length s ≤ maxBytes
+-- an accepted table is within the limit by its first mark
+pub accepted-short : (s : List ℕ) → readTable s .verdict ≡ Accepted → length s ≤ limitOf (word 2 s 0)
 accepted-short s e =
-    ⊎-elim (λ h. absurd (not-accepted (sym (ap (λ (r : Reading). r .verdict) (read-long s (or-right (eqb (length s) 0) _ (lt-ltb _ _ h)))) ∙ e))) (λ h. h) (lt-or-le maxBytes (length s))
+    ⊎-elim (λ h. absurd (not-accepted (sym (ap (λ (r : Reading). r .verdict) (read-long s (or-right (eqb (length s) 0) _ (lt-ltb _ _ h)))) ∙ e))) (λ h. h)
+    (lt-or-le (limitOf (word 2 s 0)) (length s))
 
 module _ (v : Versions) (e : Edited v) where
   taken-of : (P : List ℕ → Type 0)
@@ -152,9 +151,9 @@ module _ (v : Versions) (e : Edited v) where
       (map-at idIn (takenRecords v) i [] 0 a ∙ h ∙ sym (map-at idIn (takenRecords v) j [] 0 b))
 
   -- why it can be refused
-  pub refused-for : {n place : ℕ} → readTable (resultOf v) .verdict ≡ Refused n place → TooMuch (takenRecords v) n
+  pub refused-for : {n place : ℕ} → readTable (resultOf v) .verdict ≡ Refused n place → NoTable (takenRecords v) n
   refused-for =
-      too-much (takenRecords v) (endRecord (length (takenRecords v))) (resultOf v) result-parts all-sound apart
+      no-table (takenRecords v) (endRecord (length (takenRecords v))) (resultOf v) result-parts all-sound apart
       (end-mark (length (takenRecords v))) (end-count (length (takenRecords v)) few)
 
   pub result-bytes : Bytes (resultOf v)
@@ -163,6 +162,13 @@ module _ (v : Versions) (e : Edited v) where
       bytes-append (flatten (takenRecords v)) (endRecord (length (takenRecords v)))
       (bytes-flatten (takenRecords v) (taken-of Bytes (λ s bytes verdict chain h. bytes-take (lengthOf (rowOf (tableOf s) chain)) (drop (placeOf (tableOf s) chain) s) (bytes-drop (placeOf (tableOf s) chain) s bytes))))
       (bytes-append (bytesOf 2 20037) (bytesOf 2 (length (takenRecords v))) (bytes-of 2 20037) (bytes-of 2 (length (takenRecords v))))
+
+  -- mixed forms are 3, unless the length or a field before the first record of the other form is at fault
+  pub mixed-result : (i : ℕ) → Mixed (takenRecords v) i → length (resultOf v) ≤ limitOf (formIn (takenRecords v) 0) → i ≤ maxChains
+      → tasksIn (take i (takenRecords v)) ≤ maxAllTasks → (place : ℕ) × (readTable (resultOf v) .verdict ≡ Refused 3 place)
+  mixed-result =
+      mixed-refused (takenRecords v) (endRecord (length (takenRecords v))) (resultOf v) result-parts all-sound apart
+      (end-mark (length (takenRecords v))) (end-count (length (takenRecords v)) few) result-bytes
 
   -- an accepted result: its records are those taken, and each id has the state that was
   module _ (verdict : readTable (resultOf v) .verdict ≡ Accepted) where
@@ -179,6 +185,10 @@ module _ (v : Versions) (e : Edited v) where
         (λ j h. let l : j < t .count = omega (arith, h, n) in
         let z : 0 + j ≡ j = omega arith in
         records-at (resultOf v) (t .count) 0 j l ∙ ap (recordOf (resultOf v)) z ∙ parts-record (resultOf v) t read result-bytes rs end result-parts j l)
+
+    -- and have one form
+    pub result-form : OneForm (takenRecords v) (length (takenRecords v))
+    result-form = parts-form (resultOf v) t (read-as (resultOf v) result-bytes verdict) result-bytes (takenRecords v) (endRecord (length (takenRecords v))) result-parts
 
     pub result-state : (id : ℕ) → stateOf (resultOf v) id ≡ takenOf v id
     result-state id = state-picked (resultOf v) result-bytes verdict id ∙ ap (pick id) result-records ∙ taken-picked v e id
@@ -199,11 +209,12 @@ module _ (v : Versions) (e : Edited v) where
         short : length (flatten (takenRecords v)) ≡ 0
         short = ap (λ (rs : List (List ℕ)). length (flatten rs)) none-taken
 
-        number : {n : ℕ} → TooMuch (takenRecords v) n → n ≡ 11
-        number (TooMuch.bytes f h) = absurd (omega (arith, h, short))
-        number (TooMuch.tasks f h) = absurd (omega (arith, h, ap (sumOf (λ (r : List ℕ). tasksAt r 0)) none-taken))
-        number (TooMuch.chains f h) = absurd (omega (arith, h, ap length none-taken))
-        number (TooMuch.none f h) = f
+        number : {n : ℕ} → NoTable (takenRecords v) n → n ≡ 11
+        number (NoTable.bytes f h) = absurd (omega (arith, h, short, limit-least (formIn (takenRecords v) 0)))
+        number (NoTable.forms f i m) = absurd (omega (arith, m .one, ap length none-taken))
+        number (NoTable.tasks f i alike h) = absurd (omega (arith, h, tasks-first i (takenRecords v), ap tasksIn none-taken))
+        number (NoTable.chains f alike h) = absurd (omega (arith, h, ap length none-taken))
+        number (NoTable.none f h) = f
 
         by : (w : Verdict) → readTable (resultOf v) .verdict ≡ w → (place : ℕ) × (readTable (resultOf v) .verdict ≡ Refused 11 place) × (length (resultOf v) ≤ 4)
         by Accepted f = absurd (omega (arith, ap length (sym (result-records f)) ∙ length-records (resultOf v) (tableOf (resultOf v) .count) 0, ap length none-taken, taken (resultOf v) result-bytes f .good .some))
@@ -219,7 +230,7 @@ module _ (v : Versions) (e : Edited v) where
         let q = in-parts s bytes verdict in
         omega (arith, result-length, flatten-length (takenRecords v), flatten-length rs, perm-sum length p, ap length (q .bytes), length-append (flatten rs) (drop (placeOf (tableOf s) (tableOf s .count)) s), q .last)
 
-    same-tasks : sumOf (λ r. tasksAt r 0) (takenRecords v) ≡ tableOf s .tasks
+    same-tasks : tasksIn (takenRecords v) ≡ tableOf s .tasks
     unfolding rowAt
     same-tasks =
         let read = read-as s bytes verdict in
@@ -230,17 +241,27 @@ module _ (v : Versions) (e : Edited v) where
     same-count : length (takenRecords v) ≡ tableOf s .count
     same-count = sym (perm-length p) ∙ length-records s (tableOf s .count) 0
 
+    same-form : (i : ℕ) → i < length (takenRecords v) → formIn (takenRecords v) i ≡ formAt s 0
+    same-form i h =
+        let read = read-as s bytes verdict in
+        let all = records-of (λ (r : List ℕ). formAt r 0 ≡ formAt s 0) s (tableOf s .count) (record-form s (tableOf s) read bytes) (tableOf s .count) 0 (omega arith) in
+        all-at (λ (r : List ℕ). formAt r 0 ≡ formAt s 0) (takenRecords v) i [] (perm-all (λ (r : List ℕ). formAt r 0 ≡ formAt s 0) p all) h
+
     pub accepted-again : readTable (resultOf v) .verdict ≡ Accepted
     accepted-again = by (readTable (resultOf v) .verdict) refl
       where
         good : GoodTable (tableOf s)
         good = taken s bytes verdict .good
 
-        never : {n : ℕ} → TooMuch (takenRecords v) n → ⊥
-        never (TooMuch.bytes f h) = omega (arith, h, result-length, same-size, accepted-short s verdict)
-        never (TooMuch.tasks f h) = omega (arith, h, same-tasks, good .tasks-max)
-        never (TooMuch.chains f h) = omega (arith, h, same-count, good .few)
-        never (TooMuch.none f h) = omega (arith, h, same-count, good .some)
+        some : 0 < length (takenRecords v)
+        some = omega (arith, same-count, good .some)
+
+        never : {n : ℕ} → NoTable (takenRecords v) n → ⊥
+        never (NoTable.bytes f h) = omega (arith, h, ap limitOf (same-form 0 some), result-length, same-size, accepted-short s verdict)
+        never (NoTable.forms f i m) = m .other (same-form i (m .one) ∙ sym (same-form 0 some))
+        never (NoTable.tasks f i alike h) = omega (arith, h, tasks-first i (takenRecords v), same-tasks, good .tasks-max)
+        never (NoTable.chains f alike h) = omega (arith, h, same-count, good .few)
+        never (NoTable.none f h) = omega (arith, h, some)
 
         by : (w : Verdict) → readTable (resultOf v) .verdict ≡ w → w ≡ Accepted
         by Accepted f = refl

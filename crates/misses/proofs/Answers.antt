@@ -20,6 +20,7 @@ use Rattle.windows.specs.Demand.{viewsOf}
 use Rattle.windows.specs.Latency.{boundAt}
 use Rattle.windows.specs.declared.Windows.{Windows}
 use Rattle.search.specs.Lists.{some}
+use Rattle.arrivals.specs.Arrivals.{unknown}
 use Rattle.misses.specs.Overloads.{Overload, piecesOf}
 use Rattle.misses.specs.Bad.{Test}
 use Rattle.misses.specs.Misses.{earlyOf, badOf, roomOf, packingFigure, missedOf, byFigures, byBound, testedBeside, overloadsOf, testedAt, testedIn, testedOf}
@@ -77,13 +78,13 @@ module _ (b : Row) (k : ℕ) where
     early-overload h = when-no _ _ run ∙ when-yes _ _ (ap not (ne-eqb (b .overload) 0 h))
 
     module _ (typical : b .overload ≡ 0) where
-      pub early-gap : b .gap ≡ 0 → earlyOf b k ≡ 15
+      pub early-unknown : unknown b ≡ true → earlyOf b k ≡ 15
       unfolding earlyOf
-      early-gap e = when-no _ _ run ∙ when-no _ _ (ap not (eq-eqb (b .overload) 0 typical)) ∙ when-yes _ _ (eq-eqb (b .gap) 0 e)
+      early-unknown e = when-no _ _ run ∙ when-no _ _ (ap not (eq-eqb (b .overload) 0 typical)) ∙ when-yes _ _ e
 
-      pub early-none : (b .gap ≡ 0 → ⊥) → earlyOf b k ≡ 0
+      pub early-none : unknown b ≡ false → earlyOf b k ≡ 0
       unfolding earlyOf
-      early-none h = when-no _ _ run ∙ when-no _ _ (ap not (eq-eqb (b .overload) 0 typical)) ∙ when-no _ _ (ne-eqb (b .gap) 0 h)
+      early-none e = when-no _ _ run ∙ when-no _ _ (ap not (eq-eqb (b .overload) 0 typical)) ∙ when-no _ _ e
 
 -- a number refuses, 0 does not
 number-refuses : (n : ℕ) (rest : Answer) → (n ≡ 0 → ⊥) → byNumber Refused n rest ≡ Refused n

@@ -1,6 +1,6 @@
 -- The figures judged one after the other, each as the code works it out: every answer is the definition's, whatever the test of costs.
 -- Assumes nothing.
-use Prim.Native.Nat.{ℕ, _+_, _*_, _-_, _≤_, _<_}
+use Prim.Native.Nat.{ℕ, _+_, _-_, _≤_, _<_}
 use mathlib.Core.Path.{_≡_, ap, sym, _∙_}
 use mathlib.Core.Bool.{Bool, true, false}
 use mathlib.Core.List.{List}
@@ -59,10 +59,9 @@ module _ {t : Table} (good : GoodTable t) (chain : ℕ) (there : chain < t .coun
   pub judged-late : late ≡ 0 → (test : Test) → Misses 0 ≡ answer test
   judged-late e test = sym (none-late test b views os k close latency late last e)
 
-  module _ (some-late : late ≡ 0 → ⊥) {p : Pieces} (gathers : p ≡ gathered ((k - 1) * b .gap + latency) (overloads b (rows t))) where
+  module _ (some-late : late ≡ 0 → ⊥) {p : Pieces} (gathers : p ≡ gathered (largest b k + latency) (overloads b (rows t))) where
     is : p ≡ gathered (largest b k + latency) os
-    unfolding largest
-    is = gathers ∙ ap (gathered ((k - 1) * b .gap + latency)) beside
+    is = gathers ∙ ap (gathered (largest b k + latency)) beside
 
     count : p .count ≡ length (piecesOf os)
     count = held-count (largest b k + latency) os p is

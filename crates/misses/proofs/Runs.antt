@@ -3,15 +3,16 @@ use Prim.Native.Nat.{ℕ, zero, suc, _+_, _*_, _-_, _≤_, min}
 use mathlib.Core.Bool.{Bool, true, false}
 use mathlib.Core.List.{List, [], _∷_, _++_, map}
 use native.Mathlib.Omega.{arith}
-use native.Mathlib.Nat.{mul-le-mul-left, mul-le-mul-right}
+use native.Mathlib.Nat.{mul-le-mul-left}
 use lib.ListN.{getD}
 use Rattle.search.specs.Choice.{_when_else_, byNumber}
 use Rattle.search.specs.Lists.{All}
 use Rattle.search.proofs.Choice.{true-not-false, when-cases}
 use Rattle.table.specs.code.Good.{GoodRow, GoodDistances}
 use Rattle.table.specs.declared.Row.{Row}
-use Rattle.arrivals.specs.Arrivals.{η, largest}
+use Rattle.arrivals.specs.Arrivals.{η}
 use Rattle.arrivals.proofs.Counts.{η-mono}
+use Rattle.arrivals.proofs.Rows.{largest-mono}
 use Rattle.segments.specs.View.{View}
 use Rattle.windows.specs.Latency.{boundOf}
 use Rattle.windows.specs.declared.Answer.{Answer as Bound}
@@ -92,12 +93,10 @@ module _ (test : Test) (b : Row) (views : List View) (os : List Overload) where
   unfolding testedBeside
   beside-within k = number-within k (earlyOf b k) _ (bound-within k (boundOf b views .answer) (boundOf b views .last))
 
-  module _ (lists : All (λ o. GoodDistances (o .list)) os) (k long : ℕ) (longer : k ≤ long) where
+  module _ (good : GoodRow b) (lists : All (λ o. GoodDistances (o .list)) os) (k long : ℕ) (longer : k ≤ long) where
     room-grows : (latency : ℕ) → NoneAbove (roomOf b os k latency) (roomOf b os long latency)
-    unfolding roomOf largest
-    room-grows latency =
-        let less : k - 1 ≤ long - 1 = omega arith in
-        capacities-grow os lists _ _ (omega (arith, mul-le-mul-right (b .gap) less))
+    unfolding roomOf
+    room-grows latency = capacities-grow os lists _ _ (omega (arith, largest-mono good k long longer))
 
     missed-rises : (close latency late : ℕ) → missedOf test b views os k close latency late ≤ missedOf test b views os long close latency late
     unfolding missedOf packingFigure _when_else_

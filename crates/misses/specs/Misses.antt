@@ -1,4 +1,4 @@
--- The miss query (01, 'Misses' and 'Numbers given back'; 02, request 3), for any test that says which costs are bad: by windows it is the
+-- The miss query (01, 'Misses' and 'Numbers given back'; 02, requests 3 and 7), for any test that says which costs are bad: by windows it is the
 -- miss count, by the sieve (Sieve.antt) a number that this does not exceed.
 use Prim.Native.Nat.{ℕ, _+_, _*_, min}
 use mathlib.Core.Bool.{Bool, not}
@@ -12,7 +12,7 @@ use Rattle.table.specs.Find.{rowOf, findOf}
 use Rattle.table.specs.Read.{byVerdict, readTable, tableOf}
 use Rattle.table.specs.declared.Row.{Row}
 use Rattle.table.specs.declared.Table.{Table}
-use Rattle.arrivals.specs.Arrivals.{η, largest}
+use Rattle.arrivals.specs.Arrivals.{η, largest, unknown}
 use Rattle.segments.specs.View.{View}
 use Rattle.windows.specs.Demand.{others, viewsOf}
 use Rattle.windows.specs.Latency.{boundOf}
@@ -34,19 +34,20 @@ abbrev pub valuesOf : Answer → List ℕ
 valuesOf (Misses n) = n ∷ []
 valuesOf (Refused n) = []
 
--- before any window: k outside 1..1,000; an overload chain; a chain with gap 0; 0 for none of these
+-- before any window: k outside 1..1,000; an overload chain; a chain whose largest distances are unknown, by gap 0 or flag 0; 0 for none of
+-- these
 unfoldable pub earlyOf : Row → ℕ → ℕ
 earlyOf b k =
     13 when outside 1 maxRun k else
     14 when not (eqb (b .overload) 0) else
-    15 when eqb (b .gap) 0 else
+    15 when unknown b else
     0
 
 -- the overload chains beside a chain of a table
 abbrev pub overloadsOf : Table → ℕ → List Overload
 overloadsOf t chain = overloads (rowOf t chain) (others t chain)
 
--- capacity of each active segment of a: η_a((k − 1) times b's gap + latency) + 1
+-- capacity of each active segment of a: η_a(b's largest distance of k activations + latency) + 1
 unfoldable pub roomOf : Row → List Overload → ℕ → ℕ → List ℕ
 roomOf b os k latency = capacitiesOf (largest b k + latency) os
 

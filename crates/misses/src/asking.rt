@@ -8,11 +8,12 @@ use crate::testing::by_each;
 use crate::testing::by_lowest;
 use crate::testing::by_sieve;
 use arrivals::eta_up_to;
+use arrivals::largest;
+use arrivals::unknown;
 use table::Table;
 use table::Verdict;
 use table::count;
 use table::find;
-use table::gap_at;
 use table::judge;
 use table::overload_at;
 use table::place;
@@ -28,7 +29,7 @@ ghost use lib.Dec.{ltb};
 ghost use lib.ListN.{length};
 ghost use Rattle.table.specs.Limits.{horizon, maxOverloads, maxCapacity};
 ghost use Rattle.table.specs.declared.Row.{Row};
-ghost use Rattle.table.specs.Record.{rowAt};
+ghost use Rattle.table.specs.Record.{formAt, headLength, rowAt};
 ghost use Rattle.table.specs.Find.{rowOf, rows};
 ghost use Rattle.table.specs.code.Taken.{Taken, Stands};
 ghost use Rattle.table.specs.Read.{tableOf};
@@ -43,7 +44,7 @@ ghost use Rattle.misses.specs.code.Packings.{testOf, Ready, LeadsTo};
 
 // 13, 14 or 15, what is refused of the chain at `b` before any window; 0 for none of them.
 fn early(s: &[u8], b: usize, k: u32) -> u32
-    requires { ⌜ b + 16 ≤ length (now s) ⌝ }
+    requires { ⌜ b + headLength (formAt (now s) b) ≤ length (now s) ⌝ }
     ensures { λ r. ⌜ r ≡ earlyOf (rowAt (now (s .entry)) b) k ⌝ }
 {
     if k == 0 || Table::RUN < k {
@@ -52,7 +53,7 @@ fn early(s: &[u8], b: usize, k: u32) -> u32
     if overload_at(s, b) != 0 {
         return 14;
     }
-    if gap_at(s, b) == 0 {
+    if unknown(s, b) {
         return 15;
     }
     0
@@ -123,11 +124,7 @@ fn by_figures(s: &[u8], chain: usize, k: u32, f: Figures, how: How) -> Packings
         return Packings::answered(Answer::Misses(0));
     }
     let b = place(s, chain);
-    let p = Pieces::of(
-        s,
-        b,
-        (k - 1) as u64 * gap_at(s, b) as u64 + f.latency as u64,
-    );
+    let p = Pieces::of(s, b, largest(s, b, k) + f.latency as u64);
     if Table::OVERLOADS < p.count {
         return Packings::answered(Answer::Refused(18));
     }

@@ -7,10 +7,10 @@ use mathlib.Core.List.{List, [], _++_, flatten}
 use mathlib.Core.Bool.{true, false, not}
 use lib.ListN.{length, getD, drop, set, length-set}
 use lib.Seq.{getD-set-same, getD-set-other, set-getD, set-set}
-use lib.Dec.{eqb, ltb}
+use lib.Dec.{eqb}
 use borrow.Author.Tests.{le-ltb, eq-eqb, eqb-true, not-false}
-use Rattle.table.specs.Bytes.{word, Bytes}
-use Rattle.table.specs.Record.{idAt, lengthAt}
+use Rattle.table.specs.Bytes.{Bytes}
+use Rattle.table.specs.Record.{formAt, idAt, headLength, lengthAt}
 use Rattle.table.specs.Find.{rowOf, rows}
 use Rattle.table.specs.Fault.{markOf}
 use Rattle.table.specs.Read.{accepted, readTable, tableOf}
@@ -20,7 +20,7 @@ use Rattle.table.specs.declared.Mark.the-variants.{Chain, Task, End, Unknown}
 use Rattle.table.specs.declared.Table.{Table}
 use Rattle.search.proofs.Choice.{true-not-false}
 use Rattle.table.proofs.Firsts.{none-or}
-use Rattle.saving.specs.Save.{readFault, seenOf, isChain, unfit, resultOf}
+use Rattle.saving.specs.Save.{readFault, seenOf, isChain, cut, unfit, resultOf}
 use Rattle.slices.specs.Stored.{recordOf}
 use Rattle.slices.specs.Slices.{splice}
 use Rattle.slices.proofs.Sameness.{same-yes, same-true}
@@ -46,7 +46,7 @@ unfolding unfit
 fit-whole new id e =
     let e3 = none-or _ (not (eqb (idAt new 0) id)) e in
     let e2 = none-or _ (not (eqb (length new) (lengthAt new 0))) (e3 .0) in
-    let e1 = none-or (ltb (length new) 16) (not (isChain (markOf (word 2 new 0)))) (e2 .0) in (
+    let e1 = none-or (cut new) (not (isChain (markOf (formAt new 0)))) (e2 .0) in (
       record { mark = chain-mark _ (not-false _ (e1 .1)); long = eqb-true _ _ (not-false _ (e2 .1)) },
       eqb-true _ _ (not-false _ (e3 .1)),
     )
@@ -54,7 +54,7 @@ fit-whole new id e =
 -- and the other way round
 pub whole-fit : (r : List ℕ) (id : ℕ) → Whole r → idAt r 0 ≡ id → unfit r id ≡ false
 unfolding unfit
-whole-fit r id w e = rw (le-ltb (length r) 16 (omega (arith, w .long)), w .mark, eq-eqb _ _ (w .long), eq-eqb _ _ e)
+whole-fit r id w e = rw (le-ltb (length r) (headLength (formAt r 0)) (omega (arith, w .long)), w .mark, eq-eqb _ _ (w .long), eq-eqb _ _ e)
 
 -- a stored record over itself
 -- the result by its parts

@@ -3,18 +3,20 @@ use Prim.Native.Nat.{ℕ, _<_, _≤_}
 use native.Mathlib.Omega.{arith}
 use mathlib.Core.Path.{_≡_, refl, ap, sym, _∙_}
 use mathlib.Core.List.{List}
-use mathlib.Core.Logic.{_⊎_, inr, ⊎-elim}
+use mathlib.Core.Logic.{⊎-elim}
 use lib.ListN.{length}
-use lib.Dec.{eqb, ltb}
-use borrow.Author.Tests.{lt-ltb, eq-eqb}
+use lib.Dec.{eqb}
 use Rattle.search.proofs.Choice.{lt-or-le}
 use Rattle.table.specs.Limits.{maxBytes}
+use Rattle.table.specs.Bytes.{word}
 use Rattle.table.specs.Read.{accepted, readTable, numberOf, tableOf}
 use Rattle.table.specs.declared.Verdict.{Verdict}
 use Rattle.table.specs.declared.Verdict.the-variants.{Accepted, Refused}
-use Rattle.table.proofs.Firsts.{or-left, or-right}
+use Rattle.table.proofs.Widths.{beyond-both}
+use Rattle.table.proofs.Firsts.{or-right}
 use Rattle.table.proofs.Steps.{read-long}
 use Rattle.table.proofs.Fields.{some-number}
+use Rattle.slices.proofs.Stored.{accepted-read}
 use Rattle.saving.specs.Save.{readFault}
 
 -- a refusal is a number above 0
@@ -30,11 +32,11 @@ module _ (s : List ℕ) (none : readFault s ≡ 0) where
       by (Refused n place) e = absurd (refused-some s e none)
 
   pub read-accepted : readTable s ≡ accepted (tableOf s)
-  read-accepted = ap (λ v. record { verdict = v; table = tableOf s }) accepted-verdict
+  read-accepted = accepted-read s accepted-verdict
 
--- a table without a byte, or beyond the limit, is refused with 1
-pub read-out : (s : List ℕ) → (length s ≡ 0) ⊎ (maxBytes < length s) → readFault s ≡ 1
-read-out s h = rw (read-long s (⊎-elim (λ z. or-left _ (ltb maxBytes (length s)) (eq-eqb _ _ z)) (λ z. or-right (eqb (length s) 0) _ (lt-ltb _ _ z)) h))
+-- a table beyond the greater limit is refused with 1, whatever its first mark
+pub read-out : (s : List ℕ) → maxBytes < length s → readFault s ≡ 1
+read-out s h = rw (read-long s (or-right (eqb (length s) 0) _ (beyond-both s (word 2 s 0) h)))
 
 pub read-within : (s : List ℕ) → readFault s ≡ 0 → length s ≤ maxBytes
-read-within s e = ⊎-elim (λ h. absurd (omega (arith, e, read-out s (inr h)))) (λ h. h) (lt-or-le maxBytes (length s))
+read-within s e = ⊎-elim (λ h. absurd (omega (arith, e, read-out s h))) (λ h. h) (lt-or-le maxBytes (length s))

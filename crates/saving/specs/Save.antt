@@ -1,5 +1,5 @@
 -- Saving one record: given a buffer, the used length, the old record as the editor saw it, and the new (01, 'Saving one record').
-use Prim.Native.Nat.{ℕ, max, _+_, _-_}
+use Prim.Native.Nat.{ℕ, max, _-_}
 use mathlib.Core.Path.{_≡_}
 use mathlib.Core.List.{List, [], _∷_, _++_}
 use mathlib.Core.Bool.{Bool, true, false, not, _||_}
@@ -7,8 +7,7 @@ use lib.ListN.{length, take, drop, replicate}
 use lib.Dec.{ltb, eqb}
 use Rattle.search.specs.Choice.{_when_else_, byNumber}
 use Rattle.search.specs.Find.{first}
-use Rattle.table.specs.Bytes.{word}
-use Rattle.table.specs.Record.{idAt, lengthAt}
+use Rattle.table.specs.Record.{formAt, idAt, headLength, lengthAt}
 use Rattle.table.specs.Find.{rowOf}
 use Rattle.table.specs.Fault.{markOf}
 use Rattle.table.specs.Read.{numberOf as verdictNumber, byVerdict, readTable, tableOf}
@@ -44,11 +43,14 @@ isChain Task = false
 isChain End = false
 isChain Unknown = false
 
--- the new record is under 16 bytes, lacks mark `CH`, is not exactly as long as its own list length and task count say, or
--- bears another id
+-- a record lacks bytes of its fixed part, which is as long as its own mark says (02, request 7)
+abbrev pub cut : List ℕ → Bool
+cut r = ltb (length r) (headLength (formAt r 0))
+
+-- the new record is cut, lacks a chain's mark, is not exactly as long as its own mark, flag, list length and task count say, or bears
+-- another id
 unfoldable pub unfit : List ℕ → ℕ → Bool
-unfit new id =
-    ltb (length new) 16 || not (isChain (markOf (word 2 new 0))) || not (eqb (length new) (lengthAt new 0)) || not (eqb (idAt new 0) id)
+unfit new id = cut new || not (isChain (markOf (formAt new 0))) || not (eqb (length new) (lengthAt new 0)) || not (eqb (idAt new 0) id)
 
 -- the result: the new record in the old one's place
 unfoldable pub resultOf : List ℕ → List ℕ → List ℕ → List ℕ

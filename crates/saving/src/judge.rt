@@ -11,7 +11,7 @@ ghost use Rattle.table.specs.Limits.{maxBytes};
 ghost use Rattle.table.specs.Read.{numberOf, readTable};
 ghost use Rattle.table.specs.code.Taken.{Taken};
 ghost use Rattle.table.specs.declared.Verdict.the-variants.{Accepted};
-ghost use Rattle.saving.specs.Save.{seenOf, isChain, unfit as unfitOf, resultOf, resultFault, replaceFault, changeFault};
+ghost use Rattle.saving.specs.Save.{seenOf, isChain, cut as cutOf, unfit as unfitOf, resultOf, resultFault, replaceFault, changeFault};
 ghost use Rattle.slices.specs.Slices.{splice};
 ghost use Rattle.saving.specs.code.Ready.{Ready};
 
@@ -55,14 +55,24 @@ fn seen(s: &[u8], old: &[u8]) -> usize
     chain
 }
 
+// Whether the record lacks bytes of its fixed part; one without its mark, the first two, does.
+fn cut(new: &[u8]) -> bool
+    ensures { λ r. ⌜ r ≡ cutOf (now (new .entry)) ⌝ }
+{
+    if new.len() < 2 {
+        return true;
+    }
+    new.len() < table::head_length(table::form_at(new, 0))
+}
+
 // 23: whether the new record is no chain record by itself, or bears another id.
 fn unfit(new: &[u8], id: u16) -> bool
     ensures { λ r. ⌜ r ≡ unfitOf (now (new .entry)) id ⌝ }
 {
-    if new.len() < 16 {
+    if cut(new) {
         return true;
     }
-    if !is_chain(table::mark_of(table::u16_at(new, 0))) {
+    if !is_chain(table::mark_of(table::form_at(new, 0))) {
         return true;
     }
     if new.len() != table::record_length(new, 0) {
@@ -72,7 +82,7 @@ fn unfit(new: &[u8], id: u16) -> bool
 }
 
 // 24, then a table's numbers: the result of `new` in the place of `gone` bytes from `at` on. Only a result within the
-// limit is built, in `out`.
+// greater limit is built, in `out`; a longer one is 1 whatever its mark.
 fn result(s: &[u8], at: usize, gone: usize, new: &[u8], room: usize, out: &mut [u8]) -> u32
     requires { ⌜ (at + gone ≤ length (now s)) × (length (now out) ≡ maxBytes) ⌝ }
     ensures { λ r. ⌜ Ready (resultFault room (splice (now (s .entry)) at gone (now (new .entry)))) (splice (now (s .entry)) at gone (now (new .entry))) (now (out .exit)) r ⌝ }

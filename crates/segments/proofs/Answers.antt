@@ -2,7 +2,7 @@
 use Prim.Native.Nat.{ℕ, zero, suc, _+_, _*_, _-_, _<_, _≤_}
 use native.Mathlib.Omega.{arith}
 use mathlib.Core.Path.{_≡_, refl, ap, ap₂, sym, subst, _∙_}
-use mathlib.Core.List.{List, [], _∷_, _++_, map, flatten}
+use mathlib.Core.List.{List, [], _++_, map, flatten}
 use mathlib.Core.Bool.{not, _||_}
 use borrow.Author.Tests.{ltb-true, not-false}
 use lib.Dec.{eqb}
@@ -10,10 +10,10 @@ use lib.ListN.{length, getD, take, drop}
 use lib.Seq.{drop-drop, take-add}
 use Rattle.search.proofs.Choice.{when-cases}
 use Rattle.table.specs.Bytes.{word, Bytes}
-use Rattle.table.specs.Record.{priorityAt, costAt, afterList, taskRecord, rowAt}
+use Rattle.table.specs.Record.{priorityAt, costAt, firstTask, taskRecord, rowAt}
 use Rattle.table.specs.Fault.{markOf}
 use Rattle.table.specs.Find.{rowOf, findOf, used}
-use Rattle.table.specs.Place.{placeOf}
+use Rattle.table.specs.Place.{tasksStart, placeOf}
 use Rattle.table.specs.code.Taken.{Holds}
 use Rattle.table.specs.Read.{byVerdict, readTable, tableOf}
 use Rattle.table.specs.declared.Row.{Row}
@@ -22,7 +22,7 @@ use Rattle.table.specs.declared.Mark.the-variants as mark
 use Rattle.table.specs.declared.Verdict.{Verdict}
 use Rattle.table.specs.declared.Verdict.the-variants as verdict
 use Rattle.table.proofs.Marks.{task-there}
-use Rattle.table.proofs.Stands.{priority-at, cost-at}
+use Rattle.table.proofs.Stands.{priority-at, cost-at, tasks-there}
 use Rattle.table.proofs.Firsts.{none-or}
 use Rattle.table.proofs.Faultless.{inside}
 use Rattle.table.proofs.Accepted.{taken}
@@ -41,7 +41,7 @@ record Answered (t : Table) (id against number offset len : ℕ) : Type 0 where
   there : findOf t id < t .count
   low : 1 ≤ number
   high : number ≤ length (activesIn t (findOf t id) (findOf t against))
-  offset-is : offset ≡ afterList (placeOf t (findOf t id)) (rowOf t (findOf t id) .listed) + 8 * asked t id against number .start
+  offset-is : offset ≡ placeOf t (findOf t id) + tasksStart (rowOf t (findOf t id)) + 8 * asked t id against number .start
   length-is : len ≡ 8 * asked t id against number .len
 
 -- no refusal is a figure
@@ -112,7 +112,7 @@ module _ (s : List ℕ) (bytes : Bytes s) (id against number offset len : ℕ) (
   other = rowOf (tableOf s) (findOf (tableOf s) against)
 
   abbrev first : ℕ
-  first = afterList (placeOf (tableOf s) chain) (row .listed)
+  first = placeOf (tableOf s) chain + tasksStart row
 
   abbrev tasks : List Task
   tasks = getD (tasksIn (tableOf s) id against) (number - 1) []
@@ -135,10 +135,13 @@ module _ (s : List ℕ) (bytes : Bytes s) (id against number offset len : ℕ) (
   unfolding rowAt
   each-task i h =
       let at = placeOf (tableOf s) chain in
-      let values = subst (λ r. i < r .tasks → (priorityAt s (afterList at (r .listed) + 8 * i) ≡ getD (r .priority) i 0) × (costAt s (afterList at (r .listed) + 8 * i) ≡ getD (r .cost) i 0))
-      (holds .makes chain (answer-of .there)) (λ l. (sym (priority-at s at i l), sym (cost-at s at i l))) h in
-      task-bytes s (first + 8 * i) (task (row .priority) (row .cost) i) bytes (omega (arith, holds .inside chain (answer-of .there), h))
-      (holds .task-marks chain (answer-of .there) i h) (values .0) (values .1)
+      let makes = holds .makes chain (answer-of .there) in
+      let same : firstTask s at ≡ first = tasks-there s at ∙ ap (λ (r : Row). at + tasksStart r) makes in
+      let values = subst (λ (r : Row). i < r .tasks → (priorityAt s (firstTask s at + 8 * i) ≡ getD (r .priority) i 0) × (costAt s (firstTask s at + 8 * i) ≡ getD (r .cost) i 0))
+      makes (λ l. (sym (priority-at s at i l), sym (cost-at s at i l))) h in
+      rw (← same)
+      (task-bytes s (firstTask s at + 8 * i) (task (row .priority) (row .cost) i) bytes (omega (arith, same, holds .inside chain (answer-of .there), h))
+      (holds .task-marks chain (answer-of .there) i h) (values .0) (values .1))
 
   -- what is handed back is the task records of that active segment
   pub answer-records : TaskRecords s id against number (partOf s (Records offset len))

@@ -2,7 +2,6 @@
 use Prim.Native.Nat.{ℕ, _+_, _*_, _-_, _<_, _≤_}
 use native.Mathlib.Omega.{arith}
 use mathlib.Core.Path.{_≡_, ap, ap₂, sym, _∙_}
-use mathlib.Core.List.{List}
 use mathlib.Core.Bool.{Bool, true, false, not}
 use mathlib.Core.Logic.{_⊎_, ⊎-elim}
 use borrow.Author.Tests.{le-ltb, lt-ltb, ltb-false}
@@ -10,13 +9,9 @@ use lib.Dec.{ltb}
 use lib.ListN.{length, getD}
 use Rattle.search.proofs.Choice.{when-yes, when-no}
 use Rattle.table.specs.Find.{rowOf, findOf, used}
-use Rattle.table.specs.Place.{placeOf}
+use Rattle.table.specs.Place.{tasksStart, placeOf}
 use Rattle.table.specs.declared.Row.{Row}
 use Rattle.table.specs.declared.Table.{Table}
-use Rattle.table.specs.Record.{afterList, firstTask, rowAt}
-use Rattle.table.specs.code.Taken.{Taken}
-use Rattle.table.specs.Read.{tableOf}
-use Rattle.table.proofs.Stands.{row-there}
 use Rattle.table.proofs.Firsts.{or-left, or-right, or-none}
 use Rattle.table.proofs.Finds.{find-le}
 use Rattle.segments.specs.Tasks.{tasksOf, floorOf, tailOf}
@@ -43,12 +38,6 @@ module _ (t : Table) (id : ℕ) where
 pub found-is : (a b : Row) (floor tail : ℕ) (l : Actives) → floor ≡ floorOf b → tail ≡ tailOf b → l ≡ arraysOf (actives floor tail (tasksOf a))
     → l ≡ arraysOf (activesOf a b)
 found-is a b floor tail l f t e = e ∙ ap₂ (λ x y. arraysOf (actives x y (tasksOf a))) f t
-
--- where a chain's task records start, by its record
-pub first-there : {s : List ℕ} (t : Taken s) {chain at : ℕ} → at ≡ placeOf (tableOf s) chain → chain < tableOf s .count
-    → firstTask s at ≡ afterList (placeOf (tableOf s) chain) (rowOf (tableOf s) chain .listed)
-unfolding rowAt
-first-there t e h = omega (arith, e, ap (λ (r : Row). r .listed) (row-there t e h))
 
 -- the active segment n, counted from 1, out of the arrays: it lies inside its chain
 pub record Fetched (a b : Row) (l : Actives) (n : ℕ) : Type 0 where
@@ -77,7 +66,7 @@ module _ (t : Table) (chain other n : ℕ) (l : Actives) (e : l ≡ arraysOf (ac
   nth-none h = sym (when-yes _ _ (⊎-elim (λ z. or-left _ _ (lt-ltb n 1 (omega arith))) (λ z. or-right (ltb n 1) _ (count-is true z)) h))
 
   -- the task records of the one that has it, where those of its chain start at `first`
-  pub nth-records : (first : ℕ) → first ≡ afterList (placeOf t chain) (rowOf t chain .listed) → (n ≡ 0 → ⊥) → ltb (l .count) n ≡ false
+  pub nth-records : (first : ℕ) → first ≡ placeOf t chain + tasksStart (rowOf t chain) → (n ≡ 0 → ⊥) → ltb (l .count) n ≡ false
       → Records (first + 8 * getD (l .start) (n - 1) 0) (8 * getD (l .len) (n - 1) 0) ≡ nthOf t chain other n
   unfolding nthOf
   nth-records first p some few =

@@ -8,9 +8,9 @@ use lib.Dec.{eqb}
 use denote.Ref.{RefT, ptr, now}
 use Rattle.search.specs.Choice.{_when_else_}
 use Rattle.table.specs.Find.{rowOf, findOf, used}
-use Rattle.table.specs.Record.{afterList, taskRecord}
+use Rattle.table.specs.Record.{taskRecord}
 use Rattle.table.specs.Fault.{outside}
-use Rattle.table.specs.Place.{placeOf}
+use Rattle.table.specs.Place.{placeOf, tasksStart}
 use Rattle.table.specs.Read.{byVerdict, readTable, tableOf}
 use Rattle.table.specs.declared.Table.{Table}
 use Rattle.segments.specs.Tasks.{Task}
@@ -34,7 +34,7 @@ activesIn t chain other = activesOf (rowOf t chain) (rowOf t other)
 
 -- the task records of an active segment of a chain, 8 bytes each: their offset from the table's first byte, and their length
 abbrev pub recordsOf : Table → ℕ → Active → Answer
-recordsOf t chain s = Records (afterList (placeOf t chain) (rowOf t chain .listed) + 8 * s .start) (8 * s .len)
+recordsOf t chain s = Records (placeOf t chain + tasksStart (rowOf t chain) + 8 * s .start) (8 * s .len)
 
 -- the active segment of that number, counted from 1; 26 if there is none
 unfoldable pub nthOf : Table → ℕ → ℕ → ℕ → Answer

@@ -2,6 +2,7 @@
 use Prim.Native.Nat.{ℕ, _+_, _-_, _<_, _≤_}
 use native.Mathlib.Omega.{arith}
 use native.Mathlib.Numerals.{add-one}
+use native.Mathlib.Decide.{ℕ-discrete}
 use mathlib.Core.Path.{_≡_, refl, ap, sym, subst, _∙_}
 use mathlib.Core.List.{List, [], _∷_, _++_, map, flatten, append-assoc, append-nil}
 use mathlib.Core.Bool.{_||_}
@@ -11,12 +12,12 @@ use lib.Seq.{getD-drop, drop-drop, drop-at, take-suc-set}
 use lib.Dec.{eqb, ltb}
 use Rattle.search.specs.Lists.{All}
 use Rattle.search.proofs.Choice.{when-cases, lt-or-le}
-use Rattle.table.specs.Limits.{maxChains, maxBytes}
+use Rattle.table.specs.Limits.{maxChains}
 use Rattle.table.specs.Bytes.{word}
-use Rattle.table.specs.Record.{lengthAt, rowAt}
+use Rattle.table.specs.Record.{formAt, lengthAt, rowAt}
 use Rattle.table.specs.Find.{rows}
 use Rattle.table.specs.Fault.{markOf, chainFault, endFault}
-use Rattle.table.specs.Read.{empty, plus, refusal, accepted, unless, byMark, records, readTable}
+use Rattle.table.specs.Read.{empty, plus, refusal, accepted, unless, byMark, records, limitOf, readTable}
 use Rattle.table.specs.declared.Reading.{Reading}
 use Rattle.table.specs.declared.Table.{Table}
 use Rattle.table.specs.declared.Mark.{Mark}
@@ -25,7 +26,7 @@ use Rattle.table.specs.declared.Verdict.{Verdict}
 use Rattle.table.specs.declared.Verdict.the-variants.{Accepted, Refused}
 use Rattle.table.proofs.Firsts.{not-accepted}
 use Rattle.table.proofs.Faultless.{chain-right}
-use Rattle.table.proofs.Steps.{records-mark, records-full, records-chain}
+use Rattle.table.proofs.Steps.{records-mark, records-other, records-full, records-chain}
 use Rattle.slices.proofs.Moved.{SameBytes, length-moved, mark-moved, row-moved}
 use Rattle.slices.proofs.Parts.{Whole, Parts, rowIn}
 
@@ -51,14 +52,17 @@ module _ (s : List ℕ) where
     passes : (r : Reading) → go at t ≡ r → r .verdict ≡ Accepted
     passes r e = subst (λ (x : Reading). x .verdict ≡ Accepted) e a
 
-    -- a chain's mark: it was read without a fault, and reading went on after it
+    -- a chain's mark: it was the first record's, the chain was read without a fault, and reading went on after it
     chain-read : markOf (word 2 s at) ≡ Chain → (t .count < maxChains) × (chainFault s at t ≡ Accepted) × (go at t ≡ go (at + lengthAt s at) (plus t (rowAt s at)))
-    chain-read m = ⊎-elim
-        (λ h. let f = records-chain s at t there m h in
-        let g = unless-passed (chainFault s at t) _ (passes _ f) in
-        (h, g .0, f ∙ g .1))
-        (λ h. absurd (not-accepted (passes (refusal 11 at) (records-full s at t there m (omega arith)))))
-        (lt-or-le (t .count) maxChains)
+    chain-read m = elim (ℕ-discrete (formAt s at) (formAt s 0)) [ yes form ↦ alike form | no other ↦ absurd (not-accepted (passes (refusal 3 at) (records-other s at t there m (maxChains - t .count) other))) ]
+      where
+        alike : formAt s at ≡ formAt s 0 → (t .count < maxChains) × (chainFault s at t ≡ Accepted) × (go at t ≡ go (at + lengthAt s at) (plus t (rowAt s at)))
+        alike form = ⊎-elim
+            (λ h. let f = records-chain s at t there m form h in
+            let g = unless-passed (chainFault s at t) _ (passes _ f) in
+            (h, g .0, f ∙ g .1))
+            (λ h. absurd (not-accepted (passes (refusal 11 at) (records-full s at t there m form (omega arith)))))
+            (lt-or-le (t .count) maxChains)
 
     -- any other: it was the end's, and nothing was added
     end-read : (markOf (word 2 s at) ≡ Chain → ⊥) → go at t .table ≡ t
@@ -103,7 +107,7 @@ module _ (s : List ℕ) where
 started : (s : List ℕ) (t : Table) → readTable s ≡ accepted t → records maxChains s 0 empty ≡ accepted t
 unfolding readTable
 started s t =
-    when-cases (λ r. r ≡ accepted t → records maxChains s 0 empty ≡ accepted t) (eqb (length s) 0 || ltb maxBytes (length s))
+    when-cases (λ r. r ≡ accepted t → records maxChains s 0 empty ≡ accepted t) (eqb (length s) 0 || ltb (limitOf (word 2 s 0)) (length s))
     (λ e f. absurd (not-accepted (ap (λ (r : Reading). r .verdict) f))) (λ e f. f)
 
 -- the rows of an accepted table are those of its records

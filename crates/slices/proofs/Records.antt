@@ -7,8 +7,7 @@ use lib.ListN.{length, getD, take, drop, set, take-append-drop, length-take, len
 use lib.Seq.{getD-take, getD-drop, take-take, drop-drop}
 use Rattle.search.specs.Lists.{sumOf, All}
 use Rattle.table.specs.Bytes.{Bytes}
-use Rattle.table.specs.Record.{idAt, lengthAt, rowAt}
-use Rattle.table.specs.Record.{blank}
+use Rattle.table.specs.Record.{formAt, idAt, lengthAt, rowAt, blank}
 use Rattle.table.specs.Find.{rowOf}
 use Rattle.table.specs.Fault.{markOf}
 use Rattle.table.specs.Read.{accepted, readTable}
@@ -16,7 +15,7 @@ use Rattle.table.specs.Place.{lengthOf, placeOf}
 use Rattle.table.specs.declared.Row.{Row}
 use Rattle.table.specs.declared.Table.{Table}
 use Rattle.table.proofs.Standing.{place-none, place-on}
-use Rattle.slices.specs.Stored.{recordOf}
+use Rattle.slices.specs.Stored.{recordOf, formIn}
 use Rattle.slices.specs.Slices.{splice}
 use Rattle.slices.proofs.Stored.{record-is, stored-good, stored-holds, record-size}
 use Rattle.slices.proofs.Moved.{SameBytes, length-moved, mark-moved, row-moved}
@@ -64,6 +63,14 @@ module _ (s : List ℕ) (t : Table) (read : readTable s ≡ accepted t) (bytes :
     pub record-id : idAt (recordOf s chain) 0 ≡ rowOf t chain .id
     unfolding rowAt
     record-id = ap (λ (r : Row). r .id) record-row
+
+  -- each has the form of the first mark
+  pub record-form : (chain : ℕ) → chain < t .count → formAt (recordOf s chain) 0 ≡ formAt s 0
+  unfolding rowAt
+  record-form chain h =
+      let good = stored-good s t read bytes in
+      ap (λ (r : Row). r .form) (record-row chain h) ∙ good .forms chain h
+      ∙ sym (ap (λ (r : Row). r .form) (ap (rowAt s) (place-none t) ∙ stored-holds s t read bytes .makes 0 (good .some)))
 
   -- no two bear one id
   pub record-alone : (j chain : ℕ) → j < t .count → chain < t .count → idAt (recordOf s j) 0 ≡ idAt (recordOf s chain) 0 → j ≡ chain
@@ -124,3 +131,11 @@ module _ (s : List ℕ) (t : Table) (read : readTable s ≡ accepted t) (bytes :
     -- another record in the place of one
     pub parts-put : (new : List ℕ) → Whole new → Parts (splice s (placeOf t chain) (lengthOf (rowOf t chain)) new) (set rs chain new) e
     parts-put new w = parts-splice s rs e p chain within (placeOf t chain) (lengthOf (rowOf t chain)) place-there size-is new w
+
+  -- and all have the first one's form
+  pub parts-form : (chain : ℕ) → chain < length rs → formIn rs chain ≡ formIn rs 0
+  unfolding rowAt
+  parts-form chain h =
+      let good = stored-good s t read bytes in
+      let l : chain < t .count = omega (arith, parts-count) in
+      ap (λ (r : Row). r .form) (sym (row-there chain l)) ∙ good .forms chain l ∙ ap (λ (r : Row). r .form) (row-there 0 (good .some))

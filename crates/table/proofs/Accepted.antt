@@ -4,7 +4,7 @@ use native.Mathlib.Omega.{arith}
 use native.Mathlib.Numerals.{add-one}
 use mathlib.Core.Path.{_≡_, refl, ap, sym, _∙_}
 use mathlib.Core.List.{List}
-use mathlib.Core.Bool.{false, _||_}
+use mathlib.Core.Bool.{false, not, _||_}
 use borrow.Author.Count.{below-more}
 use borrow.Author.Tests.{ltb-false, eqb-false, eqb-true, not-false}
 use lib.ListN.{length, take, set, length-set, length-replicate, getD-replicate}
@@ -14,12 +14,12 @@ use Rattle.search.specs.Lists.{sumOf}
 use Rattle.search.proofs.Choice.{when-cases}
 use Rattle.search.proofs.Find.{first-miss}
 use Rattle.search.proofs.Lists.{sum-append}
-use Rattle.table.specs.Limits.{maxChains, maxAllTasks, maxBytes}
+use Rattle.table.specs.Limits.{maxChains, maxAllTasks}
 use Rattle.table.specs.Bytes.{word, Bytes}
-use Rattle.table.specs.Record.{blank, idAt, afterList, lengthAt, rowAt}
+use Rattle.table.specs.Record.{blank, formAt, idAt, firstTask, lengthAt, rowAt}
 use Rattle.table.specs.Find.{rowOf, rows, findOf, used}
 use Rattle.table.specs.Fault.{markOf, chainFault, endFault}
-use Rattle.table.specs.Read.{empty, plus, refusal, accepted, unless, byMark, start, records, readTable}
+use Rattle.table.specs.Read.{empty, plus, refusal, accepted, unless, byMark, formed, start, records, limitOf, readTable}
 use Rattle.table.specs.Place.{lengthOf, placeOf}
 use Rattle.table.specs.code.Good.{GoodRow, GoodTable}
 use Rattle.table.specs.code.Taken.{Taken, Holds}
@@ -40,6 +40,7 @@ record RowsKept (s : List ℕ) (at : ℕ) (t : Table) : Type 0 where
   few : t .count ≤ maxChains
   long : length (t .row) ≡ maxChains
   row : (chain : ℕ) → chain < t .count → GoodRow (rowOf t chain)
+  forms : (chain : ℕ) → chain < t .count → rowOf t chain .form ≡ formAt s 0
   ids : (other chain : ℕ) → other < t .count → chain < t .count → rowOf t other .id ≡ rowOf t chain .id → other ≡ chain
   past : (chain : ℕ) → t .count ≤ chain → chain < maxChains → rowOf t chain ≡ blank
   tasks : t .tasks ≡ sumOf (λ r. r .tasks) (rows t)
@@ -47,7 +48,7 @@ record RowsKept (s : List ℕ) (at : ℕ) (t : Table) : Type 0 where
   place : at ≡ placeOf t (t .count)
   marks : (chain : ℕ) → chain < t .count → markOf (word 2 s (placeOf t chain)) ≡ Chain
   makes : (chain : ℕ) → chain < t .count → rowAt s (placeOf t chain) ≡ rowOf t chain
-  task-marks : (chain : ℕ) → chain < t .count → (i : ℕ) → i < rowOf t chain .tasks → markOf (word 2 s (afterList (placeOf t chain) (rowOf t chain .listed) + 8 * i)) ≡ Task
+  task-marks : (chain : ℕ) → chain < t .count → (i : ℕ) → i < rowOf t chain .tasks → markOf (word 2 s (firstTask s (placeOf t chain) + 8 * i)) ≡ Task
   inside : (chain : ℕ) → chain < t .count → placeOf t chain + lengthOf (rowOf t chain) ≤ length s
 
 kept-empty : (s : List ℕ) → RowsKept s 0 empty
@@ -56,6 +57,7 @@ kept-empty s = record {
   few = omega arith;
   long = length-replicate maxChains blank;
   row = λ chain h. absurd (omega (arith, h));
+  forms = λ chain h. absurd (omega (arith, h));
   ids = λ other chain h g e. absurd (omega (arith, h));
   past = λ chain h g. getD-replicate maxChains chain blank blank g;
   tasks = refl;
@@ -76,7 +78,7 @@ fresh t id e chain h =
 
 -- one row more
 module _ (s : List ℕ) (at : ℕ) (t : Table) (g : RowsKept s at t) (bytes : Bytes s) (room : t .count < maxChains)
-    (mark : markOf (word 2 s at) ≡ Chain) (right : chainFault s at t ≡ Accepted) where
+    (mark : markOf (word 2 s at) ≡ Chain) (form : formAt s at ≡ formAt s 0) (right : chainFault s at t ≡ Accepted) where
   abbrev r : Row
   r = rowAt s at
 
@@ -108,7 +110,8 @@ module _ (s : List ℕ) (at : ℕ) (t : Table) (g : RowsKept s at t) (bytes : By
       record {
         few = omega arith;
         long = simp length-set (g .long);
-        row = more (λ chain. GoodRow (rowOf (plus t r) chain)) (λ chain h. rw (old chain h) (g .row chain h)) (rw new (row-good s at t bytes right));
+        row = more (λ chain. GoodRow (rowOf (plus t r) chain)) (λ chain h. rw (old chain h) (g .row chain h)) (rw new (row-good s at t bytes mark right));
+        forms = more (λ chain. rowOf (plus t r) chain .form ≡ formAt s 0) (λ chain h. rw (old chain h) (g .forms chain h)) (rw new form);
         ids = ids;
         past = λ chain h l. getD-set-other (t .row) (t .count) chain r blank (λ e. omega (arith, e, h)) ∙ g .past chain (omega (arith, h)) l;
         tasks = tasks;
@@ -117,7 +120,7 @@ module _ (s : List ℕ) (at : ℕ) (t : Table) (g : RowsKept s at t) (bytes : By
         marks = more (λ chain. markOf (word 2 s (placeOf (plus t r) chain)) ≡ Chain) (λ chain h. rw (before chain (omega arith)) (g .marks chain h)) (rw here mark);
         makes = more (λ chain. rowAt s (placeOf (plus t r) chain) ≡ rowOf (plus t r) chain) (λ chain h. rw (before chain (omega arith), old chain h) (g .makes chain h)) (rw (here, new));
         task-marks =
-            more (λ chain. (i : ℕ) → i < rowOf (plus t r) chain .tasks → markOf (word 2 s (afterList (placeOf (plus t r) chain) (rowOf (plus t r) chain .listed) + 8 * i)) ≡ Task)
+            more (λ chain. (i : ℕ) → i < rowOf (plus t r) chain .tasks → markOf (word 2 s (firstTask s (placeOf (plus t r) chain) + 8 * i)) ≡ Task)
             (λ chain h. rw (before chain (omega arith), old chain h) (g .task-marks chain h)) (rw (here, new) (λ i h. c .tasks i h .mark));
         inside = more (λ chain. placeOf (plus t r) chain + lengthOf (rowOf (plus t r) chain) ≤ length s) (λ chain h. rw (before chain (omega arith), old chain h) (g .inside chain h)) (rw (here, new) (c .there));
       }
@@ -163,7 +166,7 @@ end-sound s at t g mark e a =
     let count = when-none _ _ _ _ (some .1) in
     let none : t .count ≡ 0 → ⊥ = eqb-false _ _ (some .0) in
     let last : length s ≡ at + 4 = eqb-true _ _ (not-false _ (when-none _ _ _ _ (count .1) .0)) in (
-      record { some = omega arith; few = g .few; row = g .row; ids = g .ids; past = g .past; size = g .long; tasks = g .tasks; tasks-max = g .tasks-max },
+      record { some = omega arith; few = g .few; row = g .row; forms = λ chain h. g .forms chain h ∙ sym (g .forms 0 (omega arith)); ids = g .ids; past = g .past; size = g .long; tasks = g .tasks; tasks-max = g .tasks-max },
       record {
         marks = g .marks;
         makes = g .makes;
@@ -175,28 +178,29 @@ end-sound s at t g mark e a =
       },
     )
 
-start-sound : (s : List ℕ) (at : ℕ) (t : Table) (chain : Reading) → RowsKept s at t → (markOf (word 2 s at) ≡ Chain → GoodReading s chain) → GoodReading s (start s at t chain)
-unfolding start
+start-sound : (s : List ℕ) (at : ℕ) (t : Table) (chain : Reading) → RowsKept s at t → (markOf (word 2 s at) ≡ Chain → formAt s at ≡ formAt s 0 → GoodReading s chain)
+    → GoodReading s (start s at t chain)
+unfolding start formed
 start-sound s at t chain g f =
     when-cases (GoodReading s) (ltb (length s) (at + 2)) (λ e. refused s 2 (length s)) (λ e. by (markOf (word 2 s at)) refl)
   where
-    by : (m : Mark) → markOf (word 2 s at) ≡ m → GoodReading s (byMark at m chain (unless refusal (endFault s at t) (accepted t)))
-    by Chain e = f e
+    by : (m : Mark) → markOf (word 2 s at) ≡ m → GoodReading s (byMark at m (formed s at chain) (unless refusal (endFault s at t) (accepted t)))
+    by Chain e = when-cases (GoodReading s) (not (eqb (formAt s at) (formAt s 0))) (λ h. refused s 3 at) (λ h. f e (eqb-true _ _ (not-false _ h)))
     by Task e = refused s 3 at
     by End e = unless-sound s (endFault s at t) (accepted t) (end-sound s at t g e)
     by Unknown e = refused s 3 at
 
 records-sound : (left : ℕ) (s : List ℕ) (at : ℕ) (t : Table) → Bytes s → RowsKept s at t → t .count + left ≤ maxChains → GoodReading s (records left s at t)
 unfolding records
-records-sound zero s at t bytes g h = start-sound s at t (refusal 11 at) g (λ m. refused s 11 at)
+records-sound zero s at t bytes g h = start-sound s at t (refusal 11 at) g (λ m f. refused s 11 at)
 records-sound (suc left) s at t bytes g h =
     start-sound s at t _ g
-    (λ m. unless-sound s (chainFault s at t) (records left s (at + lengthAt s at) (plus t (rowAt s at)))
-    (λ e. records-sound left s (at + lengthAt s at) (plus t (rowAt s at)) bytes (kept-plus s at t g bytes (omega arith) m e) (omega arith)))
+    (λ m f. unless-sound s (chainFault s at t) (records left s (at + lengthAt s at) (plus t (rowAt s at)))
+    (λ e. records-sound left s (at + lengthAt s at) (plus t (rowAt s at)) bytes (kept-plus s at t g bytes (omega arith) m f e) (omega arith)))
 
 sound : (s : List ℕ) → Bytes s → GoodReading s (readTable s)
 unfolding readTable
-sound s bytes = when-cases (GoodReading s) (eqb (length s) 0 || ltb maxBytes (length s)) (λ e. refused s 1 0)
+sound s bytes = when-cases (GoodReading s) (eqb (length s) 0 || ltb (limitOf (word 2 s 0)) (length s)) (λ e. refused s 1 0)
     (λ e. records-sound maxChains s 0 empty bytes (kept-empty s) (omega arith))
 
 -- the bytes of an accepted table: within every limit, and they hold it

@@ -27,7 +27,7 @@ used-before t id k =
 
 -- there is a table for anything kept
 abbrev bearing : ℕ → Row
-bearing n = record { id = n; kind = 0; overload = 0; deadline = 0; gap = 0; listed = 0; tasks = 0; list = []; priority = []; cost = [] }
+bearing n = record { form = 0; id = n; kind = 0; overload = 0; flag = 0; deadline = 0; gap = 0; listed = 0; tasks = 0; list = []; largest = []; priority = []; cost = [] }
 
 ids-back : (ids : List ℕ) → ids ≡ map idOf (map bearing ids)
 ids-back [] = refl

@@ -9,9 +9,9 @@ use lib.Dec.{eqb}
 use borrow.Author.Tests.{ltb-false, eqb-false}
 use Rattle.table.specs.Limits.{maxDeadline, maxGap, maxDistances, maxTasks, maxAllTasks, maxCost}
 use Rattle.table.specs.Bytes.{word}
-use Rattle.table.specs.Record.{idAt, kindAt, overloadAt, deadlineAt, gapPlace, gapAt, listedAt, tasksAt, listPlace, firstTask, lengthAt, priorityAt, costAt, distancesAt}
+use Rattle.table.specs.Record.{formAt, idAt, kindAt, overloadAt, deadlineAt, gapPlace, gapAt, flagAt, headLength, listedAt, tasksAt, listPlace, largestPlace, firstTask, lengthAt, priorityAt, costAt, distancesAt, largestsAt}
 use Rattle.table.specs.Find.{used}
-use Rattle.table.specs.Fault.{outside, markOf, noTask, identityFault, timesFault, countsFault, headFault, fallFault, lastFault, gapFault, distancesFault, listFault, taskMarkFault, valuesFault, taskRestFault, taskFault, tasksFault, chainFault}
+use Rattle.table.specs.Fault.{outside, markOf, noTask, identityFault, timesFault, countsFault, headFault, fallFault, lastFault, gapFault, distancesFault, listFault, shortFault, largestFault, taskMarkFault, valuesFault, taskRestFault, taskFault, tasksFault, chainFault}
 use Rattle.table.specs.declared.Table.{Table}
 use Rattle.table.specs.declared.Mark.{Mark}
 use Rattle.table.specs.declared.Mark.the-variants.{Chain, Task, End, Unknown}
@@ -27,7 +27,7 @@ pub not-zero : (n : ℕ) → eqb n 0 ≡ false → 1 ≤ n
 not-zero n e = let h : n ≡ 0 → ⊥ = eqb-false _ _ e in omega arith
 
 pub record HeadRight (s : List ℕ) (at : ℕ) (t : Table) : Type 0 where
-  pub there : at + 16 ≤ length s
+  pub there : at + headLength (formAt s at) ≤ length s
   pub id : 1 ≤ idAt s at
   pub fresh : used t (idAt s at) ≡ false
   pub kind : kindAt s at ≤ 1
@@ -67,9 +67,9 @@ head-right s at t e =
     }
 
 pub record ListRight (s : List ℕ) (at : ℕ) : Type 0 where
-  pub there : firstTask s at ≤ length s
-  pub rises : fallFault 0 (distancesAt s at) (listPlace at) ≡ Accepted
-  pub ends : lastFault (distancesAt s at) (listPlace at) ≡ Accepted
+  pub there : largestPlace s at ≤ length s
+  pub rises : fallFault 0 (distancesAt s at) (listPlace s at) ≡ Accepted
+  pub ends : lastFault (distancesAt s at) (listPlace s at) ≡ Accepted
   pub gap : gapFault (gapAt s at) (distancesAt s at) (gapPlace at) ≡ Accepted
 
 pub list-right : (s : List ℕ) (at : ℕ) → listFault s at ≡ Accepted → ListRight s at
@@ -79,6 +79,18 @@ list-right s at e =
     let rises = then-none _ _ (there .1) in
     let ends = then-none _ _ (rises .1) in
     record { there = ltb-false _ _ (there .0); rises = rises .0; ends = ends .0; gap = ends .1 }
+
+pub record LargestRight (s : List ℕ) (at : ℕ) : Type 0 where
+  pub flag : flagAt s at ≤ 1
+  pub there : firstTask s at ≤ length s
+  pub long : shortFault 0 (distancesAt s at) (largestsAt s at) (largestPlace s at) ≡ Accepted
+
+pub largest-right : (s : List ℕ) (at : ℕ) → largestFault s at ≡ Accepted → LargestRight s at
+unfolding largestFault
+largest-right s at e =
+    let flag = when-none _ _ _ _ e in
+    let there = when-none _ _ _ _ (flag .1) in
+    record { flag = ltb-false _ _ (flag .0); there = ltb-false _ _ (there .0); long = there .1 }
 
 -- a mark that is refused nowhere a task stands is a task's
 mark-task : (m : Mark) (at : ℕ) → noTask m at ≡ Accepted → m ≡ Task
@@ -120,6 +132,7 @@ tasks-right s (suc n) at e (suc i) h =
 pub record ChainRight (s : List ℕ) (at : ℕ) (t : Table) : Type 0 where
   pub head : HeadRight s at t
   pub list : ListRight s at
+  pub largest : LargestRight s at
   pub tasks : (i : ℕ) → i < tasksAt s at → TaskRight s (firstTask s at + 8 * i)
   pub there : at + lengthAt s at ≤ length s
 
@@ -128,7 +141,8 @@ unfolding chainFault
 chain-right s at t e =
     let e1 = then-none _ _ e in
     let e2 = then-none _ _ (e1 .1) in
+    let e3 = then-none _ _ (e2 .1) in
     let head = head-right s at t (e1 .0) in
-    let tasks = tasks-right s (tasksAt s at) (firstTask s at) (e2 .1) in
+    let tasks = tasks-right s (tasksAt s at) (firstTask s at) (e3 .1) in
     let last = tasks (tasksAt s at - 1) (omega (arith, head .tasks .0)) in
-    record { head = head; list = list-right s at (e2 .0); tasks = tasks; there = omega (arith, last .there, head .tasks .0) }
+    record { head = head; list = list-right s at (e2 .0); largest = largest-right s at (e3 .0); tasks = tasks; there = omega (arith, last .there, head .tasks .0) }

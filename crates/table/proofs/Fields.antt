@@ -1,5 +1,5 @@
 -- Every refusal points at the field that its number names, and what is known of its place and number for that. Assumes nothing.
-use Prim.Native.Nat.{ℕ, zero, suc, _+_, _*_, _-_, _<_, _≤_}
+use Prim.Native.Nat.{ℕ, zero, suc, max, _+_, _*_, _-_, _<_, _≤_}
 use native.Mathlib.Omega.{arith}
 use native.Mathlib.Numerals.{add-one}
 use mathlib.Core.Path.{_≡_, refl, ap, sym, subst, _∙_}
@@ -7,19 +7,19 @@ use mathlib.Core.List.{List, [], _∷_}
 use mathlib.Core.Bool.{Bool, true, false, not, _&&_, _||_}
 use mathlib.Core.Logic.{_⊎_, inl, inr, ⊎-elim}
 use borrow.Author.Count.{below-more}
-use borrow.Author.Tests.{lt-ltb, ltb-true, ltb-false, eqb-true, eqb-false, not-true, not-false}
+use borrow.Author.Tests.{ltb-true, ltb-false, eqb-true, eqb-false, not-true, not-false}
 use lib.ListN.{length, getD, length-set, length-replicate}
 use lib.Dec.{eqb, ltb, lit≤}
 use lib.Seq.{getD-set-same, getD-set-other}
 use Rattle.search.proofs.Choice.{when-cases, true-not-false, lt-or-le}
 use Rattle.search.proofs.Find.{first-hit}
-use Rattle.table.specs.Limits.{maxChains, maxBytes, maxTasks, maxAllTasks, maxDistance}
+use Rattle.table.specs.Limits.{maxChains, maxBytes, maxTasks, maxAllTasks, maxDistance, maxLargest}
 use Rattle.table.specs.Bytes.{word}
-use Rattle.table.specs.Record.{blank, idAt, gapPlace, gapAt, listedAt, tasksAt, listPlace, distancesAt, firstTask, lengthAt, rowAt}
+use Rattle.table.specs.Record.{blank, formAt, idAt, gapPlace, gapAt, flagAt, headLength, listedAt, tasksAt, listPlace, distancesAt, knownAt, largestPlace, largestsAt, firstTask, lengthAt, rowAt}
 use Rattle.table.specs.Find.{rowOf, findOf, used}
-use Rattle.table.specs.Fault.{_then_, outside, markOf, noTask, identityFault, timesFault, countsFault, headFault, fallFault, lastFault, gapShort, gapFault, distancesFault, listFault, taskMarkFault, valuesFault, taskRestFault, taskFault, tasksFault, chainFault, endFault}
-use Rattle.table.specs.Read.{empty, plus, refusal, accepted, unless, byMark, start, records, readTable}
-use Rattle.table.specs.Field.{recordStart, tasksBefore, Chains, EndMark, EndRecord, ChainRecord, ListThere, taskPlace, TaskThere, beforeOf, FirstFall, Rises, Blames, TableRefusal, Placed}
+use Rattle.table.specs.Fault.{_then_, outside, markOf, noTask, identityFault, timesFault, countsFault, headFault, fallFault, lastFault, gapShort, gapFault, distancesFault, listFault, shortFault, largestFault, taskMarkFault, valuesFault, taskRestFault, taskFault, tasksFault, chainFault, endFault}
+use Rattle.table.specs.Read.{empty, plus, refusal, accepted, unless, byMark, formed, start, records, limitOf, readTable}
+use Rattle.table.specs.Field.{recordStart, tasksBefore, ChainMark, Chains, EndMark, EndRecord, ChainRecord, ListThere, LargestThere, taskPlace, TaskThere, beforeOf, FirstFall, Rises, Blames, TableRefusal, Placed}
 use Rattle.table.specs.declared.Row.{Row}
 use Rattle.table.specs.declared.Table.{Table}
 use Rattle.table.specs.declared.Reading.{Reading}
@@ -30,7 +30,8 @@ use Rattle.table.specs.declared.Verdict.the-variants.{Accepted, Refused}
 use Rattle.table.proofs.Lists.{length-spaced}
 use Rattle.table.proofs.Firsts.{or-right, or-cases, not-accepted, when-none}
 use Rattle.table.proofs.Steps.{read-long}
-use Rattle.table.proofs.Faultless.{head-right, list-right, not-zero}
+use Rattle.table.proofs.Widths.{known-most, beyond-both}
+use Rattle.table.proofs.Faultless.{head-right, list-right, largest-right, not-zero}
 
 -- a verdict that refuses points at such a field
 abbrev Points : List ℕ → Verdict → Type 0
@@ -85,11 +86,11 @@ both true b e = (refl, e)
 both false b e = absurd (true-not-false e refl)
 
 -- one mark more
-chain-marks : (s : List ℕ) (n : ℕ) (t : Table) → Walked s n t → markOf (word 2 s (recordStart s n)) ≡ Chain → Chains s (suc n)
-chain-marks s n t w mark = rw (← add-one) (below-more (λ m. markOf (word 2 s (recordStart s m)) ≡ Chain) n (w .chains) mark)
+chain-marks : (s : List ℕ) (n : ℕ) (t : Table) → Walked s n t → ChainMark s (recordStart s n) → Chains s (suc n)
+chain-marks s n t w mark = rw (← add-one) (below-more (λ m. ChainMark s (recordStart s m)) n (w .chains) mark)
 
 -- the fixed part
-module _ (s : List ℕ) (n : ℕ) (t : Table) (w : Walked s n t) (room : n < maxChains) (mark : markOf (word 2 s (recordStart s n)) ≡ Chain) where
+module _ (s : List ℕ) (n : ℕ) (t : Table) (w : Walked s n t) (room : n < maxChains) (mark : ChainMark s (recordStart s n)) where
   abbrev at : ℕ
   at = recordStart s n
 
@@ -139,7 +140,7 @@ module _ (s : List ℕ) (n : ℕ) (t : Table) (w : Walked s n t) (room : n < max
   head-points : Points s (headFault s at t)
   unfolding headFault
   head-points =
-      when-cases (Points s) (ltb (length s) (at + 16)) (λ e. cut (at + 16) e (omega arith))
+      when-cases (Points s) (ltb (length s) (at + headLength (formAt s at))) (λ e. cut (at + headLength (formAt s at)) e (omega arith))
       (λ e. let r : ChainRecord s n = record { few = room; chains = chains; there = ltb-false _ _ e } in
       then-points s _ _ (identity-points r) (λ f. then-points s _ _ (times-points r) (λ g. counts-points r)))
 
@@ -148,20 +149,20 @@ module _ (s : List ℕ) (n : ℕ) (t : Table) (w : Walked s n t) (room : n < max
     ds = distancesAt s at
 
     long : length ds ≡ listedAt s at
-    long = length-spaced (word 4 s) 4 (listedAt s at) (listPlace at)
+    long = length-spaced (word 4 s) 4 (listedAt s at) (listPlace s at)
 
-    fall-points : Points s (fallFault 0 ds (listPlace at)) × (fallFault 0 ds (listPlace at) ≡ Accepted → Rises ds)
+    fall-points : Points s (fallFault 0 ds (listPlace s at)) × (fallFault 0 ds (listPlace s at) ≡ Accepted → Rises ds)
     unfolding beforeOf
     fall-points =
-        fall-from ds (listPlace at) (λ v. Points s v × (v ≡ Accepted → Rises ds)) (λ r. (tt, λ e. r)) (λ j f. (Blames.atDistance n j l f, λ e. absurd (not-accepted e)))
-        ds 0 0 (listPlace at) (omega arith) refl (omega arith)
+        fall-from ds (listPlace s at) (λ v. Points s v × (v ≡ Accepted → Rises ds)) (λ r. (tt, λ e. r)) (λ j f. (Blames.atDistance n j l f, λ e. absurd (not-accepted e)))
+        ds 0 0 (listPlace s at) (omega arith) refl (omega arith)
         (λ i. ap (λ k. getD ds k 0) (omega arith)) (λ i h. absurd (omega arith))
 
-    last-points : Rises ds → Points s (lastFault ds (listPlace at))
+    last-points : Rises ds → Points s (lastFault ds (listPlace s at))
     unfolding lastFault
     last-points r = rw long (when-cases (Points s) (eqb (getD ds (listedAt s at - 1) 0) 0) (λ e. Blames.atLast n l r (eqb-true _ _ e)) (λ e. tt))
 
-    last-some : lastFault ds (listPlace at) ≡ Accepted → 0 < getD ds (listedAt s at - 1) 0
+    last-some : lastFault ds (listPlace s at) ≡ Accepted → 0 < getD ds (listedAt s at - 1) 0
     unfolding lastFault
     last-some e = subst (λ m. 0 < getD ds (m - 1) 0) long (not-zero _ (when-none _ _ _ _ e .0))
 
@@ -176,12 +177,59 @@ module _ (s : List ℕ) (n : ℕ) (t : Table) (w : Walked s n t) (room : n < max
   unfolding listFault distancesFault
   list-points e =
       let h = head-right s at t e in
-      when-cases (Points s) (ltb (length s) (firstTask s at)) (λ f. cut (firstTask s at) f (omega arith))
+      when-cases (Points s) (ltb (length s) (largestPlace s at)) (λ f. cut (largestPlace s at) f (omega arith))
       (λ f. let l : ListThere s n = record { chain = record { few = room; chains = chains; there = h .there }; some = h .listed .0; there = ltb-false _ _ f } in
       let rises = fall-points l in
       then-points s _ _ (rises .0) (λ g. then-points s _ _ (last-points l (rises .1 g)) (λ k. gap-points l (rises .1 g) (last-some l k))))
 
-  module _ (l : ListThere s n) where
+  -- the largest distances beside the smallest
+  module _ (l : LargestThere s n) (flag : flagAt s at ≤ 1) where
+    abbrev ss : List ℕ
+    ss = distancesAt s at
+
+    abbrev ls : List ℕ
+    ls = largestsAt s at
+
+    counted : (length ls ≡ knownAt s at) × (length ls ≤ length ss)
+    counted =
+        let m = length-spaced (word 4 s) 4 (knownAt s at) (largestPlace s at) in
+        (m, omega (arith, m, length-spaced (word 4 s) 4 (listedAt s at) (listPlace s at), known-most (formAt s at) (flagAt s at) (listedAt s at)))
+
+    short-from : (ds es : List ℕ) (j before : ℕ) → before ≡ beforeOf ls j → j + length es ≡ length ls → length es ≤ length ds
+        → ((i : ℕ) → getD ds i 0 ≡ getD ss (j + i) 0) → ((i : ℕ) → getD es i 0 ≡ getD ls (j + i) 0)
+        → ((i : ℕ) → i < j → outside (max (beforeOf ls i) (getD ss i 0)) maxLargest (getD ls i 0) ≡ false) → Points s (shortFault before ds es (largestPlace s at + 4 * j))
+    unfolding shortFault beforeOf
+    short-from ds [] j before b c few smallest largest right = tt
+    short-from [] (e ∷ es) j before b c few smallest largest right = absurd (omega arith)
+    short-from (d ∷ ds) (e ∷ es) j before b c few smallest largest right =
+        let d-here : d ≡ getD ss j 0 = smallest 0 ∙ ap (λ i. getD ss i 0) (omega arith) in
+        let e-here : e ≡ getD ls j 0 = largest 0 ∙ ap (λ i. getD ls i 0) (omega arith) in
+        let next : largestPlace s at + 4 * j + 4 ≡ largestPlace s at + 4 * suc j = omega arith in
+        when-cases (Points s) (outside (max before d) maxLargest e)
+        (λ h. Blames.atLargest n j l flag (record { one = omega (arith, c); short = rw (← b, ← d-here, ← e-here) h; first = λ i k f. true-not-false f (right i k) }))
+        (λ h. rw next (short-from ds es (suc j) e (step e-here) (omega (arith, c)) (omega arith)
+        (λ i. smallest (suc i) ∙ ap (λ k. getD ss k 0) (omega arith)) (λ i. largest (suc i) ∙ ap (λ k. getD ls k 0) (omega arith)) (more (rw (← b, ← d-here, ← e-here) h))))
+      where
+        step : e ≡ getD ls j 0 → e ≡ beforeOf ls (suc j)
+        step f = f
+
+        more : outside (max (beforeOf ls j) (getD ss j 0)) maxLargest (getD ls j 0) ≡ false → (i : ℕ) → i < suc j → outside (max (beforeOf ls i) (getD ss i 0)) maxLargest (getD ls i 0) ≡ false
+        more f = rw (← add-one) (below-more (λ i. outside (max (beforeOf ls i) (getD ss i 0)) maxLargest (getD ls i 0) ≡ false) j right f)
+
+    short-points : Points s (shortFault 0 ss ls (largestPlace s at))
+    unfolding beforeOf
+    short-points =
+        let first : largestPlace s at + 4 * 0 ≡ largestPlace s at = omega arith in
+        subst (λ m. Points s (shortFault 0 ss ls m)) first (short-from ss ls 0 0 refl (omega arith) (counted .1) (λ i. ap (λ k. getD ss k 0) (omega arith)) (λ i. ap (λ k. getD ls k 0) (omega arith)) (λ i h. absurd (omega arith)))
+
+  largest-points : ListThere s n → Points s (largestFault s at)
+  unfolding largestFault
+  largest-points l =
+      when-cases (Points s) (ltb 1 (flagAt s at)) (λ e. Blames.atFlag n l (ltb-true _ _ e))
+      (λ e. when-cases (Points s) (ltb (length s) (firstTask s at)) (λ f. cut (firstTask s at) f (omega arith))
+      (λ f. short-points (record { list = l; there = ltb-false _ _ f }) (ltb-false _ _ e)))
+
+  module _ (l : LargestThere s n) where
     mark-points : (i : ℕ) → TaskThere s n i 2 → (m : Mark) → markOf (word 2 s (taskPlace s n i)) ≡ m → Points s (noTask m (taskPlace s n i))
     mark-points i there Task e = tt
     mark-points i there Chain e = Blames.atTaskMark n i there (λ f. let g = sym e ∙ f in let z : _≡_ {A = ℕ} 0 1 = cc in omega arith)
@@ -193,9 +241,9 @@ module _ (s : List ℕ) (n : ℕ) (t : Table) (w : Walked s n t) (room : n < max
     task-points i h =
         then-points s _ _
         (when-cases (Points s) (ltb (length s) (taskPlace s n i + 2)) (λ e. cut (taskPlace s n i + 2) e (omega (arith, h)))
-        (λ e. mark-points i (record { list = l; one = h; there = ltb-false _ _ e }) (markOf (word 2 s (taskPlace s n i))) refl))
+        (λ e. mark-points i (record { largest = l; one = h; there = ltb-false _ _ e }) (markOf (word 2 s (taskPlace s n i))) refl))
         (λ g. when-cases (Points s) (ltb (length s) (taskPlace s n i + 8)) (λ e. cut (taskPlace s n i + 8) e (omega (arith, h)))
-        (λ e. let there : TaskThere s n i 8 = record { list = l; one = h; there = ltb-false _ _ e } in
+        (λ e. let there : TaskThere s n i 8 = record { largest = l; one = h; there = ltb-false _ _ e } in
         when-cases (Points s) _ (λ p. Blames.atPriority n i there (eqb-true _ _ p))
         (λ p. when-cases (Points s) _ (λ c. Blames.atCost n i there (not-zero _ p) c) (λ c. tt))))
 
@@ -213,8 +261,9 @@ module _ (s : List ℕ) (n : ℕ) (t : Table) (w : Walked s n t) (room : n < max
       (λ e. then-points s _ _ (list-points e)
       (λ f. let h = head-right s at t e in
       let l : ListThere s n = record { chain = record { few = room; chains = chains; there = h .there }; some = h .listed .0; there = list-right s at f .there } in
-      let first : taskPlace s n 0 ≡ firstTask s at = omega arith in
-      rw (← first) (tasks-points l (tasksAt s at) 0 (omega arith))))
+      then-points s _ _ (largest-points l)
+      (λ g. let first : taskPlace s n 0 ≡ firstTask s at = omega arith in
+      rw (← first) (tasks-points (record { list = l; there = largest-right s at g .there }) (tasksAt s at) 0 (omega arith)))))
 
   -- the next record
   walked-on : Walked s (suc n) (plus t (rowAt s at))
@@ -253,13 +302,16 @@ unless-points s Accepted r p q = q refl
 unless-points s (Refused n place) r p q = p
 
 start-points : (s : List ℕ) (n : ℕ) (t : Table) (chain : Reading) → Walked s n t → n ≤ maxChains
-    → (recordStart s n + 2 ≤ length s → markOf (word 2 s (recordStart s n)) ≡ Chain → PointsAt s chain) → PointsAt s (start s (recordStart s n) t chain)
-unfolding start PointsAt
+    → (recordStart s n + 2 ≤ length s → ChainMark s (recordStart s n) → PointsAt s chain) → PointsAt s (start s (recordStart s n) t chain)
+unfolding start formed PointsAt
 start-points s n t chain w few f =
     when-cases (PointsAt s) (ltb (length s) (recordStart s n + 2)) (λ e. Blames.inMark n few (w .chains) (ltb-true _ _ e)) (λ e. by (ltb-false _ _ e) (markOf (word 2 s (recordStart s n))) refl)
   where
-    by : recordStart s n + 2 ≤ length s → (m : Mark) → markOf (word 2 s (recordStart s n)) ≡ m → PointsAt s (byMark (recordStart s n) m chain (unless refusal (endFault s (recordStart s n) t) (accepted t)))
-    by there Chain e = f there e
+    by : recordStart s n + 2 ≤ length s → (m : Mark) → markOf (word 2 s (recordStart s n)) ≡ m → PointsAt s (byMark (recordStart s n) m (formed s (recordStart s n) chain) (unless refusal (endFault s (recordStart s n) t) (accepted t)))
+    by there Chain e =
+        when-cases (PointsAt s) (not (eqb (formAt s (recordStart s n)) (formAt s 0)))
+        (λ h. Blames.atForm n (record { few = few; before = w .chains; there = there; chain = e; other = eqb-false _ _ (not-true _ h) }))
+        (λ h. f there (record { chain = e; form = eqb-true _ _ (not-false _ h) }))
     by there End e = unless-points s (endFault s (recordStart s n) t) (accepted t) (end-points s n t w few e) (λ g. tt)
     by there Task e = Blames.atMark n (record { few = few; before = w .chains; there = there; unknown = (λ g. let h = sym e ∙ g in let z : _≡_ {A = ℕ} 0 1 = cc in omega arith, λ g. let h = sym e ∙ g in let z : _≡_ {A = ℕ} 0 1 = cc in omega arith) })
     by there Unknown e = Blames.atMark n (record { few = few; before = w .chains; there = there; unknown = (λ g. let h = sym e ∙ g in let z : _≡_ {A = ℕ} 0 1 = cc in omega arith, λ g. let h = sym e ∙ g in let z : _≡_ {A = ℕ} 0 1 = cc in omega arith) })
@@ -282,7 +334,7 @@ walked-none s = record { chains = λ m h. absurd (omega arith); count = refl; id
 table-points : (s : List ℕ) → PointsAt s (readTable s)
 unfolding readTable recordStart PointsAt
 table-points s =
-    when-cases (PointsAt s) (eqb (length s) 0 || ltb maxBytes (length s))
+    when-cases (PointsAt s) (eqb (length s) 0 || ltb (limitOf (word 2 s 0)) (length s))
     (λ e. Blames.inLength (⊎-elim (λ z. inl (eqb-true _ _ z)) (λ z. inr (ltb-true _ _ z)) (or-cases (eqb (length s) 0) _ e)))
     (λ e. records-points maxChains s 0 empty (walked-none s) refl)
 
@@ -300,7 +352,10 @@ module _ {n : ℕ} where
   second l h = inr (inl (l, h))
 
   third : 28 ≤ n → n ≤ 31 → TableRefusal n
-  third l h = inr (inr (l, h))
+  third l h = inr (inr (inl (l, h)))
+
+  fourth : n ≡ 33 → TableRefusal n
+  fourth e = inr (inr (inr e))
 
 -- so it has a table's number, and its place lies within the table, or is its length or 0
 placed : (s : List ℕ) {n place : ℕ} → Blames s n place → Placed s n place
@@ -309,6 +364,7 @@ placed s (Blames.inMark n few c h) = record { number = first (lit≤ tt) (lit≤
 placed s (Blames.inChain n few c h) = record { number = first (lit≤ tt) (lit≤ tt); within = inr (inr (refl, refl)) }
 placed s (Blames.inEnd n m h) = record { number = first (lit≤ tt) (lit≤ tt); within = inr (inr (refl, refl)) }
 placed s (Blames.atMark n r) = record { number = first (lit≤ tt) (lit≤ tt); within = inl (omega (arith, r .there)) }
+placed s (Blames.atForm n r) = record { number = first (lit≤ tt) (lit≤ tt); within = inl (omega (arith, r .there)) }
 placed s (Blames.atTaskMark n i r h) = record { number = first (lit≤ tt) (lit≤ tt); within = inl (omega (arith, r .there)) }
 placed s (Blames.atId n r h) = record { number = first (lit≤ tt) (lit≤ tt); within = inl (omega (arith, r .there)) }
 placed s (Blames.atKind n r h) = record { number = first (lit≤ tt) (lit≤ tt); within = inl (omega (arith, r .there)) }
@@ -317,9 +373,11 @@ placed s (Blames.atDeadline n r h) = record { number = first (lit≤ tt) (lit≤
 placed s (Blames.atGap n r h) = record { number = first (lit≤ tt) (lit≤ tt); within = inl (omega (arith, r .there)) }
 placed s (Blames.atListLength n r h) = record { number = third (lit≤ tt) (lit≤ tt); within = inl (omega (arith, r .there)) }
 placed s (Blames.atTaskCount n r h) = record { number = second (lit≤ tt) (lit≤ tt); within = inl (omega (arith, r .there)) }
-placed s (Blames.atDistance n j r h) = record { number = third (lit≤ tt) (lit≤ tt); within = inl (omega (arith, r .there, h .one, length-spaced (word 4 s) 4 (listedAt s (recordStart s n)) (listPlace (recordStart s n)))) }
+placed s (Blames.atDistance n j r h) = record { number = third (lit≤ tt) (lit≤ tt); within = inl (omega (arith, r .there, h .one, length-spaced (word 4 s) 4 (listedAt s (recordStart s n)) (listPlace s (recordStart s n)))) }
 placed s (Blames.atLast n r rises h) = record { number = third (lit≤ tt) (lit≤ tt); within = inl (omega (arith, r .there, r .some)) }
 placed s (Blames.atSmallGap n j r rises some g h l) = record { number = third (lit≤ tt) (lit≤ tt); within = inl (omega (arith, r .chain .there)) }
+placed s (Blames.atFlag n r h) = record { number = fourth refl; within = inl (omega (arith, r .chain .there)) }
+placed s (Blames.atLargest n j r g h) = record { number = fourth refl; within = inl (omega (arith, r .there, h .one, length-spaced (word 4 s) 4 (knownAt s (recordStart s n)) (largestPlace s (recordStart s n)))) }
 placed s (Blames.atPriority n i r h) = record { number = second (lit≤ tt) (lit≤ tt); within = inl (omega (arith, r .there)) }
 placed s (Blames.atCost n i r g h) = record { number = second (lit≤ tt) (lit≤ tt); within = inl (omega (arith, r .there)) }
 placed s (Blames.atSeventeenth r h) = record { number = second (lit≤ tt) (lit≤ tt); within = inl (omega (arith, h)) }
@@ -331,12 +389,12 @@ refused-placed s e = placed s (blames s e)
 
 -- no refusal has the number 0
 pub some-number : (s : List ℕ) {n place : ℕ} → readTable s .verdict ≡ Refused n place → 0 < n
-some-number s e = ⊎-elim (λ h. h .0) (λ g. ⊎-elim (λ h. omega (arith, h .0)) (λ h. omega (arith, h .0)) g) (refused-placed s e .number)
+some-number s e = ⊎-elim (λ h. h .0) (λ g. ⊎-elim (λ h. omega (arith, h .0)) (λ k. ⊎-elim (λ h. omega (arith, h .0)) (λ h. omega (arith, h)) k) g) (refused-placed s e .number)
 
 -- and no place is beyond the longest table
 pub small-place : (s : List ℕ) {n place : ℕ} → readTable s .verdict ≡ Refused n place → place ≤ maxBytes
 small-place s {n = n} {place = place} e = ⊎-elim
-    (λ h. let f : Refused 1 0 ≡ Refused n place = sym (ap (λ (r : Reading). r .verdict) (read-long s (or-right (eqb (length s) 0) _ (lt-ltb _ _ h)))) ∙ e in
+    (λ h. let f : Refused 1 0 ≡ Refused n place = sym (ap (λ (r : Reading). r .verdict) (read-long s (or-right (eqb (length s) 0) _ (beyond-both s (word 2 s 0) h)))) ∙ e in
     let z : 0 ≡ place = cc in omega arith)
     (λ h. ⊎-elim (λ g. omega (arith, g)) (λ g. ⊎-elim (λ k. omega (arith, k .1)) (λ k. omega (arith, k .1)) g) (refused-placed s e .within))
     (lt-or-le maxBytes (length s))

@@ -1,6 +1,8 @@
 pub mod Words
+pub mod Widths
 pub mod Marks
 pub mod Lists
+pub mod Forms
 pub mod Firsts
 pub mod Earlier
 pub mod Faultless
@@ -11,4 +13,5 @@ pub mod Standing
 pub mod Accepted
 pub mod Stands
 pub mod Rows
+pub mod Largests
 pub mod Finds

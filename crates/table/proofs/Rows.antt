@@ -4,7 +4,7 @@ use native.Mathlib.Omega.{arith}
 use native.Mathlib.Numerals.{add-one}
 use mathlib.Core.Path.{_≡_, refl, ap, ap₂, sym, _∙_}
 use mathlib.Core.List.{List}
-use mathlib.Core.Bool.{_||_}
+use mathlib.Core.Bool.{not, _||_}
 use mathlib.Core.Logic.{⊎-elim}
 use borrow.Author.Count.{below-more}
 use lib.ListN.{length, take, length-set, length-replicate, getD-replicate}
@@ -13,12 +13,12 @@ use lib.Seq.{ext-getD, getD-set-same, getD-set-other, take-suc}
 use Rattle.search.specs.Lists.{sumOf}
 use Rattle.search.proofs.Choice.{when-cases, lt-or-le}
 use Rattle.search.proofs.Lists.{sum-append}
-use Rattle.table.specs.Limits.{maxChains, maxTasks, maxBytes}
+use Rattle.table.specs.Limits.{maxChains, maxTasks}
 use Rattle.table.specs.Bytes.{word}
-use Rattle.table.specs.Record.{blank, lengthAt, rowAt}
+use Rattle.table.specs.Record.{blank, formAt, lengthAt, rowAt}
 use Rattle.table.specs.Find.{rowOf}
 use Rattle.table.specs.Fault.{markOf, chainFault, endFault}
-use Rattle.table.specs.Read.{empty, plus, refusal, accepted, unless, byMark, start, records, readTable}
+use Rattle.table.specs.Read.{empty, plus, refusal, accepted, unless, byMark, formed, start, records, limitOf, readTable}
 use Rattle.table.specs.code.Good.{GoodTable}
 use Rattle.table.specs.declared.Row.{Row}
 use Rattle.table.specs.declared.Table.{Table}
@@ -91,10 +91,11 @@ module _ (P : Reading → Type 0) (faulty : (n place : ℕ) → P (refusal n pla
   mark-is at Unknown chain end p q = faulty 3 at
 
   start-is : (s : List ℕ) (at : ℕ) (t : Table) (chain : Reading) → P chain → P (start s at t chain)
-  unfolding start
+  unfolding start formed
   start-is s at t chain p =
       when-cases P (ltb (length s) (at + 2)) (λ e. faulty 2 (length s))
-      (λ e. mark-is at (markOf (word 2 s at)) chain (unless refusal (endFault s at t) (accepted t)) p (unless-is (endFault s at t) (accepted t) (right t)))
+      (λ e. mark-is at (markOf (word 2 s at)) (formed s at chain) (unless refusal (endFault s at t) (accepted t))
+      (when-cases P (not (eqb (formAt s at) (formAt s 0))) (λ f. faulty 3 at) (λ f. p)) (unless-is (endFault s at t) (accepted t) (right t)))
 
   records-is : (left : ℕ) (s : List ℕ) (at : ℕ) (t : Table) → P (records left s at t)
   unfolding records
@@ -104,7 +105,7 @@ module _ (P : Reading → Type 0) (faulty : (n place : ℕ) → P (refusal n pla
 
   pub reading-is : (s : List ℕ) → P (readTable s)
   unfolding readTable
-  reading-is s = when-cases P (eqb (length s) 0 || ltb maxBytes (length s)) (λ e. faulty 1 0) (λ e. records-is maxChains s 0 empty)
+  reading-is s = when-cases P (eqb (length s) 0 || ltb (limitOf (word 2 s 0)) (length s)) (λ e. faulty 1 0) (λ e. records-is maxChains s 0 empty)
 
 pub refused-reading : (s : List ℕ) (n place : ℕ) → readTable s .verdict ≡ Refused n place → readTable s ≡ refusal n place
 refused-reading s n place =

@@ -8,11 +8,12 @@ use lib.Seq.{take-suc}
 use Rattle.search.specs.Lists.{sumOf}
 use Rattle.search.proofs.Lists.{sum-append}
 use Rattle.table.specs.Limits.{maxDistances, maxTasks}
-use Rattle.table.specs.Record.{recordLength, blank}
+use Rattle.table.specs.Record.{blank}
 use Rattle.table.specs.Find.{rowOf}
 use Rattle.table.specs.Place.{lengthOf, placeOf}
 use Rattle.table.specs.code.Good.{GoodTable}
 use Rattle.table.specs.declared.Table.{Table}
+use Rattle.table.proofs.Widths.{width-most, known-most}
 
 pub place-none : (t : Table) → 0 ≡ placeOf t 0
 unfolding placeOf sumOf
@@ -22,12 +23,13 @@ pub place-on : (t : Table) (chain : ℕ) → chain < length (t .row) → placeOf
 unfolding placeOf sumOf
 place-on t chain h = rw (add-one, take-suc (t .row) chain blank h, sum-append lengthOf) (omega arith)
 
--- no record is longer than one with as many distances and tasks as may be
+-- no record is longer than one with the longer fixed part and as many distances, largest distances and tasks as may be
 abbrev pub longestRecord : ℕ
-longestRecord = recordLength maxDistances maxTasks
+longestRecord = 16 + 4 * maxDistances + 4 * maxDistances + 8 * maxTasks
 
 pub place-max : (t : Table) → GoodTable t → (chain : ℕ) → chain ≤ t .count → placeOf t chain ≤ longestRecord * chain
 place-max t good zero h = omega (arith, place-none t)
 place-max t good (suc chain) h =
     let r = good .row chain (omega arith) in
-    rw (← add-one chain) (omega (arith, place-max t good chain (omega arith), place-on t chain (omega (arith, good .few, good .size)), r .list .few, r .listed, r .tasks .few))
+    let row = rowOf t chain in
+    rw (← add-one chain) (omega (arith, place-max t good chain (omega arith), place-on t chain (omega (arith, good .few, good .size)), r .list .few, r .listed, r .tasks .few, width-most (row .form), known-most (row .form) (row .flag) (row .listed)))

@@ -1,14 +1,15 @@
 -- A chain of an accepted table stands at its place; what its record holds there. Assumes nothing.
 use Prim.Native.Nat.{ℕ, _+_, _*_, _<_}
 use native.Mathlib.Omega.{arith}
-use mathlib.Core.Path.{_≡_, refl, ap, sym, subst, _∙_}
+use mathlib.Core.Path.{_≡_, refl, ap, ap₂, sym, subst, _∙_}
 use mathlib.Core.List.{List}
 use lib.ListN.{getD}
 use Rattle.table.specs.Limits.{maxDistances, maxTasks}
 use Rattle.table.specs.Bytes.{word}
-use Rattle.table.specs.Record.{listedAt, tasksAt, firstTask, lengthAt, priorityAt, costAt, distancesAt, prioritiesAt, costsAt, rowAt}
+use Rattle.table.specs.Record.{listedAt, tasksAt, listPlace, knownAt, largestPlace, firstTask, lengthAt, priorityAt, costAt, distancesAt, largestsAt, prioritiesAt, costsAt, rowAt}
 use Rattle.table.specs.Find.{rowOf}
-use Rattle.table.specs.Place.{lengthOf, placeOf}
+use Rattle.table.specs.Place.{lengthOf, tasksStart, placeOf}
+use Rattle.table.specs.declared.Row.{Row}
 use Rattle.table.specs.code.Good.{GoodRow}
 use Rattle.table.specs.code.Taken.{Taken, Stands}
 use Rattle.table.specs.Read.{tableOf}
@@ -18,9 +19,13 @@ use Rattle.table.proofs.Standing.{place-on}
 
 -- the numbers listed, by their offsets
 module _ (s : List ℕ) (at : ℕ) where
-  pub list-at : (j : ℕ) → j < listedAt s at → getD (rowAt s at .list) j 0 ≡ word 4 s (at + 16 + 4 * j)
+  pub list-at : (j : ℕ) → j < listedAt s at → getD (rowAt s at .list) j 0 ≡ word 4 s (listPlace s at + 4 * j)
   unfolding rowAt
-  list-at j h = pad-at maxDistances (distancesAt s at) j ∙ spaced-at (word 4 s) 4 (listedAt s at) j (at + 16) h
+  list-at j h = pad-at maxDistances (distancesAt s at) j ∙ spaced-at (word 4 s) 4 (listedAt s at) j (listPlace s at) h
+
+  pub largest-at : (j : ℕ) → j < knownAt s at → getD (rowAt s at .largest) j 0 ≡ word 4 s (largestPlace s at + 4 * j)
+  unfolding rowAt
+  largest-at j h = pad-at maxDistances (largestsAt s at) j ∙ spaced-at (word 4 s) 4 (knownAt s at) j (largestPlace s at) h
 
   pub priority-at : (i : ℕ) → i < tasksAt s at → getD (rowAt s at .priority) i 0 ≡ priorityAt s (firstTask s at + 8 * i)
   unfolding rowAt
@@ -29,6 +34,11 @@ module _ (s : List ℕ) (at : ℕ) where
   pub cost-at : (i : ℕ) → i < tasksAt s at → getD (rowAt s at .cost) i 0 ≡ costAt s (firstTask s at + 8 * i)
   unfolding rowAt
   cost-at i h = pad-at maxTasks (costsAt s at) i ∙ spaced-at (costAt s) 8 (tasksAt s at) i (firstTask s at) h
+
+  -- its tasks start where its row's counts say
+  pub tasks-there : firstTask s at ≡ at + tasksStart (rowAt s at)
+  unfolding rowAt
+  tasks-there = omega arith
 
   -- a record is as long as its row's counts say
   pub length-at : lengthAt s at ≡ lengthOf (rowAt s at)
@@ -39,6 +49,9 @@ module _ (s : List ℕ) (at : ℕ) where
 module _ {s : List ℕ} (t : Taken s) {chain at : ℕ} (e : at ≡ placeOf (tableOf s) chain) (h : chain < tableOf s .count) where
   pub row-there : rowAt s at ≡ rowOf (tableOf s) chain
   row-there = ap (rowAt s) e ∙ t .holds .makes chain h
+
+  pub first-there : firstTask s at ≡ placeOf (tableOf s) chain + tasksStart (rowOf (tableOf s) chain)
+  first-there = tasks-there s at ∙ ap₂ (λ n (r : Row). n + tasksStart r) e row-there
 
   pub stands : Stands s at
   stands =

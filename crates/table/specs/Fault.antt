@@ -1,14 +1,14 @@
--- The verdict on a record (01, 'Stored table' and 'Numbers given back'): accepted, or its first fault, as the number and the offset of the
+-- The verdict on a record (01, 'Stored table' and 'Numbers given back'; 02, request 7): accepted, or its first fault, as the number and the offset of the
 -- first byte of the field at fault; where bytes are missing, that is the table's length (02, request 1).
-use Prim.Native.Nat.{ℕ, zero, suc, _+_, _*_, _-_}
+use Prim.Native.Nat.{ℕ, zero, suc, max, _+_, _*_, _-_}
 use mathlib.Core.List.{List, [], _∷_}
 use mathlib.Core.Bool.{Bool, false, not, _&&_, _||_}
 use lib.ListN.{length, getD}
 use lib.Dec.{ltb, eqb}
 use Rattle.search.specs.Choice.{_when_else_}
-use Rattle.table.specs.Limits.{maxDeadline, maxGap, maxDistances, maxDistance, maxTasks, maxAllTasks, maxCost}
+use Rattle.table.specs.Limits.{maxDeadline, maxGap, maxDistances, maxDistance, maxLargest, maxTasks, maxAllTasks, maxCost}
 use Rattle.table.specs.Bytes.{word}
-use Rattle.table.specs.Record.{chainMark, taskMark, endMark, idPlace, idAt, kindPlace, kindAt, overloadPlace, overloadAt, deadlinePlace, deadlineAt, gapPlace, gapAt, listedPlace, listedAt, tasksPlace, tasksAt, listPlace, distancesAt, firstTask, priorityPlace, priorityAt, costPlace, costAt, countPlace, countAt, afterEnd}
+use Rattle.table.specs.Record.{gapForm, largestForm, taskMark, endMark, formAt, idPlace, idAt, kindPlace, kindAt, overloadPlace, overloadAt, deadlinePlace, deadlineAt, gapPlace, gapAt, flagAt, headLength, listedPlace, listedAt, tasksPlace, tasksAt, listPlace, distancesAt, largestPlace, largestsAt, firstTask, priorityPlace, priorityAt, costPlace, costAt, countPlace, countAt, afterEnd}
 use Rattle.table.specs.Find.{used}
 use Rattle.table.specs.declared.Mark.{Mark}
 use Rattle.table.specs.declared.Mark.the-variants.{Chain, Task, End, Unknown}
@@ -26,9 +26,9 @@ _then_ (Refused n place) v = Refused n place
 abbrev pub outside : ℕ → ℕ → ℕ → Bool
 outside low high x = ltb x low || ltb high x
 
--- what a mark, as a number, stands for: a chain, a task, the end, or none of them
+-- what a mark, as a number, stands for: a chain of either form, a task, the end, or none of them
 unfoldable pub markOf : ℕ → Mark
-markOf m = Chain when eqb m chainMark else Task when eqb m taskMark else End when eqb m endMark else Unknown
+markOf m = Chain when eqb m gapForm || eqb m largestForm else Task when eqb m taskMark else End when eqb m endMark else Unknown
 
 -- a mark at `at`, where a task's must stand
 abbrev pub noTask : Mark → ℕ → Verdict
@@ -55,14 +55,14 @@ timesFault s at =
 -- list length, task count with running total, after so many tasks
 unfoldable pub countsFault : List ℕ → ℕ → ℕ → Verdict
 countsFault s at tasks =
-    Refused 28 (listedPlace at) when outside 1 maxDistances (listedAt s at) else
-    Refused 9 (tasksPlace at) when outside 1 maxTasks (tasksAt s at) || ltb maxAllTasks (tasks + tasksAt s at) else
+    Refused 28 (listedPlace s at) when outside 1 maxDistances (listedAt s at) else
+    Refused 9 (tasksPlace s at) when outside 1 maxTasks (tasksAt s at) || ltb maxAllTasks (tasks + tasksAt s at) else
     Accepted
 
 -- the fixed part: the rest of it there, then each field
 unfoldable pub headFault : List ℕ → ℕ → Table → Verdict
 headFault s at t =
-    Refused 2 (length s) when ltb (length s) (at + 16) else
+    Refused 2 (length s) when ltb (length s) (at + headLength (formAt s at)) else
     identityFault s at t then
     timesFault s at then
     countsFault s at (t .tasks)
@@ -92,8 +92,21 @@ distancesFault gap ds at place = fallFault 0 ds at then lastFault ds at then gap
 -- the list: its bytes there, then the distances and the gap
 unfoldable pub listFault : List ℕ → ℕ → Verdict
 listFault s at =
+    Refused 2 (length s) when ltb (length s) (largestPlace s at) else
+    distancesFault (gapAt s at) (distancesAt s at) (listPlace s at) (gapPlace at)
+
+-- of the largest distances from `at` on, the first that falls below the one before it or the smallest for its count, or exceeds the limit
+unfoldable pub shortFault : ℕ → List ℕ → List ℕ → ℕ → Verdict
+shortFault before ds [] at = Accepted
+shortFault before [] (l ∷ ls) at = Accepted
+shortFault before (d ∷ ds) (l ∷ ls) at = Refused 33 at when outside (max before d) maxLargest l else shortFault l ds ls (at + 4)
+
+-- the flag, which stands in the gap's place; then the largest distances: their bytes there, then each
+unfoldable pub largestFault : List ℕ → ℕ → Verdict
+largestFault s at =
+    Refused 33 (gapPlace at) when ltb 1 (flagAt s at) else
     Refused 2 (length s) when ltb (length s) (firstTask s at) else
-    distancesFault (gapAt s at) (distancesAt s at) (listPlace at) (gapPlace at)
+    shortFault 0 (distancesAt s at) (largestsAt s at) (largestPlace s at)
 
 -- a task's mark: there, and right
 unfoldable pub taskMarkFault : List ℕ → ℕ → Verdict
@@ -119,9 +132,9 @@ unfoldable pub tasksFault : List ℕ → ℕ → ℕ → Verdict
 tasksFault s zero at = Accepted
 tasksFault s (suc n) at = taskFault s at then tasksFault s n (at + 8)
 
--- a chain, its mark known: the fixed part, the list, each task
+-- a chain, its mark known: the fixed part, the list, the largest distances, each task
 unfoldable pub chainFault : List ℕ → ℕ → Table → Verdict
-chainFault s at t = headFault s at t then listFault s at then tasksFault s (tasksAt s at) (firstTask s at)
+chainFault s at t = headFault s at t then listFault s at then largestFault s at then tasksFault s (tasksAt s at) (firstTask s at)
 
 -- the end, its mark known: whole, then the number of chains, and nothing after it
 unfoldable pub endFault : List ℕ → ℕ → Table → Verdict

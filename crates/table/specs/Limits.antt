@@ -38,6 +38,10 @@ maxGap = 10000000
 abbrev pub maxDistance : ℕ
 maxDistance = 10000000
 
+-- a largest distance (02, request 7)
+abbrev pub maxLargest : ℕ
+maxLargest = 80000000
+
 -- a window
 abbrev pub horizon : ℕ
 horizon = 10000000
@@ -58,9 +62,12 @@ maxOverloads = 6
 abbrev pub maxCapacity : ℕ
 maxCapacity = 40
 
--- bytes of a table
+-- bytes of a table of either form (02, request 7), and of one whose records hold a gap
 abbrev pub maxBytes : ℕ
-maxBytes = 1284
+maxBytes = 1748
+
+abbrev pub maxGapBytes : ℕ
+maxGapBytes = 1284
 
 -- all of them
 abbrev pub limits : Limits
@@ -75,10 +82,12 @@ limits =
       deadline = maxDeadline;
       gap = maxGap;
       distance = maxDistance;
+      largest = maxLargest;
       horizon = horizon;
       activations = maxActivations;
       run = maxRun;
       overloads = maxOverloads;
       capacity = maxCapacity;
       bytes = maxBytes;
+      gapbytes = maxGapBytes;
     }

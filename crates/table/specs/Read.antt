@@ -1,13 +1,14 @@
--- A stored table, read from the first byte; the first fault decides, its number (01, 'Stored table') and its place (02, request 1).
+-- A stored table, read from the first byte; the first fault decides, its number (01, 'Stored table'; 02, request 7) and its place (02,
+-- request 1).
 use Prim.Native.Nat.{ℕ, zero, suc, _+_}
 use mathlib.Core.List.{List}
-use mathlib.Core.Bool.{_||_}
+use mathlib.Core.Bool.{not, _||_}
 use lib.ListN.{length, set, replicate}
 use lib.Dec.{ltb, eqb}
 use Rattle.search.specs.Choice.{_when_else_}
-use Rattle.table.specs.Limits.{maxChains, maxBytes}
+use Rattle.table.specs.Limits.{maxChains, maxBytes, maxGapBytes}
 use Rattle.table.specs.Bytes.{word}
-use Rattle.table.specs.Record.{blank, rowAt, lengthAt}
+use Rattle.table.specs.Record.{largestForm, formAt, blank, rowAt, lengthAt}
 use Rattle.table.specs.Fault.{markOf, chainFault, endFault}
 use Rattle.table.specs.declared.Row.{Row}
 use Rattle.table.specs.declared.Table.{Table}
@@ -58,11 +59,15 @@ byMark at End chain end = end
 byMark at Task chain end = refusal 3 at
 byMark at Unknown chain end = refusal 3 at
 
--- the record that starts at `at`, after the rows of t, where `chain` is what a chain leads to
+-- a chain record at `at` has the form of the first record
+unfoldable pub formed : List ℕ → ℕ → Reading → Reading
+formed s at chain = refusal 3 at when not (eqb (formAt s at) (formAt s 0)) else chain
+
+-- the record that starts at `at`, after the rows of t, where `chain` is what a chain of the first record's form leads to
 unfoldable pub start : List ℕ → ℕ → Table → Reading → Reading
 start s at t chain =
     refusal 2 (length s) when ltb (length s) (at + 2) else
-    byMark at (markOf (word 2 s at)) chain (unless refusal (endFault s at t) (accepted t))
+    byMark at (markOf (word 2 s at)) (formed s at chain) (unless refusal (endFault s at t) (accepted t))
 
 -- the records from `at` on, after the rows of t, with room for `left` chains more
 unfoldable pub records : ℕ → List ℕ → ℕ → Table → Reading
@@ -70,9 +75,13 @@ records zero s at t = start s at t (refusal 11 at)
 records (suc left) s at t =
     start s at t (unless refusal (chainFault s at t) (records left s (at + lengthAt s at) (plus t (rowAt s at))))
 
+-- how many bytes a table may have, by its first mark
+unfoldable pub limitOf : ℕ → ℕ
+limitOf mark = maxBytes when eqb mark largestForm else maxGapBytes
+
 -- 1 where there is no byte or are too many; else the records from the first byte on
 unfoldable pub readTable : List ℕ → Reading
-readTable s = refusal 1 0 when eqb (length s) 0 || ltb maxBytes (length s) else records maxChains s 0 empty
+readTable s = refusal 1 0 when eqb (length s) 0 || ltb (limitOf (word 2 s 0)) (length s) else records maxChains s 0 empty
 
 -- the table that the bytes hold
 abbrev pub tableOf : List ℕ → Table

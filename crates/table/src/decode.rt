@@ -9,9 +9,14 @@ use crate::places::count;
 use crate::reader::judge;
 use crate::record::deadline_at;
 use crate::record::first_task;
+use crate::record::flag_at;
+use crate::record::form_at;
 use crate::record::gap_at;
 use crate::record::id_at;
 use crate::record::kind_at;
+use crate::record::known_at;
+use crate::record::largest_place;
+use crate::record::list_place;
 use crate::record::listed_at;
 use crate::record::overload_at;
 use crate::record::record_length;
@@ -68,19 +73,23 @@ pub fn row_at(s: &[u8], at: usize) -> Row
 {
     let listed = listed_at(s, at);
     let tasks = tasks_at(s, at);
-    let list = list_of(s, at + 16, listed);
+    let list = list_of(s, list_place(s, at), listed);
+    let largest = list_of(s, largest_place(s, at), known_at(s, at));
     let held = tasks_of(s, first_task(s, at), tasks);
     let priority = held.priority;
     let cost = held.cost;
     Row {
+        form: form_at(s, at),
         id: id_at(s, at),
         kind: kind_at(s, at),
         overload: overload_at(s, at),
+        flag: flag_at(s, at),
         deadline: deadline_at(s, at),
         gap: gap_at(s, at),
         listed,
         tasks,
         list,
+        largest,
         priority,
         cost,
     }

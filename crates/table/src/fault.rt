@@ -6,33 +6,42 @@ use crate::before::Before;
 use crate::bytes::u16_at;
 use crate::bytes::u32_at;
 use crate::record::deadline_at;
+use crate::record::first_task;
+use crate::record::flag_at;
+use crate::record::form_at;
 use crate::record::gap_at;
+use crate::record::head_length;
 use crate::record::id_at;
 use crate::record::kind_at;
+use crate::record::known_at;
+use crate::record::largest_place;
+use crate::record::list_place;
 use crate::record::listed_at;
+use crate::record::listed_place;
 use crate::record::overload_at;
 use crate::record::tasks_at;
 use crate::wide::u32_from_u8;
 ghost use mathlib.Core.Path.{_≡_};
 ghost use mathlib.Core.Bool.{_||_};
-ghost use Prim.Native.Nat.{_+_, _*_, _≤_, _<_};
+ghost use Prim.Native.Nat.{max, _+_, _*_, _≤_, _<_};
 ghost use lib.ListN.{length, getD};
 ghost use lib.Dec.{eqb, ltb};
 ghost use Rattle.search.specs.Find.{first};
 ghost use Rattle.table.specs.Limits.{maxChains, maxTasks, maxAllTasks, maxDistances};
 ghost use Rattle.table.specs.Bytes.{word};
-ghost use Rattle.table.specs.Record.{listedAt, spaced};
+ghost use Rattle.table.specs.Record.{formAt, headLength, listedAt, largestPlace, spaced};
 ghost use Rattle.table.specs.Find.{used};
-ghost use Rattle.table.specs.Fault.{outside as outsideOf, markOf, identityFault, timesFault, countsFault, headFault, fallFault, lastFault, gapShort, gapFault, distancesFault, listFault, taskMarkFault, valuesFault, taskFault, tasksFault, chainFault, endFault};
+ghost use Rattle.table.specs.Fault.{outside as outsideOf, markOf, identityFault, timesFault, countsFault, headFault, fallFault, lastFault, gapShort, gapFault, distancesFault, listFault, shortFault, largestFault, taskMarkFault, valuesFault, taskFault, tasksFault, chainFault, endFault};
 ghost use Rattle.table.specs.code.Before.{Keeps};
 ghost use Rattle.table.specs.declared.Table.{Table};
 
-// The mark as a number: `CH`, `TK`, `EN`, or none of them.
+// The mark as a number: `CH` and `CG`, `TK`, `EN`, or none of them.
 pub fn mark_of(m: u16) -> Mark
     ensures { λ r. ⌜ r ≡ markOf m ⌝ }
 {
     match m {
         18499 => Mark::Chain,
+        18243 => Mark::Chain,
         19284 => Mark::Task,
         20037 => Mark::End,
         _ => Mark::Unknown,
@@ -71,7 +80,7 @@ fn id_wrong(id: u16, ids: &[u16; Table::CHAINS], before: Before) -> bool
 
 // 4 or 5: the id, the kind and the overload byte of the chain record at `at`.
 fn identity_fault(s: &[u8], at: usize, ids: &[u16; Table::CHAINS], before: Before) -> Verdict
-    requires { ⌜ (at + 16 ≤ length (now s)) × (before .count ≤ maxChains) ⌝ }
+    requires { ⌜ (at + headLength (formAt (now s) at) ≤ length (now s)) × (before .count ≤ maxChains) ⌝ }
     ensures { λ r. ⌜ ((t : Table) → Keeps (now (ids .entry)) before t → r ≡ identityFault (now (s .entry)) at t) ⌝ }
 {
     if id_wrong(id_at(s, at), ids, before) {
@@ -88,7 +97,7 @@ fn identity_fault(s: &[u8], at: usize, ids: &[u16; Table::CHAINS], before: Befor
 
 // 6 or 7: its deadline and its gap.
 fn times_fault(s: &[u8], at: usize) -> Verdict
-    requires { ⌜ at + 16 ≤ length (now s) ⌝ }
+    requires { ⌜ at + headLength (formAt (now s) at) ≤ length (now s) ⌝ }
     ensures { λ r. ⌜ r ≡ timesFault (now (s .entry)) at ⌝ }
 {
     if outside(1, Table::DEADLINE, deadline_at(s, at)) {
@@ -110,14 +119,15 @@ fn tasks_wrong(tasks: u8, before: usize) -> bool
 
 // 28 or 9: its list length, and its task count after `before` tasks.
 fn counts_fault(s: &[u8], at: usize, before: usize) -> Verdict
-    requires { ⌜ (at + 16 ≤ length (now s)) × (before ≤ maxAllTasks) ⌝ }
+    requires { ⌜ (at + headLength (formAt (now s) at) ≤ length (now s)) × (before ≤ maxAllTasks) ⌝ }
     ensures { λ r. ⌜ r ≡ countsFault (now (s .entry)) at before ⌝ }
 {
-    if outside(1, Table::DISTANCES as u32, u32_from_u8(s[at + 14])) {
-        return Verdict::Refused(28, at + 14);
+    let place = listed_place(s, at);
+    if outside(1, Table::DISTANCES as u32, u32_from_u8(s[place])) {
+        return Verdict::Refused(28, place);
     }
-    if tasks_wrong(s[at + 15], before) {
-        return Verdict::Refused(9, at + 15);
+    if tasks_wrong(s[place + 1], before) {
+        return Verdict::Refused(9, place + 1);
     }
     Verdict::Accepted
 }
@@ -127,7 +137,7 @@ fn head_fault(s: &[u8], at: usize, ids: &[u16; Table::CHAINS], before: Before) -
     requires { ⌜ (at + 2 ≤ length (now s)) × (before .count ≤ maxChains) × (before .tasks ≤ maxAllTasks) ⌝ }
     ensures { λ r. ⌜ ((t : Table) → Keeps (now (ids .entry)) before t → r ≡ headFault (now (s .entry)) at t) ⌝ }
 {
-    if s.len() < at + 16 {
+    if s.len() < at + head_length(form_at(s, at)) {
         return Verdict::Refused(2, s.len());
     }
     let identity = identity_fault(s, at, ids, before);
@@ -190,11 +200,10 @@ fn gap_short(s: &[u8], at: usize, n: usize, gap: u32) -> bool
 }
 
 // 31: the gap, which stands at `place`, is known, and too small for one of the n distances from `at` on.
-fn gap_fault(s: &[u8], at: usize, n: usize, place: usize) -> Verdict
-    requires { ⌜ (n ≤ maxDistances) × (at + 4 * n ≤ length (now s)) × (place + 4 ≤ length (now s)) ⌝ }
-    ensures { λ r. ⌜ r ≡ gapFault (word 4 (now (s .entry)) place) (spaced (word 4 (now (s .entry))) 4 n at) place ⌝ }
+fn gap_fault(s: &[u8], at: usize, n: usize, gap: u32, place: usize) -> Verdict
+    requires { ⌜ (n ≤ maxDistances) × (at + 4 * n ≤ length (now s)) ⌝ }
+    ensures { λ r. ⌜ r ≡ gapFault gap (spaced (word 4 (now (s .entry))) 4 n at) place ⌝ }
 {
-    let gap = u32_at(s, place);
     if gap == 0 {
         return Verdict::Accepted;
     }
@@ -206,15 +215,15 @@ fn gap_fault(s: &[u8], at: usize, n: usize, place: usize) -> Verdict
 
 // 29, 30 or 31: the n distances from `at` on, and the gap, which stands at `place`. The first two are both asked for, so that their
 // order is the match alone.
-fn distances_fault(s: &[u8], at: usize, n: usize, place: usize) -> Verdict
-    requires { ⌜ (1 ≤ n) × (n ≤ maxDistances) × (at + 4 * n ≤ length (now s)) × (place + 4 ≤ length (now s)) ⌝ }
-    ensures { λ r. ⌜ r ≡ distancesFault (word 4 (now (s .entry)) place) (spaced (word 4 (now (s .entry))) 4 n at) at place ⌝ }
+fn distances_fault(s: &[u8], at: usize, n: usize, gap: u32, place: usize) -> Verdict
+    requires { ⌜ (1 ≤ n) × (n ≤ maxDistances) × (at + 4 * n ≤ length (now s)) ⌝ }
+    ensures { λ r. ⌜ r ≡ distancesFault gap (spaced (word 4 (now (s .entry))) 4 n at) at place ⌝ }
 {
     let falls = fall_fault(s, at, n);
     let last = last_fault(s, at, n);
     match falls {
         Verdict::Accepted => match last {
-            Verdict::Accepted => gap_fault(s, at, n, place),
+            Verdict::Accepted => gap_fault(s, at, n, gap, place),
             Verdict::Refused(_, _) => last,
         },
         Verdict::Refused(_, _) => falls,
@@ -223,15 +232,58 @@ fn distances_fault(s: &[u8], at: usize, n: usize, place: usize) -> Verdict
 
 // 2, 29, 30 or 31: the list of the chain record at `at`, its fixed part without a fault.
 fn list_fault(s: &[u8], at: usize) -> Verdict
-    requires { ⌜ (at + 16 ≤ length (now s)) × (1 ≤ listedAt (now s) at) × (listedAt (now s) at ≤ maxDistances) ⌝ }
+    requires { ⌜ (at + headLength (formAt (now s) at) ≤ length (now s)) × (1 ≤ listedAt (now s) at) × (listedAt (now s) at ≤ maxDistances) ⌝ }
     ensures { λ r. ⌜ r ≡ listFault (now (s .entry)) at ⌝ }
 {
     let n = listed_at(s, at);
-    let from = at + 16;
+    let from = list_place(s, at);
     if s.len() < from + 4 * n {
         return Verdict::Refused(2, s.len());
     }
-    distances_fault(s, from, n, at + 10)
+    distances_fault(s, from, n, gap_at(s, at), at + 10)
+}
+
+// The larger of two numbers.
+fn larger(a: u32, b: u32) -> u32
+    ensures { λ r. ⌜ r ≡ max a b ⌝ }
+{
+    if a < b { b } else { a }
+}
+
+// 33: the first of the n largest distances from `at` on that falls, exceeds the limit or lies below the smallest for its count; those stand
+// from `from` on.
+fn short_fault(s: &[u8], from: usize, at: usize, n: usize) -> Verdict
+    requires { ⌜ (from + 4 * n ≤ length (now s)) × (at + 4 * n ≤ length (now s)) ⌝ }
+    ensures { λ r. ⌜ r ≡ shortFault 0 (spaced (word 4 (now (s .entry))) 4 n from) (spaced (word 4 (now (s .entry))) 4 n at) at ⌝ }
+{
+    let mut before: u32 = 0;
+    let mut i: usize = 0;
+    while i < n {
+        let d = u32_at(s, at + 4 * i);
+        let least = larger(before, u32_at(s, from + 4 * i));
+        if outside(least, Table::LARGEST, d) {
+            return Verdict::Refused(33, at + 4 * i);
+        }
+        before = d;
+        i += 1;
+    }
+    Verdict::Accepted
+}
+
+// 33 or 2: the flag of the chain record at `at`, then its largest distances; its smallest ones are there.
+fn largest_fault(s: &[u8], at: usize) -> Verdict
+    requires { ⌜ (largestPlace (now s) at ≤ length (now s)) × (listedAt (now s) at ≤ maxDistances) ⌝ }
+    ensures { λ r. ⌜ r ≡ largestFault (now (s .entry)) at ⌝ }
+{
+    if 1 < flag_at(s, at) {
+        return Verdict::Refused(33, at + 10);
+    }
+    let n = known_at(s, at);
+    let from = largest_place(s, at);
+    if s.len() < from + 4 * n {
+        return Verdict::Refused(2, s.len());
+    }
+    short_fault(s, list_place(s, at), from, n)
 }
 
 // 2 or 3: the mark of the task record at `at`.
@@ -331,11 +383,13 @@ pub fn chain_fault(s: &[u8], at: usize, ids: &[u16; Table::CHAINS], before: Befo
         Verdict::Accepted => {
             let list = list_fault(s, at);
             match list {
-                Verdict::Accepted => tasks_fault(
-                    s,
-                    at + 16 + 4 * listed_at(s, at),
-                    tasks_at(s, at),
-                ),
+                Verdict::Accepted => {
+                    let largest = largest_fault(s, at);
+                    match largest {
+                        Verdict::Accepted => tasks_fault(s, first_task(s, at), tasks_at(s, at)),
+                        Verdict::Refused(_, _) => largest,
+                    }
+                }
                 Verdict::Refused(_, _) => list,
             }
         }

@@ -27,13 +27,20 @@ pub use places::count;
 pub use places::find;
 pub use places::place;
 pub use reader::judge;
+pub use reader::limit;
 pub use record::cost_at;
 pub use record::deadline_at;
 pub use record::distance_at;
 pub use record::first_task;
+pub use record::flag_at;
+pub use record::form_at;
 pub use record::gap_at;
+pub use record::has_flag;
+pub use record::head_length;
 pub use record::id_at;
 pub use record::kind_at;
+pub use record::known_at;
+pub use record::largest_at;
 pub use record::listed_at;
 pub use record::overload_at;
 pub use record::priority_at;
@@ -45,18 +52,22 @@ pub use wide::u32_from_u16;
 pub use wide::u64_from_u8;
 pub use wide::u64_from_u32;
 
-// A chain as it is stored: `listed` distances and `tasks` tasks. Places past a count are 0 in a row that was read; in one that a caller
-// lends anything may stand there. C callers lend rows too, so the layout is C's.
+// A chain as it is stored, its form by the mark: `listed` distances and `tasks` tasks, and with flag 1 as many largest distances. Places
+// past a count, and what the form lacks, are 0 in a row that was read; in one that a caller lends anything may stand there. C callers lend
+// rows too, so the layout is C's.
 #[repr(C)]
 pub struct Row {
+    pub form: u16,
     pub id: u16,
     pub kind: u8,
     pub overload: u8,
+    pub flag: u8,
     pub deadline: u32,
     pub gap: u32,
     pub listed: usize,
     pub tasks: usize,
     pub list: [u32; Table::DISTANCES],
+    pub largest: [u32; Table::DISTANCES],
     pub priority: [u16; Table::TASKS],
     pub cost: [u32; Table::TASKS],
 }
@@ -80,7 +91,7 @@ pub struct Reading {
     pub table: Table,
 }
 
-// The limits of document 01.
+// The limits of documents 01 and 02.
 pub struct Limits {
     pub chains: usize,
     pub tasks: usize,
@@ -91,12 +102,14 @@ pub struct Limits {
     pub deadline: u32,
     pub gap: u32,
     pub distance: u32,
+    pub largest: u32,
     pub horizon: u64,
     pub activations: u32,
     pub run: u32,
     pub overloads: usize,
     pub capacity: u64,
     pub bytes: usize,
+    pub gapbytes: usize,
 }
 
 // What the two bytes of a mark, as a number, stand for.
@@ -108,18 +121,26 @@ pub enum Mark {
 }
 
 impl Row {
+    // `CH` and `CG`.
+    pub const GAP_FORM: u16 = 18_499;
+
+    pub const LARGEST_FORM: u16 = 18_243;
+
     fn blank() -> Self
         ensures { λ r. ⌜ r ≡ blankRow ⌝ }
     {
         Row {
+            form: 0,
             id: 0,
             kind: 0,
             overload: 0,
+            flag: 0,
             deadline: 0,
             gap: 0,
             listed: 0,
             tasks: 0,
             list: [0u32; Table::DISTANCES],
+            largest: [0u32; Table::DISTANCES],
             priority: [0u16; Table::TASKS],
             cost: [0u32; Table::TASKS],
         }
@@ -145,6 +166,8 @@ impl Table {
 
     pub const DISTANCE: u32 = 10_000_000;
 
+    pub const LARGEST: u32 = 80_000_000;
+
     pub const HORIZON: u64 = 10_000_000;
 
     pub const ACTIVATIONS: u32 = 1_024;
@@ -155,7 +178,10 @@ impl Table {
 
     pub const CAPACITY: u64 = 40;
 
-    pub const BYTES: usize = 1_284;
+    // Of a table of either form, and of one whose first mark is not `CG`.
+    pub const BYTES: usize = 1_748;
+
+    pub const GAP_BYTES: usize = 1_284;
 
     // Every limit as one value: its contract ties each constant to the number of that name in specs/.
     pub fn limits() -> Limits
@@ -171,12 +197,14 @@ impl Table {
             deadline: Table::DEADLINE,
             gap: Table::GAP,
             distance: Table::DISTANCE,
+            largest: Table::LARGEST,
             horizon: Table::HORIZON,
             activations: Table::ACTIVATIONS,
             run: Table::RUN,
             overloads: Table::OVERLOADS,
             capacity: Table::CAPACITY,
             bytes: Table::BYTES,
+            gapbytes: Table::GAP_BYTES,
         }
     }
 

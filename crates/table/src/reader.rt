@@ -1,5 +1,6 @@
 // The judgement of a stored table: from the first byte on, and the first fault decides.
 use crate::Mark;
+use crate::Row;
 use crate::Table;
 use crate::Verdict;
 use crate::before::Before;
@@ -7,17 +8,32 @@ use crate::bytes::u16_at;
 use crate::fault::chain_fault;
 use crate::fault::end_fault;
 use crate::fault::mark_of;
+use crate::record::form_at;
 use crate::record::id_at;
 use crate::record::record_length;
 use crate::record::tasks_at;
 ghost use mathlib.Core.Path.{_≡_};
-ghost use Rattle.table.specs.Read.{readTable};
+ghost use Rattle.table.specs.Bytes.{word};
+ghost use Rattle.table.specs.Read.{limitOf, readTable};
+
+// How many bytes a table may have, by its first mark.
+pub fn limit(s: &[u8]) -> usize
+    ensures { λ r. ⌜ r ≡ limitOf (word 2 (now (s .entry)) 0) ⌝ }
+{
+    if s.len() < 2 {
+        return Table::GAP_BYTES;
+    }
+    if form_at(s, 0) == Row::LARGEST_FORM {
+        return Table::BYTES;
+    }
+    Table::GAP_BYTES
+}
 
 // Judges a stored table. No byte past the slice is looked at.
 pub fn judge(s: &[u8]) -> Verdict
     ensures { λ r. ⌜ r ≡ readTable (now (s .entry)) .verdict ⌝ }
 {
-    if s.len() == 0 || Table::BYTES < s.len() {
+    if s.len() == 0 || limit(s) < s.len() {
         return Verdict::Refused(1, 0);
     }
     let mut ids = [0u16; Table::CHAINS];
@@ -26,6 +42,9 @@ pub fn judge(s: &[u8]) -> Verdict
     while at + 2 <= s.len() {
         match mark_of(u16_at(s, at)) {
             Mark::Chain => {
+                if form_at(s, at) != form_at(s, 0) {
+                    return Verdict::Refused(3, at);
+                }
                 if before.count == Table::CHAINS {
                     return Verdict::Refused(11, at);
                 }

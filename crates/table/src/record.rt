@@ -1,79 +1,160 @@
-// A chain record's fields, read where they stand.
+// A chain record's fields, read where they stand. Here alone the two forms are told apart.
+use crate::Row;
 use crate::bytes::count_at;
 use crate::bytes::u16_at;
 use crate::bytes::u32_at;
 use crate::wide::u32_from_u16;
 ghost use mathlib.Core.Path.{_≡_};
-ghost use Prim.Native.Nat.{_+_, _≤_, _<_};
+ghost use Prim.Native.Nat.{_+_, _*_, _≤_, _<_};
 ghost use lib.ListN.{length, getD};
-ghost use Rattle.table.specs.Record.{idAt, kindAt, overloadAt, deadlineAt, gapAt, listedAt, tasksAt, firstTask, lengthAt, rowAt};
+ghost use lib.Dec.{eqb};
+ghost use Rattle.table.specs.Record.{largestForm, formAt, idAt, kindAt, overloadAt, deadlineAt, gapAt, flagAt, gapWidth, headLength, listedPlace, listedAt, tasksAt, listPlace, knownAt, largestPlace, firstTask, lengthAt, rowAt};
 ghost use Rattle.table.specs.code.Taken.{Stands};
 
-// How long the chain record at `at` is, by its count bytes as they stand.
-pub fn record_length(s: &[u8], at: usize) -> usize
-    requires { ⌜ at + 16 ≤ length (now s) ⌝ }
-    ensures { λ r. ⌜ r ≡ lengthAt (now (s .entry)) at ⌝ }
+// The form of the chain record at `at`: its mark as a number.
+pub fn form_at(s: &[u8], at: usize) -> u16
+    requires { ⌜ at + 2 ≤ length (now s) ⌝ }
+    ensures { λ r. ⌜ r ≡ formAt (now (s .entry)) at ⌝ }
 {
-    16 + 4 * listed_at(s, at) + 8 * tasks_at(s, at)
+    u16_at(s, at)
+}
+
+// Whether a chain of this form has a flag in the gap's place.
+pub fn has_flag(form: u16) -> bool
+    ensures { λ r. ⌜ r ≡ eqb form largestForm ⌝ }
+{
+    form == Row::LARGEST_FORM
+}
+
+// How many bytes the gap, or the flag in its place, has.
+fn gap_width(form: u16) -> usize
+    ensures { λ r. ⌜ (r ≡ gapWidth form) × (r ≤ 4) ⌝ }
+{
+    if form == Row::LARGEST_FORM { 1 } else { 4 }
+}
+
+// How many bytes the fixed part of a record has.
+pub fn head_length(form: u16) -> usize
+    ensures { λ r. ⌜ (r ≡ headLength form) × (r ≤ 16) ⌝ }
+{
+    12 + gap_width(form)
 }
 
 pub fn id_at(s: &[u8], at: usize) -> u16
-    requires { ⌜ at + 16 ≤ length (now s) ⌝ }
+    requires { ⌜ at + headLength (formAt (now s) at) ≤ length (now s) ⌝ }
     ensures { λ r. ⌜ r ≡ idAt (now (s .entry)) at ⌝ }
 {
     u16_at(s, at + 2)
 }
 
 pub fn kind_at(s: &[u8], at: usize) -> u8
-    requires { ⌜ at + 16 ≤ length (now s) ⌝ }
+    requires { ⌜ at + headLength (formAt (now s) at) ≤ length (now s) ⌝ }
     ensures { λ r. ⌜ r ≡ kindAt (now (s .entry)) at ⌝ }
 {
     s[at + 4]
 }
 
 pub fn overload_at(s: &[u8], at: usize) -> u8
-    requires { ⌜ at + 16 ≤ length (now s) ⌝ }
+    requires { ⌜ at + headLength (formAt (now s) at) ≤ length (now s) ⌝ }
     ensures { λ r. ⌜ r ≡ overloadAt (now (s .entry)) at ⌝ }
 {
     s[at + 5]
 }
 
 pub fn deadline_at(s: &[u8], at: usize) -> u32
-    requires { ⌜ at + 16 ≤ length (now s) ⌝ }
+    requires { ⌜ at + headLength (formAt (now s) at) ≤ length (now s) ⌝ }
     ensures { λ r. ⌜ r ≡ deadlineAt (now (s .entry)) at ⌝ }
 {
     u32_at(s, at + 6)
 }
 
+// Its gap, 0 where its form has none.
 pub fn gap_at(s: &[u8], at: usize) -> u32
-    requires { ⌜ at + 16 ≤ length (now s) ⌝ }
+    requires { ⌜ at + headLength (formAt (now s) at) ≤ length (now s) ⌝ }
     ensures { λ r. ⌜ r ≡ gapAt (now (s .entry)) at ⌝ }
 {
+    if form_at(s, at) == Row::LARGEST_FORM {
+        return 0;
+    }
     u32_at(s, at + 10)
+}
+
+// Its flag, 0 where its form has none.
+pub fn flag_at(s: &[u8], at: usize) -> u8
+    requires { ⌜ at + headLength (formAt (now s) at) ≤ length (now s) ⌝ }
+    ensures { λ r. ⌜ r ≡ flagAt (now (s .entry)) at ⌝ }
+{
+    if form_at(s, at) == Row::LARGEST_FORM {
+        return s[at + 10];
+    }
+    0
+}
+
+// Where its two counts stand.
+pub fn listed_place(s: &[u8], at: usize) -> usize
+    requires { ⌜ at + headLength (formAt (now s) at) ≤ length (now s) ⌝ }
+    ensures { λ r. ⌜ r ≡ listedPlace (now (s .entry)) at ⌝ }
+{
+    at + (10 + gap_width(form_at(s, at)))
 }
 
 // How many distances it lists.
 pub fn listed_at(s: &[u8], at: usize) -> usize
-    requires { ⌜ at + 16 ≤ length (now s) ⌝ }
+    requires { ⌜ at + headLength (formAt (now s) at) ≤ length (now s) ⌝ }
     ensures { λ r. ⌜ (r ≡ listedAt (now (s .entry)) at) × (r < 256) ⌝ }
 {
-    count_at(s, at + 14)
+    count_at(s, listed_place(s, at))
 }
 
 // How many tasks it has.
 pub fn tasks_at(s: &[u8], at: usize) -> usize
-    requires { ⌜ at + 16 ≤ length (now s) ⌝ }
+    requires { ⌜ at + headLength (formAt (now s) at) ≤ length (now s) ⌝ }
     ensures { λ r. ⌜ (r ≡ tasksAt (now (s .entry)) at) × (r < 256) ⌝ }
 {
-    count_at(s, at + 15)
+    count_at(s, listed_place(s, at) + 1)
 }
 
-// Where its tasks start.
+// How many largest distances it has.
+pub fn known_at(s: &[u8], at: usize) -> usize
+    requires { ⌜ at + headLength (formAt (now s) at) ≤ length (now s) ⌝ }
+    ensures { λ r. ⌜ (r ≡ knownAt (now (s .entry)) at) × (r ≤ listedAt (now (s .entry)) at) ⌝ }
+{
+    if flag_at(s, at) == 1 {
+        return listed_at(s, at);
+    }
+    0
+}
+
+// Where its smallest distances start.
+pub fn list_place(s: &[u8], at: usize) -> usize
+    requires { ⌜ at + headLength (formAt (now s) at) ≤ length (now s) ⌝ }
+    ensures { λ r. ⌜ r ≡ listPlace (now (s .entry)) at ⌝ }
+{
+    at + head_length(form_at(s, at))
+}
+
+// Where its largest distances start, its smallest being there.
+pub fn largest_place(s: &[u8], at: usize) -> usize
+    requires { ⌜ largestPlace (now s) at ≤ length (now s) ⌝ }
+    ensures { λ r. ⌜ r ≡ largestPlace (now (s .entry)) at ⌝ }
+{
+    list_place(s, at) + 4 * listed_at(s, at)
+}
+
+// Where its tasks start, its distances being there.
 pub fn first_task(s: &[u8], at: usize) -> usize
-    requires { ⌜ at + lengthAt (now s) at ≤ length (now s) ⌝ }
+    requires { ⌜ firstTask (now s) at ≤ length (now s) ⌝ }
     ensures { λ r. ⌜ r ≡ firstTask (now (s .entry)) at ⌝ }
 {
-    at + 16 + 4 * listed_at(s, at)
+    largest_place(s, at) + 4 * known_at(s, at)
+}
+
+// How long it is, by its count bytes as they stand.
+pub fn record_length(s: &[u8], at: usize) -> usize
+    requires { ⌜ at + headLength (formAt (now s) at) ≤ length (now s) ⌝ }
+    ensures { λ r. ⌜ r ≡ lengthAt (now (s .entry)) at ⌝ }
+{
+    head_length(form_at(s, at)) + 4 * listed_at(s, at) + 4 * known_at(s, at) + 8 * tasks_at(s, at)
 }
 
 // The distance j of a record that stands.
@@ -81,7 +162,15 @@ pub fn distance_at(s: &[u8], at: usize, j: usize) -> u32
     requires { ⌜ Stands (now s) at × (j < listedAt (now s) at) ⌝ }
     ensures { λ r. ⌜ r ≡ getD (rowAt (now (s .entry)) at .list) j 0 ⌝ }
 {
-    u32_at(s, at + 16 + 4 * j)
+    u32_at(s, list_place(s, at) + 4 * j)
+}
+
+// Its largest distance j.
+pub fn largest_at(s: &[u8], at: usize, j: usize) -> u32
+    requires { ⌜ Stands (now s) at × (j < knownAt (now s) at) ⌝ }
+    ensures { λ r. ⌜ r ≡ getD (rowAt (now (s .entry)) at .largest) j 0 ⌝ }
+{
+    u32_at(s, largest_place(s, at) + 4 * j)
 }
 
 // The priority of its task i, as a wider number, which has room for a level above every priority.

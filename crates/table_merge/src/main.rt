@@ -1,7 +1,7 @@
 // Merges two edited copies of a table, given their common ancestor: its three arguments name the files of the ancestor, the
 // first and the second copy. The result alone goes to standard output; where there is none, standard error has why.
 use input::Input;
-use input::take_in;
+use input::take_file;
 use libc::STDERR_FILENO;
 use libc::STDOUT_FILENO;
 use merging::Found;
@@ -12,47 +12,12 @@ use verdict_text::put_number;
 use verdict_text::put_refusal;
 use verdict_text::put_refused;
 use verdict_text::put_sentence;
-ghost use mathlib.Core.Path.{_≡_};
-ghost use Prim.Native.Nat.{ℕ, _≤_};
-ghost use lib.ListN.{length};
 
 // One byte more than the longest table, so that a longer one is seen to be too long.
 const READ: usize = Table::BYTES + 1;
 
 // Each record of a result stands in one of the two copies, so every result has room.
 const ROOM: usize = 2 * Table::BYTES;
-
-// ---- The three files ----
-
-// What a file holds; where it cannot be read, that is said.
-fn take_named(name: &[u8], buffer: &mut [u8]) -> Input
-    ensures { λ r. ⌜ ((n : ℕ) → r ≡ Input.Bytes n → n ≤ length (now (buffer .exit))) ⌝ }
-{
-    let file = os::open_read(name);
-    if file < 0 {
-        os::fail(name);
-        return Input::Failed;
-    }
-    let taken = take_in(file, buffer);
-    if let Input::Failed = taken {
-        os::fail(name);
-    }
-    libc::close(file);
-    taken
-}
-
-// What the file holds that this argument names.
-fn take_file(argument: usize, which: &[u8], buffer: &mut [u8]) -> Input
-    ensures { λ r. ⌜ ((n : ℕ) → r ≡ Input.Bytes n → n ≤ length (now (buffer .exit))) ⌝ }
-{
-    let mut name = io::buffer();
-    let n = os::arg(argument, &mut name);
-    if os::errno() != 0 {
-        os::fail(which);
-        return Input::Failed;
-    }
-    take_named(&name[..n], buffer)
-}
 
 // ---- The answer: each function says whether it was written ----
 

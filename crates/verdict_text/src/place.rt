@@ -5,14 +5,20 @@ use crate::output::put_counted;
 use crate::output::put_number;
 use table::Mark;
 use table::Table;
+use table::form_at;
+use table::has_flag;
+use table::head_length;
+use table::known_at;
+use table::limit;
 use table::listed_at;
 use table::mark_of;
 use table::record_length;
 use table::u16_at;
 ghost use mathlib.Core.Path.{_≡_};
 ghost use mathlib.Core.Bool.{true};
-ghost use Prim.Native.Nat.{_+_, _≤_};
+ghost use Prim.Native.Nat.{_+_, _≤_, _<_};
 ghost use lib.ListN.{length};
+ghost use Rattle.table.specs.Record.{formAt, headLength};
 
 // What begins at an offset, by its mark.
 enum Record {
@@ -47,23 +53,22 @@ fn record_at(s: &[u8], start: usize) -> Record {
     }
 }
 
+// Whether all of the fixed part is there that a chain record with the mark at `start` has.
+fn has_head(s: &[u8], start: usize) -> bool
+    ensures { λ r. ⌜ (r ≡ true → start + headLength (formAt (now (s .entry)) start) ≤ length (now (s .entry))) ⌝ }
+{
+    is_there(s, start, 2) && is_there(s, start, head_length(form_at(s, start)))
+}
+
 // How long the chain record is that begins here; 0 where there is none with all of its fixed part.
 fn chain_length(s: &[u8], start: usize) -> usize {
-    if !is_there(s, start, 16) {
+    if !has_head(s, start) {
         return 0;
     }
     match record_at(s, start) {
         Record::Chain => record_length(s, start),
         _ => 0,
     }
-}
-
-// How many distances it lists; 0 where its fixed part is not all there.
-fn listed(s: &[u8], start: usize) -> usize {
-    if !is_there(s, start, 16) {
-        return 0;
-    }
-    listed_at(s, start)
 }
 
 // The record in which an offset lies. No table is read past the mark of a 17th chain.
@@ -90,17 +95,32 @@ fn place_of(s: &[u8], at: usize) -> Place {
     }
 }
 
-// A field of a chain's fixed part.
-fn put_fixed(to: i32, offset: usize) -> bool {
+// What a chain of this form has after its deadline, by how many bytes of its fixed part are left there.
+fn put_last(to: i32, form: u16, left: usize) -> bool {
+    match left {
+        1 => put(to, b"task count"),
+        2 => put(to, b"list length"),
+        _ => {
+            if has_flag(form) {
+                put(to, b"flag")
+            } else {
+                put(to, b"gap")
+            }
+        }
+    }
+}
+
+// A field of the fixed part that a chain of this form has.
+fn put_fixed(to: i32, form: u16, offset: usize) -> bool
+    requires { ⌜ offset < headLength form ⌝ }
+{
     match offset {
         0 | 1 => put(to, b"mark"),
         2 | 3 => put(to, b"id"),
         4 => put(to, b"kind"),
         5 => put(to, b"overload"),
         6..=9 => put(to, b"deadline"),
-        10..=13 => put(to, b"gap"),
-        14 => put(to, b"list length"),
-        _ => put(to, b"task count"),
+        _ => put_last(to, form, head_length(form) - offset),
     }
 }
 
@@ -114,16 +134,30 @@ fn put_task(to: i32, offset: usize) -> bool {
     }
 }
 
-// A field of a chain record with so many distances.
-fn put_chain(to: i32, listed: usize, offset: usize) -> bool {
-    if offset < 16 {
-        return put_fixed(to, offset);
+// A field after the fixed part of a chain with so many distances and largest distances.
+fn put_listed(to: i32, listed: usize, known: usize, offset: usize) -> bool {
+    let place = offset / 4;
+    if place < listed {
+        return put(to, b"distance ") && put_number(to, place + 1);
     }
-    let after = offset - 16;
-    if after / 4 < listed {
-        put(to, b"distance ") && put_number(to, after / 4 + 1)
+    let past = place - listed;
+    if past < known {
+        return put(to, b"largest distance ") && put_number(to, past + 1);
+    }
+    put_task(to, offset - 4 * (listed + known))
+}
+
+// A field of the chain record at `start`. One whose fixed part is cut off has its mark alone to be refused for.
+fn put_chain(to: i32, s: &[u8], start: usize, offset: usize) -> bool {
+    if !has_head(s, start) {
+        return put(to, b"mark");
+    }
+    let form = form_at(s, start);
+    let head = head_length(form);
+    if offset < head {
+        put_fixed(to, form, offset)
     } else {
-        put_task(to, after - 4 * listed)
+        put_listed(to, listed_at(s, start), known_at(s, start), offset - head)
     }
 }
 
@@ -139,7 +173,7 @@ fn put_field(to: i32, s: &[u8], p: Place) -> bool {
     match record_at(s, p.start) {
         Record::Chain => {
             let chain = put(to, b"chain record ") && put_number(to, p.record) && put(to, b", ");
-            chain && put_chain(to, listed(s, p.start), p.offset)
+            chain && put_chain(to, s, p.start, p.offset)
         }
         Record::End => put_end(to, p.offset),
         _ => put(to, b"record ") && put_number(to, p.record) && put(to, b", mark"),
@@ -164,9 +198,12 @@ fn put_missing(to: i32, s: &[u8], p: Place) -> bool {
     }
 }
 
-fn put_length(to: i32, n: usize) -> bool {
-    if n == 0 {
-        put(to, b"the table has 0 bytes")
+fn put_length(to: i32, s: &[u8]) -> bool {
+    if s.len() == 0 {
+        return put(to, b"the table has 0 bytes");
+    }
+    if limit(s) == Table::BYTES {
+        put(to, b"the table has more than 1,748 bytes")
     } else {
         put(to, b"the table has more than 1,284 bytes")
     }
@@ -175,7 +212,7 @@ fn put_length(to: i32, n: usize) -> bool {
 // The place that a refusal of this number has at this offset.
 pub(crate) fn put_place(to: i32, s: &[u8], number: u32, at: usize) -> bool {
     match number {
-        1 => put_length(to, s.len()),
+        1 => put_length(to, s),
         2 => {
             let after = put(to, b"after ") && put_counted(to, at, b" byte") && put(to, b", ");
             after && put_missing(to, s, place_of(s, at))

@@ -1,4 +1,4 @@
-// What is wrong, for each number that a table or a merge is refused with: the sentences of include/mishtodran.h.
+// What is wrong, for each number that a table, a merge or a conversion is refused with: the sentences of include/mishtodran.h.
 use crate::output::put;
 
 // Any other number has none.
@@ -6,13 +6,16 @@ pub fn put_sentence(to: i32, number: u32) -> bool {
     match number {
         1 => put(
             to,
-            b"the table's length is 0, above 1,284 or above its buffer",
+            b"the table's length is 0, above 1,284 (1,748 for CG) or above its buffer",
         ),
         2 => put(
             to,
             b"bytes run out inside a record or before the end record",
         ),
-        3 => put(to, b"a mark is not one allowed there"),
+        3 => put(
+            to,
+            b"a mark is not one allowed there, or is of another form than the first",
+        ),
         4 => put(to, b"an id is 0 or used earlier"),
         5 => put(to, b"a kind or overload byte is above 1"),
         6 => put(to, b"a deadline is not 1 to 10,000,000"),
@@ -35,6 +38,14 @@ pub fn put_sentence(to: i32, number: u32) -> bool {
         30 => put(to, b"the last distance is 0"),
         31 => put(to, b"a gap other than 0 is too small for the distances"),
         32 => put(to, b"some id is changed differently on both sides"),
+        33 => put(
+            to,
+            b"a flag is above 1, or a largest distance falls, is too large or too small",
+        ),
+        34 => put(
+            to,
+            b"some chain has no such form, or the table already has it",
+        ),
         _ => true,
     }
 }

@@ -57,38 +57,38 @@ fn read_first(s: &[u8], rows: [Row; ROWS], n: usize) -> Read
 
 // ---- Rows from the input ----
 
-// The distances, the priorities and the costs of the row that these 160 bytes are.
-fn list_of(s: &[u8]) -> [u32; Table::DISTANCES]
-    requires { ⌜ 160 ≤ length (now s) ⌝ }
+// The distances that start at `from`, the priorities and the costs of the row that these 192 bytes are.
+fn list_of(s: &[u8], from: usize) -> [u32; Table::DISTANCES]
+    requires { ⌜ (192 ≤ length (now s)) × (from ≤ 64) ⌝ }
 {
     let mut list = [0u32; Table::DISTANCES];
     let mut i: usize = 0;
     while i < Table::DISTANCES {
-        list[i] = table::u32_at(s, 32 + 4 * i);
+        list[i] = table::u32_at(s, from + 4 * i);
         i += 1;
     }
     list
 }
 
 fn priorities_of(s: &[u8]) -> [u16; Table::TASKS]
-    requires { ⌜ 160 ≤ length (now s) ⌝ }
+    requires { ⌜ 192 ≤ length (now s) ⌝ }
 {
     let mut priority = [0u16; Table::TASKS];
     let mut i: usize = 0;
     while i < Table::TASKS {
-        priority[i] = table::u16_at(s, 64 + 2 * i);
+        priority[i] = table::u16_at(s, 96 + 2 * i);
         i += 1;
     }
     priority
 }
 
 fn costs_of(s: &[u8]) -> [u32; Table::TASKS]
-    requires { ⌜ 160 ≤ length (now s) ⌝ }
+    requires { ⌜ 192 ≤ length (now s) ⌝ }
 {
     let mut cost = [0u32; Table::TASKS];
     let mut i: usize = 0;
     while i < Table::TASKS {
-        cost[i] = table::u32_at(s, 96 + 4 * i);
+        cost[i] = table::u32_at(s, 128 + 4 * i);
         i += 1;
     }
     cost
@@ -96,42 +96,49 @@ fn costs_of(s: &[u8]) -> [u32; Table::TASKS]
 
 // The row itself.
 fn row_of(s: &[u8]) -> Row
-    requires { ⌜ 160 ≤ length (now s) ⌝ }
+    requires { ⌜ 192 ≤ length (now s) ⌝ }
 {
-    let list = list_of(s);
+    let list = list_of(s, 32);
+    let largest = list_of(s, 64);
     let priority = priorities_of(s);
     let cost = costs_of(s);
     Row {
-        id: table::u16_at(s, 0),
-        kind: s[2],
-        overload: s[3],
-        deadline: table::u32_at(s, 4),
-        gap: table::u32_at(s, 8),
+        form: table::u16_at(s, 0),
+        id: table::u16_at(s, 2),
+        kind: s[4],
+        overload: s[5],
+        flag: s[6],
+        deadline: table::u32_at(s, 8),
+        gap: table::u32_at(s, 12),
         listed: table::u64_at(s, 16) as usize,
         tasks: table::u64_at(s, 24) as usize,
         list,
+        largest,
         priority,
         cost,
     }
 }
 
 fn next_row() -> Row {
-    let mut bytes = [0u8; 160];
+    let mut bytes = [0u8; 192];
     io::read_full(STDIN_FILENO, &mut bytes);
     row_of(&bytes)
 }
 
-// A row that no table holds, with no place past its counts.
+// A row that no table holds, with no place past its counts and a form that lacks nothing.
 fn scribbled_row() -> Row {
     Row {
+        form: 42_405,
         id: 41_377,
         kind: 163,
         overload: 164,
+        flag: 166,
         deadline: 2_779_096_485,
         gap: 2_796_202_666,
         listed: Table::DISTANCES,
         tasks: Table::TASKS,
         list: [2_880_154_539u32; Table::DISTANCES],
+        largest: [2_846_468_521u32; Table::DISTANCES],
         priority: [44_204u16; Table::TASKS],
         cost: [2_913_840_557u32; Table::TASKS],
     }
@@ -184,29 +191,64 @@ fn shorts_come_back(a: &[u16], n: usize, b: &[u16]) -> bool {
     true
 }
 
-// Whether the lists, the priorities and the costs are the row's, and 0 past its counts.
-fn places_come_back(row: Row, found: Row) -> bool {
-    let list = row.list;
-    let priority = row.priority;
-    let cost = row.cost;
-    let found_list = found.list;
-    let found_priority = found.priority;
-    let found_cost = found.cost;
-    longs_come_back(&list, row.listed, &found_list)
-        && shorts_come_back(&priority, row.tasks, &found_priority)
-        && longs_come_back(&cost, row.tasks, &found_cost)
+// The gap and the flag of a row, 0 where its form has none, and how many largest distances it has.
+fn gap_back(form: u16, gap: u32) -> u32 {
+    if form == Row::LARGEST_FORM { 0 } else { gap }
 }
 
-// Whether what was found is the row, with 0 in the places past its counts.
+fn flag_back(form: u16, flag: u8) -> u8 {
+    if form == Row::GAP_FORM { 0 } else { flag }
+}
+
+fn known_back(form: u16, flag: u8, listed: usize) -> usize {
+    if flag_back(form, flag) == 0 {
+        0
+    } else {
+        listed
+    }
+}
+
+// Whether each list is the row's, and 0 past its count.
+fn list_comes_back(row: Row, found: Row) -> bool {
+    let list = row.list;
+    let found_list = found.list;
+    longs_come_back(&list, row.listed, &found_list)
+}
+
+fn largest_comes_back(row: Row, found: Row) -> bool {
+    let known = known_back(row.form, row.flag, row.listed);
+    let largest = row.largest;
+    let found_largest = found.largest;
+    longs_come_back(&largest, known, &found_largest)
+}
+
+fn priority_comes_back(row: Row, found: Row) -> bool {
+    let priority = row.priority;
+    let found_priority = found.priority;
+    shorts_come_back(&priority, row.tasks, &found_priority)
+}
+
+fn cost_comes_back(row: Row, found: Row) -> bool {
+    let cost = row.cost;
+    let found_cost = found.cost;
+    longs_come_back(&cost, row.tasks, &found_cost)
+}
+
+// Whether what was found is the row, with 0 for what its form lacks and in the places past its counts.
 fn comes_back(row: Row, found: Row) -> bool {
-    row.id == found.id
+    row.form == found.form
+        && row.id == found.id
         && row.kind == found.kind
         && row.overload == found.overload
+        && flag_back(row.form, row.flag) == found.flag
         && row.deadline == found.deadline
-        && row.gap == found.gap
+        && gap_back(row.form, row.gap) == found.gap
         && row.listed == found.listed
         && row.tasks == found.tasks
-        && places_come_back(row, found)
+        && list_comes_back(row, found)
+        && largest_comes_back(row, found)
+        && priority_comes_back(row, found)
+        && cost_comes_back(row, found)
 }
 
 fn come_back(rows: [Row; ROWS], found: [Row; ROWS]) -> bool {

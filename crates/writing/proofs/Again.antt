@@ -2,12 +2,15 @@
 use Prim.Native.Nat.{ℕ, zero, suc, min, _+_, _*_, _<_, _≤_}
 use native.Mathlib.Omega.{arith}
 use native.Mathlib.Nat.{mul-suc}
-use mathlib.Core.Path.{_≡_, refl, ap, sym, subst, _∙_}
+use mathlib.Core.Path.{_≡_, ap, sym, subst, _∙_}
 use mathlib.Core.List.{List, [], _++_, map, flatten}
+use mathlib.Core.Bool.{Bool, true, false}
+use lib.Dec.{eqb}
 use lib.ListN.{length, getD, take, drop, length-map, length-take}
 use lib.Seq.{ext-getD, getD-take}
+use Rattle.search.specs.Choice.{_when_else_}
 use Rattle.table.specs.Bytes.{word, bytesOf, Bytes}
-use Rattle.table.specs.Record.{endRecord, idAt, kindAt, overloadAt, deadlineAt, gapAt, listedAt, tasksAt, listPlace, afterList, firstTask, lengthAt, priorityAt, costAt, rowAt, blank}
+use Rattle.table.specs.Record.{largestForm, formAt, gapAt, flagAt, gapWidth, headLength, listedAt, tasksAt, listPlace, knownAt, largestPlace, firstTask, lengthAt, endRecord, rowAt, blank}
 use Rattle.table.specs.Find.{rowOf, rows}
 use Rattle.table.specs.Fault.{markOf}
 use Rattle.table.specs.Place.{lengthOf, placeOf}
@@ -18,16 +21,17 @@ use Rattle.table.specs.declared.Table.{Table}
 use Rattle.table.specs.declared.Mark.the-variants.{Chain, Task}
 use Rattle.table.specs.declared.Verdict.{Verdict}
 use Rattle.table.specs.declared.Verdict.the-variants.{Accepted}
-use Rattle.table.proofs.Marks.{mark-number, task-there}
+use Rattle.table.proofs.Marks.{task-there}
 use Rattle.table.proofs.Words.{word-back, take-next}
 use Rattle.table.proofs.Accepted.{taken}
-use Rattle.table.proofs.Stands.{list-at, priority-at, cost-at}
+use Rattle.table.proofs.Stands.{list-at, largest-at, priority-at, cost-at}
 use Rattle.slices.specs.Stored.{recordOf}
 use Rattle.slices.proofs.Parts.{map-at}
 use Rattle.slices.proofs.Stored.{record-is}
 use Rattle.slices.proofs.Records.{recordsFrom, length-records, records-at, parts-of}
 use Rattle.slices.proofs.Ends.{end-stored}
-use Rattle.writing.specs.Rows.{countByte, headBytes, distanceBytes, taskBytes, pieces, listBytes, tasksBytes, rowBytes, tableBytes}
+use Rattle.writing.specs.Rows.{formMark, gapBytes, countByte, headBytes, distanceBytes, taskBytes, pieces, listBytes, tasksBytes, rowBytes, tableBytes}
+use Rattle.writing.proofs.Forms.{mark-own, chain-is}
 use Rattle.writing.proofs.Pieces.{more-pieces}
 use Rattle.writing.proofs.Fields.{one-byte}
 
@@ -51,30 +55,51 @@ module _ (s : List ℕ) (bytes : Bytes s) where
   count : (p : ℕ) → p + 1 ≤ length s → countByte (getD s p 0) ≡ take 1 (drop p s)
   count p h = let e : min (getD s p 0) 255 ≡ getD s p 0 = omega (arith, bytes p) in ap (bytesOf 1) e ∙ byte p h
 
+  -- the gap, or the flag in its place
+  gap-again : (at : ℕ) → at + 10 + gapWidth (formAt s at) ≤ length s → gapBytes (formAt s at) (flagAt s at) (gapAt s at) ≡ take (gapWidth (formAt s at)) (drop (at + 10) s)
+  unfolding gapBytes flagAt gapAt gapWidth _when_else_
+  gap-again at = by (eqb (formAt s at) largestForm)
+    where
+      by : (b : Bool) → at + 10 + (1 when b else 4) ≤ length s
+          → (bytesOf 1 (getD s (at + 10) 0 when b else 0) when b else bytesOf 4 (0 when b else word 4 s (at + 10))) ≡ take (1 when b else 4) (drop (at + 10) s)
+      by true h = byte (at + 10) h
+      by false h = number 4 (at + 10) h
+
   -- a whole chain record, its marks right
-  module _ (at : ℕ) (there : at + lengthAt s at ≤ length s) (mark : word 2 s at ≡ 18499) (marks : (i : ℕ) → i < tasksAt s at → markOf (word 2 s (firstTask s at + 8 * i)) ≡ Task) where
+  module _ (at : ℕ) (there : at + lengthAt s at ≤ length s) (mark : markOf (word 2 s at) ≡ Chain) (marks : (i : ℕ) → i < tasksAt s at → markOf (word 2 s (firstTask s at + 8 * i)) ≡ Task) where
     abbrev r : Row
     r = rowAt s at
 
-    head-again : headBytes r ≡ take 16 (drop at s)
+    abbrev width : ℕ
+    width = gapWidth (formAt s at)
+
+    head-again : headBytes r ≡ take (headLength (formAt s at)) (drop at s)
     unfolding headBytes rowAt
     head-again =
-        let first : bytesOf 2 18499 ≡ take 2 (drop at s) = ap (bytesOf 2) (sym mark) ∙ number 2 at (omega arith) in
+        let first : bytesOf 2 (formMark (formAt s at)) ≡ take 2 (drop at s) = ap (bytesOf 2) (mark-own (formAt s at) (chain-is (formAt s at) mark)) ∙ number 2 at (omega arith) in
+        let all : headLength (formAt s at) ≡ 10 + width + 1 + 1 = omega arith in
+        let last : at + (10 + width + 1) ≡ at + (11 + width) = omega arith in
         rw (
+          all,
           first,
           number 2 (at + 2) (omega arith),
           byte (at + 4) (omega arith),
           byte (at + 5) (omega arith),
           number 4 (at + 6) (omega arith),
-          number 4 (at + 10) (omega arith),
-          count (at + 14) (omega arith),
-          count (at + 15) (omega arith),
+          gap-again at (omega arith),
+          count (at + (10 + width)) (omega arith),
+          count (at + (11 + width)) (omega arith),
         )
-        (sym (take-next s at 15 1 ∙ rw (take-next s at 14 1, take-next s at 10 4, take-next s at 6 4, take-next s at 5 1, take-next s at 4 1, take-next s at 2 2)))
+        (sym (take-next s at (10 + width + 1) 1
+        ∙ rw (last, take-next s at (10 + width) 1, take-next s at 10 width, take-next s at 6 4, take-next s at 5 1, take-next s at 4 1, take-next s at 2 2)))
 
-    list-again : listBytes (r .list) (listedAt s at) ≡ take (4 * listedAt s at) (drop (listPlace at) s)
-    list-again = pieces-again s (distanceBytes (r .list)) 4 (listPlace at) (listedAt s at)
-        (λ j h. ap (bytesOf 4) (list-at s at j h) ∙ number 4 (listPlace at + 4 * j) (omega (arith, there, h)))
+    list-again : listBytes (r .list) (listedAt s at) ≡ take (4 * listedAt s at) (drop (listPlace s at) s)
+    list-again = pieces-again s (distanceBytes (r .list)) 4 (listPlace s at) (listedAt s at)
+        (λ j h. ap (bytesOf 4) (list-at s at j h) ∙ number 4 (listPlace s at + 4 * j) (omega (arith, there, h)))
+
+    largest-again : listBytes (r .largest) (knownAt s at) ≡ take (4 * knownAt s at) (drop (largestPlace s at) s)
+    largest-again = pieces-again s (distanceBytes (r .largest)) 4 (largestPlace s at) (knownAt s at)
+        (λ j h. ap (bytesOf 4) (largest-at s at j h) ∙ number 4 (largestPlace s at + 4 * j) (omega (arith, there, h)))
 
     task-again : (i : ℕ) → i < tasksAt s at → taskBytes (r .priority) (r .cost) i ≡ take 8 (drop (firstTask s at + 8 * i) s)
     task-again i h =
@@ -88,10 +113,13 @@ module _ (s : List ℕ) (bytes : Bytes s) where
     row-again : rowBytes r ≡ take (lengthAt s at) (drop at s)
     unfolding rowBytes rowAt
     row-again =
+        let h = headLength (formAt s at) in
         let n = 4 * listedAt s at in
-        let p : at + 16 + n ≡ at + (16 + n) = omega arith in
-        rw (head-again, list-again, tasks-again)
-        (sym (take-next s at (16 + n) (8 * tasksAt s at) ∙ rw (take-next s at 16 n, ← p)))
+        let k = 4 * knownAt s at in
+        let p : largestPlace s at ≡ at + (h + n) = omega arith in
+        let q : firstTask s at ≡ at + (h + n + k) = omega arith in
+        rw (head-again, list-again, largest-again, tasks-again, q, p)
+        (sym (take-next s at (h + n + k) (8 * tasksAt s at) ∙ rw (take-next s at (h + n) k, take-next s at h n)))
 
 -- an accepted table
 module _ (s : List ℕ) (bytes : Bytes s) (verdict : readTable s .verdict ≡ Accepted) where
@@ -110,9 +138,9 @@ module _ (s : List ℕ) (bytes : Bytes s) (verdict : readTable s .verdict ≡ Ac
       let at = placeOf t chain in
       let makes = whole .holds .makes chain h in
       let size : lengthAt s at ≡ lengthOf (rowOf t chain) = ap lengthOf makes in
-      let marks = subst (λ (r : Row). (i : ℕ) → i < r .tasks → markOf (word 2 s (afterList at (r .listed) + 8 * i)) ≡ Task) (sym makes) (whole .holds .task-marks chain h) in
+      let marks : (i : ℕ) → i < tasksAt s at → markOf (word 2 s (firstTask s at + 8 * i)) ≡ Task = λ i l. whole .holds .task-marks chain h i (subst (λ (r : Row). i < r .tasks) makes l) in
       ap rowBytes (sym makes)
-      ∙ row-again s bytes at (omega (arith, whole .holds .inside chain h, size)) (mark-number (word 2 s at) (whole .holds .marks chain h) (omega arith)) marks
+      ∙ row-again s bytes at (omega (arith, whole .holds .inside chain h, size)) (whole .holds .marks chain h) marks
       ∙ ap (λ (n : ℕ). take n (drop at s)) size ∙ sym (record-is s t read chain)
 
   records-again : map rowBytes (rows t) ≡ recordsFrom s (t .count) 0

@@ -1,8 +1,8 @@
 -- What a write answers by what was judged is what the rows' bytes call for, and then all rows are put or none. Assumes nothing.
-use Prim.Native.Nat.{ℕ, zero, suc, _+_, _<_, _≤_}
+use Prim.Native.Nat.{ℕ, zero, suc, _+_, _≤_}
 use native.Mathlib.Omega.{arith}
 use mathlib.Core.Path.{_≡_, refl, ap, sym, _∙_}
-use mathlib.Core.List.{List, _++_, map, flatten}
+use mathlib.Core.List.{List, map, flatten}
 use mathlib.Core.Bool.{Bool, true, false}
 use borrow.Author.Tests.{ltb-false, eq-eqb, ne-eqb}
 use lib.Dec.{eqb, ltb}
@@ -17,7 +17,6 @@ use Rattle.writing.specs.Write.{numberOf, writtenOf}
 use Rattle.writing.specs.code.Tally.{unjudged, JudgedRows}
 use Rattle.writing.specs.code.Put.{judgedNumber, tableLength, writeAnswer, rowsPut}
 use Rattle.writing.specs.declared.judged.Tally.{Tally}
-use Rattle.writing.specs.declared.Written.{Written}
 use Rattle.writing.specs.declared.Written.the-variants.{Used, Refused}
 use Rattle.writing.proofs.Numbers.{number-none}
 use Rattle.writing.proofs.Verdicts.{says-by}

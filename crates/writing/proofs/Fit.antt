@@ -27,19 +27,24 @@ each-below w p (x ∷ xs) (u ∷ us) h (suc j) = each-below w p xs us (h .1) j
 pub row-fits : (r : Row) (vs : List Val) → Is (row the-type) r vs → Typed r
 row-fits r vs h =
     let f = h .1 .1 in
-    let list = f .1 .1 .1 .1 .1 .1 .1 .0 in
-    let priority = f .1 .1 .1 .1 .1 .1 .1 .1 .0 in
-    let cost = f .1 .1 .1 .1 .1 .1 .1 .1 .1 .0 in
+    let list = f .1 .1 .1 .1 .1 .1 .1 .1 .1 .0 in
+    let largest = f .1 .1 .1 .1 .1 .1 .1 .1 .1 .1 .0 in
+    let priority = f .1 .1 .1 .1 .1 .1 .1 .1 .1 .1 .1 .0 in
+    let cost = f .1 .1 .1 .1 .1 .1 .1 .1 .1 .1 .1 .1 .0 in
     record {
-      id = f .0 .1;
-      kind = f .1 .0 .1;
-      overload = f .1 .1 .0 .1;
-      deadline = f .1 .1 .1 .0 .1;
-      gap = f .1 .1 .1 .1 .0 .1;
+      form = f .0 .1;
+      id = f .1 .0 .1;
+      kind = f .1 .1 .0 .1;
+      overload = f .1 .1 .1 .0 .1;
+      flag = f .1 .1 .1 .1 .0 .1;
+      deadline = f .1 .1 .1 .1 .1 .0 .1;
+      gap = f .1 .1 .1 .1 .1 .1 .0 .1;
       list = each-below w32 (omega arith) (r .list) (list .0) (list .1 .1);
+      largest = each-below w32 (omega arith) (r .largest) (largest .0) (largest .1 .1);
       priority = each-below w16 (omega arith) (r .priority) (priority .0) (priority .1 .1);
       cost = each-below w32 (omega arith) (r .cost) (cost .0) (cost .1 .1);
       list-places = sym (length-map (r .list) (λ n. n)) ∙ list .1 .0 .1;
+      largest-places = sym (length-map (r .largest) (λ n. n)) ∙ largest .1 .0 .1;
       priority-places = sym (length-map (r .priority) (λ n. n)) ∙ priority .1 .0 .1;
       cost-places = sym (length-map (r .cost) (λ n. n)) ∙ cost .1 .0 .1;
     }

@@ -1,6 +1,7 @@
 pub mod Fit
 pub mod Ids
 pub mod Lefts
+pub mod Forms
 pub mod Numbers
 pub mod Pieces
 pub mod Puts

@@ -8,7 +8,6 @@ use borrow.Author.Tests.{eq-eqb, ne-eqb}
 use lib.ListN.{length, getD, take, drop, set, length-append, length-take, take-append-drop}
 use lib.Seq.{drop-cons, take-suc, take-length, getD-take, set-at, append-snoc, length-take-le}
 use Rattle.search.specs.Lists.{All}
-use Rattle.table.specs.Limits.{maxChains}
 use Rattle.table.specs.Record.{blank, rowAt, lengthAt}
 use Rattle.table.specs.Read.{tableOf}
 use Rattle.table.specs.Place.{placeOf}
@@ -41,7 +40,7 @@ use Rattle.writing.proofs.Fillings.{Filling, filling, there, chain-ther
 -- Rows judged one after the other
 
 pub small-start : Small unjudged
-small-start = record { count = omega arith; tasks = omega arith; bytes = omega arith; places = refl }
+small-start = record { count = omega arith; tasks = omega arith; bytes = omega arith; gap-bytes = λ h. omega arith; places = refl }
 
 pub judged-on : (j : Tally) (ys : List Row) (k : ℕ) → k < min (length ys) mostJudged
     → judgedAll j (drop k (take mostJudged ys)) ≡ judgedAll (judgedWith j (getD ys k blank)) (drop (k + 1) (take mostJudged ys))
@@ -79,15 +78,15 @@ unfolding flatten
 rows-start ys buffer = wrote-none buffer 0 (omega arith)
 
 -- the records of one row more
-records-more : (ys : List Row) (k : ℕ) → k < length ys → rowRecords ys (k + 1) ≡ rowRecords ys k ++ rowBytes (getD ys k blank)
+pub records-more : (ys : List Row) (k : ℕ) → k < length ys → rowRecords ys (k + 1) ≡ rowRecords ys k ++ rowBytes (getD ys k blank)
 unfolding flatten
 records-more ys k h = rw (take-more ys k blank h, map-append, flatten-append, append-nil)
 
 -- the records of the first rows and of the others are all records
-records-split : (ys : List Row) (n : ℕ) → flatten (map rowBytes ys) ≡ rowRecords ys n ++ flatten (map rowBytes (drop n ys))
+pub records-split : (ys : List Row) (n : ℕ) → flatten (map rowBytes ys) ≡ rowRecords ys n ++ flatten (map rowBytes (drop n ys))
 records-split ys n = ap (λ (l : List Row). flatten (map rowBytes l)) (sym (take-append-drop n ys)) ∙ rw (map-append, flatten-append)
 
-records-all : (ys : List Row) (n : ℕ) → n ≡ length ys → rowRecords ys n ≡ flatten (map rowBytes ys)
+pub records-all : (ys : List Row) (n : ℕ) → n ≡ length ys → rowRecords ys n ≡ flatten (map rowBytes ys)
 records-all ys n e = ap (λ (l : List Row). flatten (map rowBytes l)) (ap (λ (k : ℕ). take k ys) e ∙ take-length ys)
 
 pub rows-room : (ys : List Row) (j : Tally) → JudgedRows ys j → (buffer zs : List ℕ) (k at : ℕ) → k < rowsPut j (length buffer)
@@ -101,7 +100,7 @@ rows-room ys j h buffer zs k at l w = by (puts ys j h (length buffer))
         let c = all-at Counts ys k blank (g .rows) one in
         let more = ap length (records-split ys (k + 1)) ∙ length-append (rowRecords ys (k + 1)) _ in
         let next = ap length (records-more ys k one) ∙ length-append (rowRecords ys k) (rowBytes (getD ys k blank)) in
-        record { some = c .some; listed = c .listed; tasks = c .tasks; room = omega (arith, m, table-length ys, more, next, w .ends, w .long) }
+        record { form = c .form; some = c .some; listed = c .listed; tasks = c .tasks; room = omega (arith, m, table-length ys, more, next, w .ends, w .long) }
 
 pub rows-on : (ys : List Row) (k : ℕ) → k < length ys → (buffer zs after : List ℕ) (at next : ℕ) → Wrote buffer 0 (rowRecords ys k) zs at
     → Wrote zs at (rowBytes (getD ys k blank)) after next → Wrote buffer 0 (rowRecords ys (k + 1)) after next

@@ -1,5 +1,5 @@
 -- The number of a row's first fault: the steps of its loops, and what its tests say. Assumes nothing.
-use Prim.Native.Nat.{ℕ, zero, suc, _+_, _*_, _-_, _<_, _≤_}
+use Prim.Native.Nat.{ℕ, zero, suc, max, _+_, _*_, _-_, _<_, _≤_}
 use mathlib.Core.Path.{_≡_, refl, ap, sym, _∙_}
 use mathlib.Core.List.{List, [], _∷_}
 use mathlib.Core.Bool.{Bool, true, false, not, _&&_, _||_}
@@ -8,24 +8,28 @@ use native.Mathlib.Omega.{arith}
 use lib.Dec.{eqb, ltb}
 use lib.ListN.{length, getD, take, drop}
 use lib.Seq.{getD-take, length-take-le}
-use borrow.Author.Tests.{lt-ltb, le-ltb, ltb-false, eq-eqb, ne-eqb}
+use borrow.Author.Tests.{lt-ltb, le-ltb, ltb-true, ltb-false, eqb-true, eq-eqb, ne-eqb, not-false}
 use Rattle.search.specs.Choice.{_when_else_, byNumber}
 use Rattle.search.specs.Find.{first}
 use Rattle.search.proofs.Choice.{when-yes, when-no, when-cases, when-zero, true-not-false, lt-or-le}
 use Rattle.search.proofs.Find.{first-miss, first-none}
-use Rattle.table.specs.Limits.{maxChains, maxTasks, maxAllTasks, maxDistances, maxDistance, maxCost}
-use Rattle.table.specs.Fault.{_then_, outside, fallFault, lastFault, gapShort, gapFault, distancesFault}
+use Rattle.table.specs.Limits.{maxChains, maxTasks, maxAllTasks, maxDistances, maxDistance, maxLargest, maxCost}
+use Rattle.table.specs.Record.{largestForm}
+use Rattle.table.specs.Fault.{_then_, outside, fallFault, lastFault, gapShort, gapFault, distancesFault, shortFault}
 use Rattle.table.specs.Read.{numberOf}
 use Rattle.table.specs.declared.Row.{Row}
 use Rattle.table.specs.declared.Verdict.{Verdict}
 use Rattle.table.specs.declared.Verdict.the-variants.{Accepted, Refused}
-use Rattle.table.proofs.Firsts.{or-left, or-right, or-none, none-or}
+use Rattle.table.proofs.Firsts.{or-left, or-right, or-none, none-or, or-cases}
+use Rattle.table.proofs.Faultless.{inside}
+use Rattle.table.proofs.Forms.{short-here, short-on, short-end}
 use Rattle.table.proofs.Lists.{fall-here, fall-on, fall-end, gap-end}
-use Rattle.writing.specs.Rows.{Typed}
-use Rattle.writing.specs.code.Tally.{countsNumber, listNumber, taskWrong, tasksNumber, firstNumber, rowNumber, faulted, counted, judgedWith, Small, JudgedWith}
+use Rattle.writing.specs.Rows.{isForm, Typed}
+use Rattle.writing.specs.code.Tally.{noForm, formWrong, countsNumber, listNumber, taskWrong, tasksNumber, firstNumber, rowNumber, faulted, counted, judgedWith, Small, JudgedWith}
 use Rattle.writing.specs.declared.judged.Tally.{Tally}
 use Rattle.writing.proofs.Ids.{or-assoc, or-last}
 use Rattle.writing.proofs.Lefts.{left-on, left-none}
+use Rattle.writing.proofs.Forms.{gap-record, any-record}
 
 -- a number refuses, 0 does not
 pub by-fault : {A : Type 0} (refuse : ℕ → A) (n : ℕ) (answer : A) → (n ≡ 0 → ⊥) → byNumber refuse n answer ≡ refuse n
@@ -143,6 +147,41 @@ module _ {gap : ℕ} {list : List ℕ} {n : ℕ} {short : Bool} {before i : ℕ}
         ∙ ap (λ m. 30 when eqb m 0 else 31 when not (eqb gap 0) && gapShort gap 1 (take n list) else 0) (sym (p .last (n - 1) (omega arith)))
         ∙ ap (λ b. 30 when eqb before 0 else 31 when not (eqb gap 0) && b else 0) short-all
 
+-- The largest distances beside the smallest
+
+-- below the smallest, or outside as those are that follow another
+module _ (before d l : ℕ) where
+  pub short-below : l < d → outside (max before d) maxLargest l ≡ true
+  short-below h = or-left (ltb l (max before d)) _ (lt-ltb l (max before d) (omega arith))
+
+  pub short-outside : outside before maxLargest l ≡ true → outside (max before d) maxLargest l ≡ true
+  short-outside e = ⊎-elim
+      (λ f. or-left (ltb l (max before d)) _ (lt-ltb l (max before d) (omega (arith, ltb-true l before f))))
+      (λ f. or-right (ltb l (max before d)) _ f)
+      (or-cases (ltb l before) (ltb maxLargest l) e)
+
+  pub short-inside : d ≤ l → outside before maxLargest l ≡ false → outside (max before d) maxLargest l ≡ false
+  short-inside h e = let i = inside before maxLargest l e in or-none _ _ (le-ltb l (max before d) (omega (arith, i .0))) (le-ltb maxLargest l (i .1))
+
+module _ (list largest : List ℕ) (n : ℕ) (h : n ≤ length list) (g : n ≤ length largest) where
+  -- the number of those from number i on, after one that is `before`
+  abbrev pub shortFrom : ℕ → ℕ → ℕ
+  shortFrom before i = numberOf (shortFault before (drop i (take n list)) (drop i (take n largest)) (4 * i))
+
+  module _ (i before : ℕ) (k : i < n) where
+    pub short-stop : outside (max before (getD list i 0)) maxLargest (getD largest i 0) ≡ true → shortFrom before i ≡ 33
+    short-stop e = rw (opened list n i h k, opened largest n i g k)
+        (ap numberOf (short-here before (getD list i 0) (drop (i + 1) (take n list)) (getD largest i 0) (drop (i + 1) (take n largest)) (4 * i) e))
+
+    pub short-next : outside (max before (getD list i 0)) maxLargest (getD largest i 0) ≡ false → shortFrom before i ≡ shortFrom (getD largest i 0) (i + 1)
+    short-next e =
+        let next : 4 * i + 4 ≡ 4 * (i + 1) = omega arith in
+        rw (opened list n i h k, opened largest n i g k, ← next)
+        (ap numberOf (short-on before (getD list i 0) (drop (i + 1) (take n list)) (getD largest i 0) (drop (i + 1) (take n largest)) (4 * i) e))
+
+  pub short-done : (before i : ℕ) → n ≤ i → shortFrom before i ≡ 0
+  short-done before i k = rw (left-none largest n i (omega arith)) (ap numberOf (short-end before (drop i (take n list)) (4 * i)))
+
 -- The tasks' number
 
 pub task-wrong : (priority cost : List ℕ) (i : ℕ) → (getD priority i 0 ≡ 0) ⊎ (outside 1 maxCost (getD cost i 0) ≡ true) → taskWrong priority cost i ≡ true
@@ -176,6 +215,26 @@ pub row-counts : (j : Tally) (r : Row) → rowNumber j r ≡ 0
 unfolding rowNumber
 row-counts j r e = counts-none (j .tasks) (r .listed) (r .tasks) (number-none _ _ (number-none _ _ (number-none _ _ e .1) .1) .0)
 
+-- A form that is not wrong: it is that of the rows before; there is such a one
+
+pub is-some : (form : ℕ) → isForm form ≡ true → form ≡ noForm → ⊥
+is-some form e z = true-not-false e (ap isForm z)
+
+module _ (before form : ℕ) where
+  pub form-first : before ≡ noForm → formWrong before form ≡ not (isForm form)
+  unfolding formWrong
+  form-first z = when-yes _ _ (eq-eqb before noForm z)
+
+  pub form-later : (before ≡ noForm → ⊥) → formWrong before form ≡ not (eqb form before)
+  unfolding formWrong
+  form-later h = when-no _ _ (ne-eqb before noForm h)
+
+  pub form-on : (before ≡ noForm → ⊥) → formWrong before form ≡ false → form ≡ before
+  form-on h e = eqb-true form before (not-false _ (sym (form-later h) ∙ e))
+
+  pub form-is : (before ≡ noForm) ⊎ (isForm before ≡ true) → formWrong before form ≡ false → isForm form ≡ true
+  form-is is e = ⊎-elim (λ z. not-false _ (sym (form-first z) ∙ e)) (λ k. ap isForm (form-on (is-some before k) e) ∙ k) is
+
 -- One row more
 
 module _ {j : Tally} {r : Row} (f : Typed r) (s : Small j) where
@@ -185,24 +244,40 @@ module _ {j : Tally} {r : Row} (f : Typed r) (s : Small j) where
   with-before h = record { fits = f; small = s; is = rw (ne-eqb _ _ h) }
 
   small-faulted : (n : ℕ) → Small (faulted j n)
-  small-faulted n = record { count = s .count; tasks = s .tasks; bytes = s .bytes; places = s .places }
+  small-faulted n = record { count = s .count; tasks = s .tasks; bytes = s .bytes; gap-bytes = s .gap-bytes; places = s .places }
 
+  -- one of another form
   module _ (none : j .number ≡ 0) where
-    pub with-many : j .count ≡ maxChains → JudgedWith j r (faulted j 11)
+    pub with-other : formWrong (j .form) (r .form) ≡ true → JudgedWith j r (faulted j 3)
     unfolding judgedWith _when_else_
-    with-many e = record { fits = f; small = small-faulted 11; is = rw (eq-eqb _ _ none, eq-eqb _ _ e) }
+    with-other e = record { fits = f; small = small-faulted 3; is = rw (eq-eqb _ _ none, e) }
 
-    module _ (few : j .count ≡ maxChains → ⊥) (n : ℕ) (e : n ≡ rowNumber j r) where
-      pub with-fault : (n ≡ 0 → ⊥) → JudgedWith j r (faulted j n)
+    module _ (form : formWrong (j .form) (r .form) ≡ false) where
+      pub with-many : j .count ≡ maxChains → JudgedWith j r (faulted j 11)
       unfolding judgedWith _when_else_
-      with-fault h = record { fits = f; small = small-faulted n; is = rw (eq-eqb _ _ none, ne-eqb _ _ few, ← e, ne-eqb _ _ h) }
+      with-many e = record { fits = f; small = small-faulted 11; is = rw (eq-eqb _ _ none, form, eq-eqb _ _ e) }
 
-      pub with-none : n ≡ 0 → JudgedWith j r (counted j r)
-      unfolding judgedWith _when_else_
-      with-none z =
-          let b = row-counts j r (sym e ∙ z) in
-          record {
-            fits = f;
-            small = record { count = omega (arith, s .count); tasks = b .3; bytes = omega (arith, s .bytes, b .1, b .2); places = omega (arith, s .places, length-take-le 15 (j .ids) (omega (arith, s .places))) };
-            is = rw (eq-eqb _ _ none, ne-eqb _ _ few, ← e, eq-eqb _ _ z);
-          }
+      module _ (few : j .count ≡ maxChains → ⊥) (n : ℕ) (e : n ≡ rowNumber j r) where
+        pub with-fault : (n ≡ 0 → ⊥) → JudgedWith j r (faulted j n)
+        unfolding judgedWith _when_else_
+        with-fault h = record { fits = f; small = small-faulted n; is = rw (eq-eqb _ _ none, form, ne-eqb _ _ few, ← e, ne-eqb _ _ h) }
+
+        pub with-none : n ≡ 0 → JudgedWith j r (counted j r)
+        unfolding judgedWith _when_else_
+        with-none z =
+            let b = row-counts j r (sym e ∙ z) in
+            record {
+              fits = f;
+              small = record {
+                count = omega (arith, s .count);
+                tasks = b .3;
+                bytes = omega (arith, s .bytes, any-record (r .form) (r .flag) (r .listed) (r .tasks) (b .1));
+                gap-bytes = λ h. omega (arith, gap-before h, gap-record (r .form) (r .flag) (r .listed) (r .tasks) (b .1) h);
+                places = omega (arith, s .places, length-take-le 15 (j .ids) (omega (arith, s .places)));
+              };
+              is = rw (eq-eqb _ _ none, form, ne-eqb _ _ few, ← e, eq-eqb _ _ z);
+            }
+          where
+            -- the rows before, if any, are as short, since they have its form
+            gap-before : (r .form ≡ largestForm → ⊥) → j .bytes ≤ 48 * j .count + 8 * j .tasks
+            gap-before h = s .gap-bytes (λ z. h (form-on (j .form) (r .form) (λ y. omega (arith, y, z)) form ∙ z))

@@ -3,14 +3,15 @@ use Prim.Native.Nat.{ℕ, zero, suc, _+_, _*_, _-_, _<_}
 use native.Mathlib.Omega.{arith}
 use native.Mathlib.Nat.{mul-zero, mul-suc}
 use mathlib.Core.Path.{_≡_, refl, ap, sym, _∙_}
-use mathlib.Core.List.{List, [], _++_, append-assoc, append-nil}
+use mathlib.Core.List.{List, _++_, append-assoc, append-nil}
 use lib.ListN.{length, length-append}
 use Rattle.table.specs.Bytes.{bytesOf}
 use Rattle.table.specs.Place.{lengthOf}
 use Rattle.table.specs.declared.Row.{Row}
 use Rattle.table.proofs.Words.{length-bytes}
-use Rattle.table.specs.Record.{taskRecord}
+use Rattle.table.specs.Record.{headLength, taskRecord, knownOf}
 use Rattle.writing.specs.Rows.{headBytes, distanceBytes, taskBytes, pieces, listBytes, tasksBytes, rowBytes}
+use Rattle.writing.proofs.Forms.{gap-length}
 
 module _ (f : ℕ → List ℕ) where
   -- piece j, with those before it and those after it
@@ -42,9 +43,9 @@ more-pieces f (suc n) i =
 
 -- How long a record is
 
-pub head-length : (r : Row) → length (headBytes r) ≡ 16
-unfolding headBytes bytesOf
-head-length r = refl
+pub head-length : (r : Row) → length (headBytes r) ≡ headLength (r .form)
+unfolding headBytes
+head-length r = simp (length-append, length-bytes, gap-length) (omega arith)
 
 pub task-length : (priority cost : ℕ) → length (taskRecord priority cost) ≡ 8
 unfolding bytesOf
@@ -58,4 +59,13 @@ tasks-length priority cost n = pieces-length (taskBytes priority cost) 8 (λ i. 
 
 pub row-length : (r : Row) → length (rowBytes r) ≡ lengthOf r
 unfolding rowBytes
-row-length r = rw (length-append, length-append, head-length r, list-length (r .list) (r .listed), tasks-length (r .priority) (r .cost) (r .tasks))
+row-length r =
+    rw (
+      length-append,
+      length-append,
+      length-append,
+      head-length r,
+      list-length (r .list) (r .listed),
+      list-length (r .largest) (knownOf r),
+      tasks-length (r .priority) (r .cost) (r .tasks),
+    )

@@ -1,50 +1,46 @@
 -- What is promised of a write: its rows are read back, and the rows of a table give its bytes again. Assumes nothing.
-use Prim.Native.Nat.{ℕ, zero, suc, min, _+_, _*_, _-_, _<_, _≤_}
+use Prim.Native.Nat.{ℕ, zero, suc, min, _+_, _-_, _<_, _≤_}
 use native.Mathlib.Omega.{arith}
 use mathlib.Core.Path.{_≡_, refl, ap, sym, subst, _∙_}
 use mathlib.Core.List.{List, [], _∷_, _++_, map, flatten, append-assoc, append-nil}
-use mathlib.Core.Bool.{Bool, true, false, not, _||_}
+use mathlib.Core.Bool.{true}
 use mathlib.Core.Logic.{⊎-elim}
-use borrow.Author.Tests.{lt-ltb, le-ltb, eq-eqb, ne-eqb}
-use lib.Dec.{eqb, ltb}
+use borrow.Author.Tests.{le-ltb, ne-eqb}
 use lib.ListN.{length, getD, take, length-map}
 use lib.Seq.{getD-take}
-use Rattle.search.specs.Choice.{_when_else_}
 use Rattle.search.specs.Lists.{All}
 use Rattle.search.proofs.Choice.{lt-or-le}
 use Rattle.table.specs.Limits.{maxChains, maxBytes, maxDistances, maxTasks}
-use Rattle.table.specs.Bytes.{word, bytesOf, Bytes}
-use Rattle.table.specs.Record.{endRecord, pad, lengthAt, rowAt}
+use Rattle.table.specs.Bytes.{bytesOf, Bytes}
+use Rattle.table.specs.Record.{largestForm, formAt, endRecord, pad, knownOf}
 use Rattle.table.specs.Find.{rows}
 use Rattle.table.specs.Fault.{markOf}
-use Rattle.table.specs.Read.{empty, accepted, numberOf, byVerdict, records, readTable, tableOf}
+use Rattle.table.specs.Read.{empty, numberOf, records, limitOf, readTable, tableOf}
 use Rattle.table.specs.declared.Row.{Row}
-use Rattle.table.specs.declared.Table.{Table}
 use Rattle.table.specs.declared.Reading.{Reading}
-use Rattle.table.specs.declared.Mark.the-variants.{Chain}
 use Rattle.table.specs.declared.Verdict.{Verdict}
-use Rattle.table.specs.declared.Verdict.the-variants.{Accepted, Refused}
+use Rattle.table.specs.declared.Verdict.the-variants.{Accepted}
 use Rattle.table.proofs.Firsts.{or-none}
 use Rattle.table.proofs.Words.{bytes-of, end-length}
 use Rattle.table.proofs.Goods.{pad-at}
 use Rattle.table.proofs.Steps.{read-on}
 use Rattle.slices.proofs.Bytes.{bytes-append, bytes-flatten}
-use Rattle.slices.proofs.Parts.{Whole, Parts, rowIn, all-take}
+use Rattle.slices.proofs.Parts.{Whole, rowIn, all-take}
 use Rattle.slices.proofs.Parsed.{parts-rows}
+use Rattle.slices.proofs.Sound.{limit-least}
 use Rattle.table.specs.Record.{taskRecord}
-use Rattle.writing.specs.Rows.{countByte, headBytes, distanceBytes, taskBytes, pieces, listBytes, tasksBytes, rowBytes, tableBytes, cleared, Typed}
+use Rattle.writing.specs.Rows.{isForm, formMark, gapBytes, countByte, headBytes, distanceBytes, taskBytes, pieces, listBytes, tasksBytes, rowBytes, tableBytes, cleared, Typed}
 use Rattle.writing.specs.Write as write
-use Rattle.writing.specs.code.Tally.{rowNumber, unjudged, judgedWith, judgedAll, Small, JudgedWith, mostJudged, JudgedRows}
-use Rattle.writing.specs.code.Put.{judgedNumber}
+use Rattle.writing.specs.code.Tally.{formWrong, rowNumber, unjudged, judgedWith, judgedAll, Small, JudgedWith, mostJudged, JudgedRows}
 use Rattle.writing.specs.declared.judged.Tally.{Tally}
-use Rattle.writing.specs.declared.Written.{Written}
-use Rattle.writing.specs.declared.Written.the-variants.{Used}
-use Rattle.writing.proofs.Numbers.{number-none, with-before, with-many, with-fault, with-none}
+use Rattle.writing.proofs.Forms.{true-or-false, form-or, mark-own, form-chain, are-bytes, lacks-none, known-flag, limit-largest}
+use Rattle.writing.proofs.Numbers.{number-none, with-before, with-other, with-many, with-fault, with-none}
 use Rattle.writing.proofs.Pieces.{row-length}
-use Rattle.writing.proofs.Fields.{Stored, stored}
-use Rattle.writing.proofs.Verdicts.{Says, says-number, row-read, length-read}
+use Rattle.writing.proofs.Fields.{Stored, mark-stored, stored}
+use Rattle.writing.proofs.Verdicts.{says-number, row-read, length-read}
 use Rattle.writing.proofs.Judging.{rows-verdict, Counts, GoodRows, judged-good}
 use Rattle.writing.proofs.Answering.{table-length}
+use Rattle.writing.proofs.Loops.{small-start}
 
 -- The bytes of rows
 
@@ -66,10 +62,12 @@ place-past m n l j h = pad-at m (take n l) j ∙ getD-take n l j 0 (omega arith)
 row-past : (r : Row) → rowBytes (cleared r) ≡ rowBytes r
 unfolding rowBytes headBytes
 row-past r =
+    let known = known-flag (r .form) (r .flag) (r .listed) in
     let list = pieces-same (distanceBytes (cleared r .list)) (distanceBytes (r .list)) (r .listed) 0 (λ j h. ap (bytesOf 4) (place-past maxDistances (r .listed) (r .list) j h)) in
+    let largest = pieces-same (distanceBytes (cleared r .largest)) (distanceBytes (r .largest)) (knownOf r) 0 (λ j h. ap (bytesOf 4) (place-past maxDistances (knownOf r) (r .largest) j h)) in
     let tasks = pieces-same (taskBytes (cleared r .priority) (cleared r .cost)) (taskBytes (r .priority) (r .cost)) (r .tasks) 0
     (λ i h. rw (place-past maxTasks (r .tasks) (r .priority) i h, place-past maxTasks (r .tasks) (r .cost) i h)) in
-    rw (list, tasks)
+    rw (lacks-none (r .form) (r .flag) (r .gap), known, list, largest, tasks)
 
 pub table-past : (rs : List Row) → tableBytes (map cleared rs) ≡ tableBytes rs
 unfolding tableBytes
@@ -91,17 +89,19 @@ task-bytes priority cost =
 
 row-fields : Row → List (List ℕ)
 row-fields r =
-    bytesOf 2 18499 ∷ bytesOf 2 (r .id) ∷ bytesOf 1 (r .kind) ∷ bytesOf 1 (r .overload) ∷ bytesOf 4 (r .deadline) ∷ bytesOf 4 (r .gap) ∷ countByte (r .listed) ∷ countByte (r .tasks)
-    ∷ listBytes (r .list) (r .listed) ∷ tasksBytes (r .priority) (r .cost) (r .tasks) ∷ []
+    bytesOf 2 (formMark (r .form)) ∷ bytesOf 2 (r .id) ∷ bytesOf 1 (r .kind) ∷ bytesOf 1 (r .overload) ∷ bytesOf 4 (r .deadline) ∷ gapBytes (r .form) (r .flag) (r .gap)
+    ∷ countByte (r .listed) ∷ countByte (r .tasks) ∷ listBytes (r .list) (r .listed) ∷ listBytes (r .largest) (knownOf r) ∷ tasksBytes (r .priority) (r .cost) (r .tasks) ∷ []
 
 row-bytes : (r : Row) → Bytes (rowBytes r)
 unfolding rowBytes headBytes flatten row-fields
 row-bytes r =
     let same : flatten (row-fields r) ≡ rowBytes r = simp (append-assoc, append-nil) in
     let list = pieces-bytes (distanceBytes (r .list)) (λ j. bytes-of 4 (getD (r .list) j 0)) (r .listed) 0 in
+    let largest = pieces-bytes (distanceBytes (r .largest)) (λ j. bytes-of 4 (getD (r .largest) j 0)) (knownOf r) 0 in
     let tasks = pieces-bytes (taskBytes (r .priority) (r .cost)) (λ i. task-bytes (getD (r .priority) i 0) (getD (r .cost) i 0)) (r .tasks) 0 in
+    let lists : All Bytes (listBytes (r .list) (r .listed) ∷ listBytes (r .largest) (knownOf r) ∷ tasksBytes (r .priority) (r .cost) (r .tasks) ∷ []) = (list, (largest, (tasks, tt))) in
     subst Bytes same (bytes-flatten (row-fields r) (
-      bytes-of 2 18499,
+      bytes-of 2 (formMark (r .form)),
       (
         bytes-of 2 (r .id),
         (
@@ -111,11 +111,8 @@ row-bytes r =
             (
               bytes-of 4 (r .deadline),
               (
-                bytes-of 4 (r .gap),
-                (
-                  bytes-of 1 (min (r .listed) 255),
-                  (bytes-of 1 (min (r .tasks) 255), (list, (tasks, tt))),
-                ),
+                are-bytes (r .form) (r .flag) (r .gap),
+                (bytes-of 1 (min (r .listed) 255), (bytes-of 1 (min (r .tasks) 255), lists)),
               ),
             ),
           ),
@@ -140,13 +137,16 @@ judged-one j r f s = ⊎-elim
     (λ l. own (with-before f s (λ z. omega (arith, z, l))))
     (λ l. let none : j .number ≡ 0 = omega arith in
     ⊎-elim
+    (λ w. own (with-other f s none w))
+    (λ w. ⊎-elim
     (λ g. let few : j .count ≡ maxChains → ⊥ = λ e. omega (arith, e, g) in
     ⊎-elim
-    (λ h. own (with-fault f s none few (rowNumber j r) refl (λ z. omega (arith, z, h))))
-    (λ h. own (with-none f s none few (rowNumber j r) refl (omega arith)))
+    (λ h. own (with-fault f s none w few (rowNumber j r) refl (λ z. omega (arith, z, h))))
+    (λ h. own (with-none f s none w few (rowNumber j r) refl (omega arith)))
     (lt-or-le 0 (rowNumber j r)))
-    (λ g. own (with-many f s none (omega (arith, s .count))))
+    (λ g. own (with-many f s none w (omega (arith, s .count))))
     (lt-or-le (j .count) maxChains))
+    (true-or-false (formWrong (j .form) (r .form))))
     (lt-or-le 0 (j .number))
   where
     own : {v : Tally} → JudgedWith j r v → JudgedWith j r (judgedWith j r)
@@ -158,43 +158,71 @@ judged-small [] j f s = s
 judged-small (r ∷ rs) j f s = judged-small rs (judgedWith j r) (f .1) (judged-one j r (f .0) s .small)
 
 pub all-judged : (rs : List Row) → All Typed (take mostJudged rs) → JudgedRows rs (judgedAll unjudged (take mostJudged rs))
-all-judged rs f = record { fits = f; small = judged-small (take mostJudged rs) unjudged f (record { count = omega arith; tasks = omega arith; bytes = omega arith; places = refl }); is = refl }
+all-judged rs f = record { fits = f; small = judged-small (take mostJudged rs) unjudged f small-start; is = refl }
 
 -- Rows that are written
 
+-- how many bytes a table may have that begins as these do
+abbrev limit : List ℕ → ℕ
+limit s = limitOf (formAt s 0)
+
+-- a row's record by itself
+pub row-stored : (r : Row) → Typed r → Counts r → Stored (rowBytes r) 0 r
+row-stored r g c = stored (rowBytes r) 0 r [] (sym (append-nil (rowBytes r))) g (c .form) (omega arith)
+
+pub row-whole : (r : Row) → Typed r → Counts r → Whole (rowBytes r)
+row-whole r g c = record {
+  mark = ap markOf (row-stored r g c .form) ∙ form-chain (r .form) (c .form);
+  long = row-length r ∙ sym (length-read (rowBytes r) 0 r (row-stored r g c) g (c .listed) (c .tasks));
+}
+
+pub row-back : (r : Row) → Typed r → Counts r → rowIn (rowBytes r) ≡ cleared r
+row-back r g c = row-read (rowBytes r) 0 r (row-stored r g c) g (c .listed) (c .tasks)
+
 -- what the reader says of bytes is what it says with the length check left out, where they are no more than a table has
-pub verdict-short : (rs : List Row) → length (tableBytes rs) ≤ maxBytes → readTable (tableBytes rs) ≡ records maxChains (tableBytes rs) 0 empty
-verdict-short rs h = read-on (tableBytes rs) (or-none _ _ (ne-eqb (length (tableBytes rs)) 0 (λ z. omega (arith, table-length rs, z))) (le-ltb maxBytes (length (tableBytes rs)) h))
+pub verdict-short : (rs : List Row) → length (tableBytes rs) ≤ limit (tableBytes rs) → readTable (tableBytes rs) ≡ records maxChains (tableBytes rs) 0 empty
+verdict-short rs h = read-on (tableBytes rs) (or-none _ _ (ne-eqb (length (tableBytes rs)) 0 (λ z. omega (arith, table-length rs, z))) (le-ltb (limit (tableBytes rs)) (length (tableBytes rs)) h))
+
+-- the first mark is the first row's
+first-mark : (r : Row) (rs : List Row) → isForm (r .form) ≡ true → formAt (tableBytes (r ∷ rs)) 0 ≡ r .form
+unfolding tableBytes flatten
+first-mark r rs is =
+    mark-stored (tableBytes (r ∷ rs)) 0 r (flatten (map rowBytes rs) ++ endRecord (length (r ∷ rs))) (append-assoc (rowBytes r) (flatten (map rowBytes rs)) (endRecord (length (r ∷ rs))))
+    ∙ mark-own (r .form) is
+
+-- rows of `CG`, if any, may have more
+limit-first : (rs : List Row) (form : ℕ) → All (λ r. r .form ≡ form) rs → All Counts rs → form ≡ largestForm → length (tableBytes rs) ≤ maxBytes → length (tableBytes rs) ≤ limit (tableBytes rs)
+unfolding flatten
+limit-first [] form f c e h = omega (arith, table-length [], limit-least (formAt (tableBytes []) 0))
+limit-first (r ∷ rs) form f c e h = subst (λ (n : ℕ). length (tableBytes (r ∷ rs)) ≤ n) (sym (limit-largest (formAt (tableBytes (r ∷ rs)) 0) (first-mark r rs (c .0 .form) ∙ f .0 ∙ e))) h
 
 module _ (rs : List Row) (f : All Typed rs) where
   pub judged : JudgedRows rs (judgedAll unjudged (take mostJudged rs))
   judged = all-judged rs (all-take Typed mostJudged rs f)
 
   module _ (verdict : write.verdictOn rs ≡ Accepted) where
-    sound : judgedAll unjudged (take mostJudged rs) .number ≡ 0
+    abbrev v : Tally
+    v = judgedAll unjudged (take mostJudged rs)
+
+    sound : v .number ≡ 0
     sound = number-none _ _ (sym (says-number (rows-verdict rs _ judged)) ∙ ap numberOf verdict) .0
 
-    pub good : GoodRows rs unjudged (judgedAll unjudged (take mostJudged rs))
+    pub good : GoodRows rs unjudged v
     good = judged-good rs _ judged sound
 
     -- good rows are never too long
-    pub short : length (tableBytes rs) ≤ maxBytes
-    short = omega (arith, table-length rs, good .bytes, judged .small .bytes, judged .small .count, judged .small .tasks)
+    pub short : length (tableBytes rs) ≤ limit (tableBytes rs)
+    short =
+        let small = judged .small in
+        let long = table-length rs in
+        ⊎-elim
+        (λ e. limit-first rs (v .form) (good .forms) (good .rows) e (omega (arith, long, good .bytes, small .bytes, small .count, small .tasks)))
+        (λ h. omega (arith, limit-least (formAt (tableBytes rs) 0), long, good .bytes, small .gap-bytes h, small .count, small .tasks))
+        (form-or (v .form))
 
     pub read : readTable (tableBytes rs) .verdict ≡ Accepted
     unfolding write.verdictOn
     read = ap (λ (r : Reading). r .verdict) (verdict-short rs short) ∙ verdict
-
-    -- a row's record by itself
-    row-stored : (r : Row) → Typed r → Stored (rowBytes r) 0 r
-    row-stored r g = stored (rowBytes r) 0 r [] (sym (append-nil (rowBytes r))) g (omega arith)
-
-    row-whole : (r : Row) → Typed r → Counts r → Whole (rowBytes r)
-    unfolding markOf _when_else_
-    row-whole r g c = record { mark = ap markOf (row-stored r g .mark); long = row-length r ∙ sym (length-read (rowBytes r) 0 r (row-stored r g) g (c .listed) (c .tasks)) }
-
-    row-back : (r : Row) → Typed r → Counts r → rowIn (rowBytes r) ≡ cleared r
-    row-back r g c = row-read (rowBytes r) 0 r (row-stored r g) g (c .listed) (c .tasks)
 
     all-whole : (l : List Row) → All Typed l → All Counts l → All Whole (map rowBytes l)
     all-whole [] g c = tt
@@ -204,7 +232,7 @@ module _ (rs : List Row) (f : All Typed rs) where
     all-back [] g c = refl
     all-back (r ∷ l) g c = rw (row-back r (g .0) (c .0), all-back l (g .1) (c .1))
 
-    -- so they are read back, with 0 in the places past a count
+    -- so they are read back, with 0 for what their form lacks and in the places past a count
     pub read-back : rows (tableOf (tableBytes rs)) ≡ map cleared rs
     unfolding tableBytes
     read-back =

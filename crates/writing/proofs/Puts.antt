@@ -18,12 +18,12 @@ use Rattle.table.specs.Bytes.{bytesOf}
 use Rattle.table.specs.declared.Row.{Row}
 use Rattle.table.proofs.Words.{length-bytes, bytes-join}
 use Rattle.table.specs.Record.{taskRecord}
-use Rattle.writing.specs.Rows.{headBytes, distanceBytes, pieces, listBytes}
+use Rattle.writing.specs.Rows.{isForm, gapBytes, countByte, headBytes, distanceBytes, pieces, listBytes}
 use Rattle.writing.specs.code.Tally.{firstNumber}
 use Rattle.writing.specs.code.Put.{distanceOf, judgedNumber, tableLength, writeAnswer}
 use Rattle.writing.specs.declared.judged.Tally.{Tally}
-use Rattle.writing.specs.declared.Written.{Written}
 use Rattle.writing.specs.declared.Written.the-variants.{Used, Refused}
+use Rattle.writing.proofs.Forms.{mark-own}
 use Rattle.writing.proofs.Pieces.{more-pieces}
 
 -- a number
@@ -36,18 +36,24 @@ pub number-on : {before mid text after : List ℕ} {at here : ℕ} → Wrote bef
     → after ≡ take here mid ++ bytesOf n x ++ drop (here + n) mid → Wrote before at (text ++ bytesOf n x) after next
 number-on {before} {mid} {text} {after} {at} {here} w n x next e h p = wrote-on w (wrote-number mid here n x after next e (omega (arith, w .long)) p)
 
--- a task record is two numbers of four bytes, the fixed part of a row's record five numbers of four or two
+-- a task record is two numbers of four bytes, the two counts are one of two
 pub task-bytes : (priority cost : ℕ) → bytesOf 4 (19284 + 65536 * priority) ++ bytesOf 4 cost ≡ taskRecord priority cost
 task-bytes priority cost = ap (λ l. l ++ bytesOf 4 cost) (bytes-join 2 2 19284 priority (omega arith))
 
-pub head-bytes : (r : Row) → r .kind < 256 → r .listed ≤ maxDistances → r .tasks ≤ maxTasks
-    → bytesOf 4 (18499 + 65536 * r .id) ++ bytesOf 2 (r .kind + 256 * r .overload) ++ bytesOf 4 (r .deadline) ++ bytesOf 4 (r .gap) ++ bytesOf 2 (r .listed + 256 * r .tasks)
+pub count-bytes : (listed tasks : ℕ) → listed ≤ maxDistances → tasks ≤ maxTasks → bytesOf 2 (listed + 256 * tasks) ≡ countByte listed ++ countByte tasks
+count-bytes listed tasks l t =
+    let a : min listed 255 ≡ listed = omega arith in
+    let b : min tasks 255 ≡ tasks = omega arith in
+    rw (a, b) (bytes-join 1 1 listed tasks (omega arith))
+
+-- the fixed part of a row's record: three numbers of four or two, the gap, the counts
+pub head-bytes : (r : Row) → isForm (r .form) ≡ true → r .form < 65536 → r .kind < 256
+    → bytesOf 4 (r .form + 65536 * r .id) ++ bytesOf 2 (r .kind + 256 * r .overload) ++ bytesOf 4 (r .deadline) ++ gapBytes (r .form) (r .flag) (r .gap)
+    ++ (countByte (r .listed) ++ countByte (r .tasks))
     ≡ headBytes r
 unfolding headBytes
-head-bytes r k l t =
-    let a : min (r .listed) 255 ≡ r .listed = omega arith in
-    let b : min (r .tasks) 255 ≡ r .tasks = omega arith in
-    rw (a, b, bytes-join 2 2 18499 (r .id) (omega arith), bytes-join 1 1 (r .kind) (r .overload) (omega arith), bytes-join 1 1 (r .listed) (r .tasks) (omega arith)) (simp append-assoc)
+head-bytes r is f k =
+    rw (mark-own (r .form) is, bytes-join 2 2 (r .form) (r .id) (omega arith), bytes-join 1 1 (r .kind) (r .overload) (omega arith)) (simp append-assoc)
 
 -- Pieces
 

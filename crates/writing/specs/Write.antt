@@ -1,4 +1,4 @@
--- Writing a table from rows (02, request 2): what the call answers, and what it leaves in the buffer.
+-- Writing a table from rows (02, requests 2 and 7): what the call answers, and what it leaves in the buffer.
 use Prim.Native.Nat.{ℕ, _≤_}
 use mathlib.Core.Path.{_≡_}
 use mathlib.Core.List.{List, [], _∷_, _++_}
@@ -27,9 +27,9 @@ valuesOf (Refused n) = []
 unfoldable pub verdictOn : List Row → Verdict
 verdictOn rs = records maxChains (tableBytes rs) 0 empty .verdict
 
--- the numbers that rows are refused with: a table's, but for 1, 2 and 3, which only bytes can have
+-- the numbers that rows are refused with: a table's, but for 1 and 2, which only bytes can have
 abbrev pub RowsRefusal : ℕ → Type 0
-RowsRefusal n = ((4 ≤ n) × (n ≤ 7)) ⊎ ((9 ≤ n) × (n ≤ 11)) ⊎ ((28 ≤ n) × (n ≤ 31))
+RowsRefusal n = ((3 ≤ n) × (n ≤ 7)) ⊎ ((9 ≤ n) × (n ≤ 11)) ⊎ ((28 ≤ n) × (n ≤ 31)) ⊎ (n ≡ 33)
 
 -- the rows' number, and then 24 where the table is longer than the buffer
 unfoldable pub writtenOf : ℕ → List Row → Written

@@ -2,22 +2,70 @@
 use table::Row;
 use table::Table;
 use table::outside;
+use table::u32_from_u16;
 ghost use mathlib.Core.Path.{_≡_};
 ghost use Prim.Native.Nat.{min, _+_, _*_, _<_, _≤_};
 ghost use lib.Dec.{ltb};
 ghost use mathlib.Core.List.{_∷_};
 ghost use lib.ListN.{length, take};
 ghost use Rattle.table.specs.Limits.{maxChains, maxDistances, maxTasks};
-ghost use Rattle.writing.specs.code.Tally.{bears as bearsOf, listNumber, tasksNumber, listsNumber, rowNumber, unjudged as unjudgedOf, faulted as faultedOf, counted as countedOf, Small, CountedRoom, JudgedWith, mostJudged};
+ghost use Rattle.table.specs.Record.{known, recordLength};
+ghost use Rattle.table.specs.Fault.{shortFault};
+ghost use Rattle.table.specs.Read.{numberOf};
+ghost use Rattle.writing.specs.Rows.{gapOf};
+ghost use Rattle.writing.specs.code.Tally.{formWrong, bears as bearsOf, listNumber, largestNumber, tasksNumber, listsNumber, rowNumber, unjudged as unjudgedOf, faulted as faultedOf, counted as countedOf, Small, CountedRoom, JudgedWith, mostJudged};
 
-// What is known of the rows so far: the number of the first fault, 0 for none; of the good rows before it, how many they are, their tasks
-// in all, the length of their records, and their ids, the newest first.
+// What is known of the rows so far: the number of the first fault, 0 for none; of the good rows before it, their form, how many they are,
+// their tasks in all, the length of their records, and their ids, the newest first. Before the first row the form is 65,536, which no row
+// has, so that for all others one test tells that theirs is right.
 pub struct Tally {
     pub number: u32,
+    pub form: u32,
     pub count: usize,
     pub tasks: usize,
     pub bytes: usize,
     pub ids: [u16; Table::CHAINS],
+}
+
+// Whether the form is not that of the rows before; the first row's may be either.
+fn form_wrong(before: u32, form: u16) -> bool
+    ensures { λ r. ⌜ r ≡ formWrong before form ⌝ }
+{
+    if u32_from_u16(form) == before {
+        return false;
+    }
+    if before != 65_536 {
+        return true;
+    }
+    form != Row::GAP_FORM && form != Row::LARGEST_FORM
+}
+
+// The gap that is judged: `CG` has none.
+fn gap_of(form: u16, gap: u32) -> u32
+    ensures { λ r. ⌜ r ≡ gapOf form gap ⌝ }
+{
+    if form == Row::LARGEST_FORM { 0 } else { gap }
+}
+
+// How many largest distances a row has.
+pub fn known_of(form: u16, flag: u8, listed: usize) -> usize
+    ensures { λ r. ⌜ r ≡ known form flag listed ⌝ }
+{
+    if form != Row::LARGEST_FORM {
+        return 0;
+    }
+    if flag != 1 {
+        return 0;
+    }
+    listed
+}
+
+// How long the record of a row is, its counts without a fault.
+fn length_of(form: u16, flag: u8, listed: usize, tasks: usize) -> usize
+    requires { ⌜ (listed ≤ maxDistances) × (tasks ≤ maxTasks) ⌝ }
+    ensures { λ r. ⌜ (r ≡ recordLength form flag listed tasks) × (r ≤ 256) ⌝ }
+{
+    table::head_length(form) + 4 * listed + 4 * known_of(form, flag, listed) + 8 * tasks
 }
 
 // Whether one of the ids is this one. Every place is looked at, so that they are compared all at once.
@@ -91,6 +139,46 @@ fn list_number(gap: u32, list: &[u32; Table::DISTANCES], n: usize) -> u32
     0
 }
 
+// 33: the first of n largest distances that falls, exceeds the limit or lies below the smallest for its count.
+fn short_number(list: &[u32; Table::DISTANCES], largest: &[u32; Table::DISTANCES], n: usize) -> u32
+    requires { ⌜ (n ≤ maxDistances) × (length (now list) ≡ maxDistances) × (length (now largest) ≡ maxDistances) ⌝ }
+    ensures { λ r. ⌜ r ≡ numberOf (shortFault 0 (take n (now (list .entry))) (take n (now (largest .entry))) 0) ⌝ }
+{
+    let mut before: u32 = 0;
+    let mut i: usize = 0;
+    while i < n {
+        let d = largest[i];
+        if d < list[i] {
+            return 33;
+        }
+        if outside(before, Table::LARGEST, d) {
+            return 33;
+        }
+        before = d;
+        i += 1;
+    }
+    0
+}
+
+// 33: the flag of a row, then its largest distances, its list length without a fault. `CH` has neither.
+fn largest_number(row: Row) -> u32
+    requires { ⌜ row .listed ≤ maxDistances ⌝ }
+    ensures { λ r. ⌜ r ≡ largestNumber row ⌝ }
+{
+    if row.form != Row::LARGEST_FORM {
+        return 0;
+    }
+    if 1 < row.flag {
+        return 33;
+    }
+    if row.flag == 0 {
+        return 0;
+    }
+    let list = row.list;
+    let largest = row.largest;
+    short_number(&list, &largest, row.listed)
+}
+
 // 10: the priorities and costs of the first n tasks.
 fn tasks_number(priority: &[u16; Table::TASKS], cost: &[u32; Table::TASKS], n: usize) -> u32
     requires { ⌜ n ≤ maxTasks ⌝ }
@@ -106,22 +194,26 @@ fn tasks_number(priority: &[u16; Table::TASKS], cost: &[u32; Table::TASKS], n: u
     0
 }
 
-// The number of a row's list and tasks, its counts without a fault.
+// The number of a row's lists and tasks, its counts without a fault.
 fn lists_number(row: Row) -> u32
     requires { ⌜ (1 ≤ row .listed) × (row .listed ≤ maxDistances) × (row .tasks ≤ maxTasks) ⌝ }
     ensures { λ r. ⌜ r ≡ listsNumber row ⌝ }
 {
     let list = row.list;
-    let in_list = list_number(row.gap, &list, row.listed);
+    let in_list = list_number(gap_of(row.form, row.gap), &list, row.listed);
     if in_list != 0 {
         return in_list;
+    }
+    let in_largest = largest_number(row);
+    if in_largest != 0 {
+        return in_largest;
     }
     let priority = row.priority;
     let cost = row.cost;
     tasks_number(&priority, &cost, row.tasks)
 }
 
-// The number of a row's first fault, after those judged. The tests stand one after the other, each with its return: handed on, a number
+// The number of a row's first fault but that of its form, after those judged. The tests stand one after the other, each with its return: handed on, a number
 // would be chosen and tested again.
 fn row_number(judged: Tally, row: Row) -> u32
     requires { ⌜ Small judged ⌝ }
@@ -143,7 +235,7 @@ fn row_number(judged: Tally, row: Row) -> u32
     if outside(1, Table::DEADLINE, row.deadline) {
         return 6;
     }
-    if Table::GAP < row.gap {
+    if Table::GAP < gap_of(row.form, row.gap) {
         return 7;
     }
     if row.listed < 1 || Table::DISTANCES < row.listed {
@@ -175,6 +267,7 @@ pub fn unjudged() -> Tally
 {
     Tally {
         number: 0,
+        form: 65_536,
         count: 0,
         tasks: 0,
         bytes: 0,
@@ -200,9 +293,10 @@ fn counted(judged: Tally, row: Row) -> Tally
     let ids = after_id(row.id, &before);
     Tally {
         number: 0,
+        form: u32_from_u16(row.form),
         count: judged.count + 1,
         tasks: judged.tasks + row.tasks,
-        bytes: judged.bytes + (16 + 4 * row.listed + 8 * row.tasks),
+        bytes: judged.bytes + length_of(row.form, row.flag, row.listed, row.tasks),
         ids,
     }
 }
@@ -214,6 +308,9 @@ pub fn judged_with(judged: Tally, row: Row) -> Tally
 {
     if judged.number != 0 {
         return judged;
+    }
+    if form_wrong(judged.form, row.form) {
+        return faulted(judged, 3);
     }
     if judged.count == Table::CHAINS {
         return faulted(judged, 11);

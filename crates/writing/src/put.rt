@@ -1,6 +1,7 @@
 // Rows put into a lent buffer, and whether they are.
 use crate::Written;
 use crate::judged::Tally;
+use crate::judged::known_of;
 use table::Row;
 use table::Table;
 use table::put_u16;
@@ -8,31 +9,60 @@ use table::put_u32;
 use table::u16_from_u8;
 use table::u32_from_u16;
 ghost use mathlib.Core.Path.{_≡_};
+ghost use mathlib.Core.Bool.{true};
+ghost use mathlib.Core.List.{_++_};
 ghost use Prim.Native.Nat.{_+_, _*_, _-_, _≤_};
 ghost use lib.ListN.{length};
-ghost use Rattle.table.specs.Limits.{maxDistances, maxTasks};
+ghost use Rattle.table.specs.Limits.{maxChains, maxDistances, maxTasks};
+ghost use Rattle.slices.specs.Slices.{splice};
 ghost use Rattle.slices.specs.code.Wrote.{Wrote};
-ghost use Rattle.table.specs.Record.{taskRecord};
-ghost use Rattle.writing.specs.Rows.{headBytes, listBytes, tasksBytes, rowBytes};
+ghost use Rattle.table.specs.Record.{gapWidth, headLength, taskRecord, endRecord, knownOf};
+ghost use Rattle.writing.specs.Rows.{isForm, countByte, gapBytes, headBytes, listBytes, tasksBytes, rowBytes};
 ghost use Rattle.writing.specs.code.Tally.{firstNumber};
 ghost use Rattle.search.specs.Choice.{_when_else_};
 ghost use Rattle.writing.specs.code.Put.{distanceOf, writeAnswer, rowsPut, RowRoom, EndRoom, Ends};
 
-// The fixed part of a row's record: mark and id, kind and overload mark, and the two counts each as one number.
+// The gap, or the flag in its place.
+fn put_gap(out: &mut [u8], at: usize, form: u16, flag: u8, gap: u32) -> usize
+    requires { ⌜ at + gapWidth form ≤ length (now out) ⌝ }
+    ensures { λ r. ⌜ Wrote (now (out .entry)) at (gapBytes form flag gap) (now (out .exit)) r ⌝ }
+{
+    if form == Row::LARGEST_FORM {
+        out[at] = flag;
+        at + 1
+    } else {
+        put_u32(out, at, gap);
+        at + 4
+    }
+}
+
+// The two counts, as one number.
+fn put_counts(out: &mut [u8], at: usize, listed: usize, tasks: usize) -> usize
+    requires { ⌜ (listed ≤ maxDistances) × (tasks ≤ maxTasks) × (at + 2 ≤ length (now out)) ⌝ }
+    ensures { λ r. ⌜ Wrote (now (out .entry)) at (countByte listed ++ countByte tasks) (now (out .exit)) r ⌝ }
+{
+    put_u16(out, at, listed as u16 + 256 * tasks as u16);
+    at + 2
+}
+
+// The fixed part of a row's record: mark and id, kind and overload mark each as one number. The mark is the form.
 fn put_head(out: &mut [u8], at: usize, row: Row) -> usize
-    requires { ⌜ (row .listed ≤ maxDistances) × (row .tasks ≤ maxTasks) × (at + 16 ≤ length (now out)) ⌝ }
+    requires { ⌜ (isForm (row .form) ≡ true) × (row .listed ≤ maxDistances) × (row .tasks ≤ maxTasks) × (at + headLength (row .form) ≤ length (now out)) ⌝ }
     ensures { λ r. ⌜ Wrote (now (out .entry)) at (headBytes row) (now (out .exit)) r ⌝ }
 {
-    put_u32(out, at, 18_499 + 65_536 * u32_from_u16(row.id));
+    put_u32(
+        out,
+        at,
+        u32_from_u16(row.form) + 65_536 * u32_from_u16(row.id),
+    );
     put_u16(
         out,
         at + 4,
         u16_from_u8(row.kind) + 256 * u16_from_u8(row.overload),
     );
     put_u32(out, at + 6, row.deadline);
-    put_u32(out, at + 10, row.gap);
-    put_u16(out, at + 14, row.listed as u16 + 256 * row.tasks as u16);
-    at + 16
+    let after_gap = put_gap(out, at + 10, row.form, row.flag, row.gap);
+    put_counts(out, after_gap, row.listed, row.tasks)
 }
 
 // Distance i, where there are more than i; answers where the next one stands.
@@ -69,6 +99,19 @@ fn put_list(out: &mut [u8], at: usize, list: &[u32; Table::DISTANCES], n: usize)
     }
     put_u32(out, next, list[last]);
     next + 4
+}
+
+// The largest distances of a row, where they are known.
+fn put_largest(out: &mut [u8], at: usize, row: Row) -> usize
+    requires { ⌜ (row .listed ≤ maxDistances) × (at + 4 * knownOf row ≤ length (now out)) ⌝ }
+    ensures { λ r. ⌜ Wrote (now (out .entry)) at (listBytes (row .largest) (knownOf row)) (now (out .exit)) r ⌝ }
+{
+    let known = known_of(row.form, row.flag, row.listed);
+    if known == 0 {
+        return at;
+    }
+    let largest = row.largest;
+    put_list(out, at, &largest, known)
 }
 
 // A task record.
@@ -111,7 +154,8 @@ pub fn put_row(out: &mut [u8], at: usize, row: Row) -> usize
     let cost = row.cost;
     let after_head = put_head(out, at, row);
     let after_list = put_list(out, after_head, &list, row.listed);
-    put_tasks(out, after_list, &priority, &cost, row.tasks)
+    let after_largest = put_largest(out, after_list, row);
+    put_tasks(out, after_largest, &priority, &cost, row.tasks)
 }
 
 // The number, or 0 where it is not called for.
@@ -154,6 +198,14 @@ pub fn rows_put(judged: Tally, room: usize) -> usize
     }
 }
 
+// The end record of so many chains: `EN`, and their number in the two bytes above it.
+pub fn put_end(out: &mut [u8], at: usize, count: usize)
+    requires { ⌜ (count ≤ maxChains) × (at + 4 ≤ length (now out)) ⌝ }
+    ensures { λ _. ⌜ now (out .exit) ≡ splice (now (out .entry)) at 4 (endRecord count) ⌝ }
+{
+    put_u32(out, at, 20_037 + 65_536 * (count as u32));
+}
+
 // The answer; where the rows are put, the end record after them.
 pub fn end(judged: Tally, out: &mut [u8], at: usize) -> Written
     requires { ⌜ EndRoom judged (now out) at ⌝ }
@@ -162,8 +214,7 @@ pub fn end(judged: Tally, out: &mut [u8], at: usize) -> Written
     let answer = answer_of(judged, out.len());
     match answer {
         Written::Used(_) => {
-            // `EN`, and their number in the two bytes above it.
-            put_u32(out, at, 20_037 + 65_536 * (judged.count as u32));
+            put_end(out, at, judged.count);
             answer
         }
         Written::Refused(_) => answer,

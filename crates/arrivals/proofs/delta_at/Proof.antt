@@ -9,7 +9,7 @@ use Rattle.table.specs.Limits.{maxDistance}
 use Rattle.table.specs.Record.{listedAt, rowAt, distances}
 use Rattle.arrivals.specs.Arrivals.{asListed, δ}
 use Rattle.arrivals.specs.code.Bounds.{farthest}
-use Rattle.arrivals.proofs.Lists.{δ-after}
+use Rattle.arrivals.proofs.Lists.{rising, δ-after}
 use Rattle.arrivals.proofs.Distances.{δ-near}
 use Rattle.arrivals.proofs.Rows.{stands-length}
 use Rattle.arrivals.proofs.delta_at.Statement.{statement}
@@ -26,7 +26,7 @@ module _ (s : tie.Start) where
   by-lists : δ ds n ≡ s .args .i * asListed ds (length ds) + asListed ds (s .args .j)
   by-lists =
       ap (λ l. δ ds (s .args .i * l + s .args .j + 1)) (sym (stands-length (s .pre .0)))
-      ∙ δ-after (s .pre .0 .good .list) (s .args .i) (s .args .j) (omega (arith, stands-length (s .pre .0), s .pre .1))
+      ∙ δ-after (rising (s .pre .0 .good .list)) (s .args .i) (s .args .j) (omega (arith, stands-length (s .pre .0), s .pre .1))
 
   near : δ ds n ≤ farthest * maxDistance
   near = omega (arith, δ-near (s .pre .0 .good .list) n, s .pre .2)

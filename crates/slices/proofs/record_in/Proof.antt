@@ -16,6 +16,7 @@ use Rattle.table.proofs.Standing.{longestRecord, place-max}
 use Rattle.table.proofs.Stands.{length-at, row-there, stands}
 use Rattle.slices.specs.Locate.{recordIn}
 use Rattle.slices.specs.declared.Located.the-variants.{Record, Refused}
+use Rattle.slices.proofs.Stored.{record-most}
 use borrow.Author.Needs.{needs}
 use Rattle.slices.proofs.record_in.Statement.{statement}
 use Rattle.slices.proofs.record_in.Tie as tie
@@ -59,8 +60,9 @@ record-length-requires c κs = omega (arith, there c .there)
 
 cast-t9 : tie.Need-cast-t9
 cast-t9 c =
+    let t = tableOf (now (asked (c .before) .args .s)) in
     let r = asked (c .before) .pre .good .row (chain (c .before)) (one (c .before)) in
-    omega (arith, c .record-length .ensures, size (c .before), r .list .few, r .listed, r .tasks .few)
+    omega (arith, c .record-length .ensures, size (c .before), record-most (rowOf t (chain (c .before))) r)
 
 -- the answer by the chain that was found
 module _ (t : Table) (id found : ℕ) (e : found ≡ findOf t id) where

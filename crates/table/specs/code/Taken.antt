@@ -4,7 +4,7 @@ use mathlib.Core.Path.{_≡_}
 use mathlib.Core.List.{List}
 use lib.ListN.{length}
 use Rattle.table.specs.Bytes.{word}
-use Rattle.table.specs.Record.{afterList, lengthAt, rowAt}
+use Rattle.table.specs.Record.{firstTask, lengthAt, rowAt}
 use Rattle.table.specs.Fault.{markOf}
 use Rattle.table.specs.Find.{rowOf}
 use Rattle.table.specs.Read.{tableOf}
@@ -17,7 +17,7 @@ use Rattle.table.specs.declared.Mark.the-variants.{Chain, Task, End}
 pub record Holds (s : List ℕ) (t : Table) : Type 0 where
   pub marks : (chain : ℕ) → chain < t .count → markOf (word 2 s (placeOf t chain)) ≡ Chain
   pub makes : (chain : ℕ) → chain < t .count → rowAt s (placeOf t chain) ≡ rowOf t chain
-  pub task-marks : (chain : ℕ) → chain < t .count → (i : ℕ) → i < rowOf t chain .tasks → markOf (word 2 s (afterList (placeOf t chain) (rowOf t chain .listed) + 8 * i)) ≡ Task
+  pub task-marks : (chain : ℕ) → chain < t .count → (i : ℕ) → i < rowOf t chain .tasks → markOf (word 2 s (firstTask s (placeOf t chain) + 8 * i)) ≡ Task
   pub inside : (chain : ℕ) → chain < t .count → placeOf t chain + lengthOf (rowOf t chain) ≤ length s
   pub end-mark : markOf (word 2 s (placeOf t (t .count))) ≡ End
   pub ends : placeOf t (t .count) + 4 ≡ length s

@@ -7,10 +7,10 @@ use Rattle.write_vectors.proofs.list_of.Statement.{statement}
 use Rattle.write_vectors.proofs.list_of.Tie as tie
 
 abbrev Inv-loop : tie.InvT-loop
-Inv-loop s list₀ i₀ list i = (i ≤ 8) × (8 ≡ length list)
+Inv-loop s from list₀ i₀ list i = (i ≤ 8) × (8 ≡ length list)
 
 abbrev μ-loop : tie.MeasureT-loop
-μ-loop s list₀ i₀ list i = 8 - i
+μ-loop s from list₀ i₀ list i = 8 - i
 
 loop-holds : tie.Need-loop-holds Inv-loop μ-loop
 loop-holds c = search needs

@@ -191,12 +191,12 @@ module _ {M : Type 1} (𝓤 : URA M) (H : Heap 𝓤) (A : Atoms 𝓤) (W : Given
       unfolding afterTurn
       more s l =
           let here : s .k < min (length ys) mostJudged = omega (arith, l, en) in let there : s .k < length ys = omega (arith, here) in
-          let far : s .k * 160 < 2 ^ 64 = omega (arith, gn .1, there) in let next : s .k + 1 < 2 ^ 64 = omega (arith, gn .0, there) in
+          let far : s .k * 192 < 2 ^ 64 = omega (arith, gn .1, there) in let next : s .k + 1 < 2 ^ 64 = omega (arith, gn .0, there) in
           assigns ! (bin ! (load ! (from ! (stop !)) (look ! 16 refl)) (load ! (from ! (stop !)) (look ! 20 refl)) tt) (from ! (stop !)) (init ! 12 refl (tt, tt)) $
           rewrite ! 12 (λ (y : Bool). ‵ (fat fullShare tyBool l₆ 0 (vbool y))) (lt-ltb (s .k) n l) refl $ stays ! (load ! (from ! (stop !)) (look ! 12 refl)) $
           assigns ! (bin ! (load ! (from ! (stop !)) (look ! 16 refl)) (lit ! tt) (record { fits = far })) (from ! (stop !)) (init ! 10 refl (tt, record { fits = far })) $
           assigns ! (bin ! (load ! (from ! (fld ! refl (stop !))) (look-in ! 22 (sub ! 0 refl (whole !)))) (load ! (from ! (stop !)) (look ! 10 refl)) tt) (from ! (stop !)) (init ! 8 refl (tt, tt)) $
-          rewrite ! 8 (λ (p : ℕ). ‵ (fat fullShare tyPtr l₈ 0 (vptr b p))) (sym (place-is 160 o (s .k))) refl $
+          rewrite ! 8 (λ (p : ℕ). ‵ (fat fullShare tyPtr l₈ 0 (vptr b p))) (sym (place-is 192 o (s .k))) refl $
           looks-slice ! tt T.the-row (Is T.the-row) (shows 𝓤 H A T.the-row) (LL.vals T.the-type T′.the-laws) (LL.tells T.the-type T′.the-laws) (LL.copy T.the-type T′.the-copy 𝓤 H A W) ys b o (λ q′.
           elem-out ! T.the-row (Is T.the-row) (shows 𝓤 H A T.the-row) (LL.vals T.the-type T′.the-laws) (LL.tells T.the-type T′.the-laws) q′ ys (s .k) blank b o there (λ g.
           assigns ! (of-opd ! (load ! (from ! (hop ! (look ! 11 refl) (stop !))) (look-raw ! 0 refl))) (from ! (stop !)) (init ! 9 refl (LL.lawful T.the-type T′.the-laws 𝓤 H A W .typed (getD ys (s .k) blank) _ g .0)) $

@@ -238,7 +238,7 @@ module _ {M : Type 1} (𝓤 : URA M) (H : Heap 𝓤) (A : Atoms 𝓤) (W : Given
       inside : (s : Stand) → s .k < n → s .k < length (s .zs)
       inside s l = omega (arith, l, filled-there (src .now) ys answer a, s .same)
 
-      far : (s : Stand) → s .k < n → s .k * 160 < 2 ^ 64
+      far : (s : Stand) → s .k < n → s .k * 192 < 2 ^ 64
       far s l = omega (arith, gn .1, l, filled-there (src .now) ys answer a)
 
       next : (s : Stand) → s .k < n → s .k + 1 < 2 ^ 64
@@ -263,7 +263,7 @@ module _ {M : Type 1} (𝓤 : URA M) (H : Heap 𝓤) (A : Atoms 𝓤) (W : Given
           -- [the rows; their borrow; their token; the bytes' token; what the new row owns; the bytes; _11; …]: the place of `rows[k]`, and the store
           assigns ! (bin ! (load ! (from ! (stop !)) (look ! 16 refl)) (lit ! tt) (record { fits = far s l })) (from ! (stop !)) (init ! 8 refl (tt, record { fits = far s l })) $
           assigns ! (bin ! (load ! (from ! (fld ! refl (stop !))) (look-in ! 24 (sub ! 0 refl (whole !)))) (load ! (from ! (stop !)) (look ! 8 refl)) tt) (from ! (stop !)) (init ! 6 refl (tt, tt)) $
-          rewrite ! 6 (λ (p : ℕ). ‵ (fat fullShare tyPtr l₁₁ 0 (vptr b p))) (sym (place-is 160 o (s .k))) refl $
+          rewrite ! 6 (λ (p : ℕ). ‵ (fat fullShare tyPtr l₁₁ 0 (vptr b p))) (sym (place-is 192 o (s .k))) refl $
           opens-slice ! tt T.the-row (s .zs) b o $ elem-out ! T.the-row (Is T.the-row) (shows 𝓤 H A T.the-row) (LL.vals T.the-type T′.the-laws) (LL.tells T.the-type T′.the-laws) fullShare (s .zs) (s .k) blank b o (inside s l) (λ _. move ! (1 ∷ []) $ drop ! $
           -- [rows[k]; the others; the open borrow; obs; auth; the bytes' token; what the new row owns; the bytes; _11; …]
           assigns ! (of-opd ! (load ! (from ! (stop !)) (look ! 12 refl))) (from ! (hop ! (look ! 8 refl) (stop !))) (store-raw ! 0 refl (LL.lawful T.the-type T′.the-laws 𝓤 H A W .typed r _ is₁ .0)) $

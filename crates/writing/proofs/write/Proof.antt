@@ -250,14 +250,14 @@ module _ {M : Type 1} (𝓤 : URA M) (H : Heap 𝓤) (A : Atoms 𝓤) (W : Given
         unfolding afterTurn
         more t l =
             let here : t .k < rowsPut j (length buffer) = omega (arith, l, en) in let there : t .k < length ys = omega (arith, here, rows-there ys j (length buffer) ej) in
-            let far : t .k * 160 < 2 ^ 64 = omega (arith, gn .1, there) in let fits : t .k + 1 < 2 ^ 64 = omega (arith, gn .0, there) in let elem = getD ys (t .k) blank in
+            let far : t .k * 192 < 2 ^ 64 = omega (arith, gn .1, there) in let fits : t .k + 1 < 2 ^ 64 = omega (arith, gn .0, there) in let elem = getD ys (t .k) blank in
             assigns ! (bin ! (load ! (from ! (stop !)) (look ! 27 refl)) (load ! (from ! (stop !)) (look ! 31 refl)) tt) (from ! (stop !)) (init ! 23 refl (tt, tt)) $
             rewrite ! 23 (λ (y : Bool). ‵ (fat fullShare tyBool l₈ 0 (vbool y))) (lt-ltb (t .k) n l) refl $ stays ! (load ! (from ! (stop !)) (look ! 23 refl)) $
             assigns ! (addr ! (from ! (fld ! refl (hop ! (look-in ! 35 (sub ! 0 refl (whole !))) (stop !))))) (from ! (stop !)) (init ! 21 refl (tt, tt)) $
             assigns ! (agg ! (and-then ! (load ! (from ! (stop !)) (look ! 21 refl)) (and-then ! (load ! (from ! (fld ! refl (stop !))) (look-in ! 35 (sub ! 1 refl (whole !)))) (no-more !)))) (from ! (stop !)) (init ! 19 refl (tt, (tt, (record { fits = go .0 }, tt)))) $
             assigns ! (bin ! (load ! (from ! (stop !)) (look ! 27 refl)) (lit ! tt) (record { fits = far })) (from ! (stop !)) (init ! 17 refl (tt, record { fits = far })) $
             assigns ! (bin ! (load ! (from ! (fld ! refl (stop !))) (look-in ! 37 (sub ! 0 refl (whole !)))) (load ! (from ! (stop !)) (look ! 17 refl)) tt) (from ! (stop !)) (init ! 15 refl (tt, tt)) $
-            rewrite ! 15 (λ (p : ℕ). ‵ (fat fullShare tyPtr l₁₂ 0 (vptr b p))) (sym (place-is 160 o (t .k))) refl $
+            rewrite ! 15 (λ (p : ℕ). ‵ (fat fullShare tyPtr l₁₂ 0 (vptr b p))) (sym (place-is 192 o (t .k))) refl $
             looks-slice ! tt T.the-row (Is T.the-row) (shows 𝓤 H A T.the-row) (LL.vals T.the-type T′.the-laws) (LL.tells T.the-type T′.the-laws) (LL.copy T.the-type T′.the-copy 𝓤 H A W) ys b o (λ q″.
             elem-out ! T.the-row (Is T.the-row) (shows 𝓤 H A T.the-row) (LL.vals T.the-type T′.the-laws) (LL.tells T.the-type T′.the-laws) q″ ys (t .k) blank b o there (λ g.
             assigns ! (of-opd ! (load ! (from ! (hop ! (look ! 18 refl) (stop !))) (look-raw ! 0 refl))) (from ! (stop !)) (init ! 16 refl (LL.lawful T.the-type T′.the-laws 𝓤 H A W .typed elem _ g .0)) $

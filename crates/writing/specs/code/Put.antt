@@ -2,6 +2,7 @@
 use Prim.Native.Nat.{ℕ, _+_, _≤_}
 use mathlib.Core.Path.{_≡_}
 use mathlib.Core.List.{List, [], map, flatten}
+use mathlib.Core.Bool.{true}
 use lib.ListN.{length, take}
 use lib.Dec.{eqb, ltb}
 use Rattle.search.specs.Choice.{_when_else_, byNumber}
@@ -9,8 +10,7 @@ use Rattle.table.specs.Limits.{maxDistances, maxTasks}
 use Rattle.table.specs.Record.{endRecord}
 use Rattle.table.specs.declared.Row.{Row}
 use Rattle.slices.specs.Slices.{splice}
-use Rattle.slices.specs.code.Wrote.{Wrote}
-use Rattle.writing.specs.Rows.{distanceBytes, rowBytes}
+use Rattle.writing.specs.Rows.{isForm, distanceBytes, rowBytes}
 use Rattle.writing.specs.Write.{numberOf}
 use Rattle.writing.specs.code.Tally.{firstNumber}
 use Rattle.writing.specs.declared.judged.Tally.{Tally}
@@ -41,6 +41,7 @@ rowsPut j room = j .count when eqb (numberOf (writeAnswer j room)) 0 else 0
 
 -- a row that has room from `at` on
 pub record RowRoom (r : Row) (buffer : List ℕ) (at : ℕ) : Type 0 where
+  pub form : isForm (r .form) ≡ true
   pub some : 1 ≤ r .listed
   pub listed : r .listed ≤ maxDistances
   pub tasks : r .tasks ≤ maxTasks

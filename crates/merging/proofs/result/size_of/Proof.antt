@@ -12,6 +12,7 @@ use native.Mathlib.Omega.{arith}
 use Rattle.search.specs.Choice.{_when_else_}
 use Rattle.search.specs.Lists.{keep}
 use Rattle.search.proofs.Choice.{when-cases}
+use Rattle.table.proofs.Standing.{longestRecord}
 use Rattle.merging.specs.Versions.{Versions, three}
 use Rattle.merging.specs.Rule.{takenOf, conflictOf, lesser, least}
 use Rattle.merging.specs.Merge.{versions, isRecord}
@@ -27,7 +28,7 @@ use Rattle.merging.proofs.result.size_of.Tie as tie
 
 abbrev Inv-loop : tie.InvT-loop
 Inv-loop ancestor first second ids conflict₀ bytes₀ records₀ i₀ conflict bytes records i =
-    (i ≤ length ids) × (bytes ≤ 176 * i) × (records ≤ i)
+    (i ≤ length ids) × (bytes ≤ longestRecord * i) × (records ≤ i)
     × (bytes + length (flatten (statesOf (three ancestor first second) (drop i ids))) ≡ length (flatten (statesOf (three ancestor first second) ids)))
     × (records + length (keep isRecord (statesOf (three ancestor first second) (drop i ids))) ≡ length (keep isRecord (statesOf (three ancestor first second) ids)))
     × (lesser conflict (leastOf (three ancestor first second) (drop i ids)) ≡ leastOf (three ancestor first second) ids)
@@ -49,7 +50,7 @@ start c = c .before .before .before .before .before .before .before .before
 weighed : (c : tie.After-weigh Inv-loop μ-loop) → c .weigh .result .bytes ≡ length (takenOf (of (start c)) (getD (now (start c .args .ids)) (c .before .before .before .loop .i) 0))
 weighed c = ap (λ (w : Weight). w .bytes) (c .weigh .ensures) ∙ weight-bytes _ _
 
-short : (c : tie.After-weigh Inv-loop μ-loop) → c .weigh .result .bytes ≤ 176
+short : (c : tie.After-weigh Inv-loop μ-loop) → c .weigh .result .bytes ≤ longestRecord
 short c = let s = c .before .before .before .before .before .before .before .before in
     rw (weighed c) (taken-short (s .pre .0) (getD (now (s .args .ids)) (c .before .before .before .loop .i) 0))
 

@@ -3,10 +3,9 @@ use Prim.Native.Nat.{_+_, _*_, _-_, _≤_}
 use mathlib.Core.Path.{_≡_, ap, ap₂, _∙_}
 use mathlib.Core.Bool.{false}
 use native.Mathlib.Omega.{arith}
-use native.Mathlib.Nat.{mul-le-mul}
 use borrow.Author.Needs.{needs}
 use denote.Ref.{now}
-use Rattle.table.specs.Limits.{maxRun, maxGap, maxOverloads}
+use Rattle.table.specs.Limits.{maxRun, maxLargest, maxOverloads}
 use Rattle.table.specs.Find.{rowOf, rows}
 use Rattle.table.specs.Record.{rowAt}
 use Rattle.table.specs.declared.Row.{Row}
@@ -15,6 +14,8 @@ use Rattle.table.specs.code.Good.{GoodTable}
 use Rattle.table.specs.code.Taken.{Stands}
 use Rattle.table.specs.Read.{tableOf}
 use Rattle.table.proofs.Stands.{row-there, stands}
+use Rattle.arrivals.specs.Arrivals.{largest}
+use Rattle.arrivals.proofs.Rows.{largest-near}
 use Rattle.search.specs.Lists.{some}
 use Rattle.misses.specs.Overloads.{overloads}
 use Rattle.misses.proofs.Starts.{starts}
@@ -47,20 +48,16 @@ module _ (c : tie.After-place) where
   row : rowAt (now (placed .args .s)) (c .place .result) ≡ b placed
   row = row-there (placed .pre .0) (c .place .ensures) (placed .pre .1)
 
--- its gap
-module _ (c : tie.After-gap-at) where
+-- its largest distance
+module _ (c : tie.After-largest) where
   abbrev spaced : tie.Start
   spaced = placed (c .before)
 
-  gap : c .gap-at .result ≡ b spaced .gap
-  unfolding rowAt
-  gap = c .gap-at .ensures ∙ ap (λ (r : Row). r .gap) (row (c .before))
+  run-is : c .largest .result ≡ largest (b spaced) (spaced .args .k)
+  run-is = c .largest .ensures ∙ ap (λ (r : Row). largest r (spaced .args .k)) (row (c .before))
 
-  run : (spaced .args .k - 1) * c .gap-at .result ≤ maxRun * maxGap
-  run =
-      let h : spaced .args .k - 1 ≤ maxRun = omega (arith, spaced .pre .2 .high) in
-      let g : c .gap-at .result ≤ maxGap = omega (arith, gap, good spaced .row (spaced .args .chain) (spaced .pre .1) .gap-max) in
-      mul-le-mul h g
+  run : c .largest .result ≤ maxRun * maxLargest
+  run = omega (arith, run-is, largest-near (good spaced .row (spaced .args .chain) (spaced .pre .1)) (spaced .args .k) (spaced .pre .2 .high))
 
 -- the active segments gathered are those against it
 module _ (c : tie.After-of) where
@@ -70,10 +67,10 @@ module _ (c : tie.After-of) where
   some-late : start .args .f .late ≡ 0 → ⊥
   some-late = c .before .before .before .before .if1 .left
 
-  gathers : c .of .result ≡ gathered ((start .args .k - 1) * b start .gap + start .args .f .latency) (overloads (b start) (rows (t start)))
+  gathers : c .of .result ≡ gathered (largest (b start) (start .args .k) + start .args .f .latency) (overloads (b start) (rows (t start)))
   gathers =
       c .of .ensures
-      ∙ ap₂ (λ g r. gathered ((start .args .k - 1) * g + start .args .f .latency) (overloads r (rows (t start)))) (gap (c .before .before)) (row (c .before .before .before))
+      ∙ ap₂ (λ n r. gathered (n + start .args .f .latency) (overloads r (rows (t start)))) (run-is (c .before .before)) (row (c .before .before .before))
 
 -- neither 18 nor 19
 module _ (c : tie.After-above) where
@@ -101,23 +98,11 @@ returns c =
 place-requires : tie.Need-place-requires
 place-requires c κs = let p = c .before .before .before .pre in (p .0, omega (arith, p .1))
 
-sub-of : tie.Need-sub-of
-sub-of c = placed c .pre .2 .low
+largest-requires : tie.Need-largest-requires
+largest-requires c κs = (here c, placed c .pre .2 .low, placed c .pre .2 .high)
 
 cast-of : tie.Need-cast-of
 cast-of c = search needs
-
-gap-at-requires : tie.Need-gap-at-requires
-gap-at-requires c κs = omega (arith, here c .there)
-
-cast-of-2 : tie.Need-cast-of-2
-cast-of-2 c = search needs
-
-mul-of : tie.Need-mul-of
-mul-of c = omega (arith, run c)
-
-cast-of-3 : tie.Need-cast-of-3
-cast-of-3 c = search needs
 
 add-of : tie.Need-add-of
 add-of c = omega (arith, run (c .before), spaced (c .before) .pre .2 .near)
@@ -189,12 +174,8 @@ by-figures-spec =
     answered-requires
     returns
     place-requires
-    sub-of
+    largest-requires
     cast-of
-    gap-at-requires
-    cast-of-2
-    mul-of
-    cast-of-3
     add-of
     of-requires
     answered-requires-2

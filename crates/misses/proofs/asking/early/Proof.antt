@@ -12,7 +12,7 @@ use Rattle.table.specs.Fault.{outside}
 use Rattle.table.specs.declared.Row.{Row}
 use Rattle.table.specs.Record.{rowAt}
 use Rattle.table.proofs.Firsts.{or-left, or-right, or-none}
-use Rattle.misses.proofs.Answers.{early-run, early-overload, early-gap, early-none}
+use Rattle.misses.proofs.Answers.{early-run, early-overload, early-unknown, early-none}
 use Rattle.misses.proofs.asking.early.Statement.{statement}
 use Rattle.misses.proofs.asking.early.Tie as tie
 
@@ -39,21 +39,21 @@ returns-2 : tie.Need-returns-2
 unfolding rowAt
 returns-2 c = let s = c .before .before .before .before .before in sym (early-overload (b s) (s .args .k) (inside (c .before .before)) (λ e. c .if3 .taken (c .before .overload-at .ensures ∙ e)))
 
-gap-at-requires : tie.Need-gap-at-requires
-gap-at-requires c κs = search needs
+unknown-requires : tie.Need-unknown-requires
+unknown-requires c κs = search needs
 
 returns-3 : tie.Need-returns-3
 unfolding rowAt
 returns-3 c =
     let s = c .before .before .before .before .before .before .before in
-    sym (early-gap (b s) (s .args .k) (inside (c .before .before .before .before)) (sym (c .before .before .before .overload-at .ensures) ∙ c .before .before .if3 .left) (sym (c .before .gap-at .ensures) ∙ c .if4 .taken))
+    sym (early-unknown (b s) (s .args .k) (inside (c .before .before .before .before)) (sym (c .before .before .before .overload-at .ensures) ∙ c .before .before .if3 .left) (sym (c .before .unknown .ensures) ∙ c .if4 .taken))
 
 returns-4 : tie.Need-returns-4
 unfolding rowAt
 returns-4 c =
     let s = c .before .before .before .before .before .before .before in
-    sym (early-none (b s) (s .args .k) (inside (c .before .before .before .before)) (sym (c .before .before .before .overload-at .ensures) ∙ c .before .before .if3 .left) (λ e. c .if4 .left (c .before .gap-at .ensures ∙ e)))
+    sym (early-none (b s) (s .args .k) (inside (c .before .before .before .before)) (sym (c .before .before .before .overload-at .ensures) ∙ c .before .before .if3 .left) (sym (c .before .unknown .ensures) ∙ c .if4 .left))
 
 pub early-spec : {M : Type 1} → statement M
 early-spec =
-    tie.close (tie.spec returns overload-at-requires returns-2 gap-at-requires returns-3 returns-4)
+    tie.close (tie.spec returns overload-at-requires returns-2 unknown-requires returns-3 returns-4)

@@ -2,7 +2,6 @@
 use Prim.Native.Nat.{ℕ, _+_, _-_}
 use mathlib.Core.Path.{_≡_, ap, sym, _∙_}
 use mathlib.Core.List.{List}
-use mathlib.Core.Logic.{inr}
 use denote.Ref.{now}
 use lib.ListN.{length, take}
 use borrow.Author.Needs.{needs}
@@ -41,7 +40,7 @@ returns c = let s = c .before .before .before .before in
 returns-2 : tie.Need-returns-2
 returns-2 c = let s = c .before .before .before .before .before in
     let e = made-length s in
-    let f = result-read (s .args .room) (made s) (omega (arith, e, c .before .if1 .left)) ∙ read-out (made s) (inr (omega (arith, e, c .if2 .taken))) in
+    let f = result-read (s .args .room) (made s) (omega (arith, e, c .before .if1 .left)) ∙ read-out (made s) (omega (arith, e, c .if2 .taken)) in
     record { faulty = sym f; begins = λ z. absurd (omega (arith, z)) }
 
 spliced-requires : tie.Need-spliced-requires

@@ -1,16 +1,29 @@
 -- Each test decides, in order.
-use borrow.Author.Tests.{lt-ltb, le-ltb, eq-eqb, ne-eqb}
+use Prim.Native.Nat.{_≤_}
+use native.Mathlib.Omega.{arith}
+use mathlib.Core.Path.{sym, _∙_}
+use denote.Ref.{now}
+use lib.ListN.{length}
+use borrow.Author.Tests.{ltb-false, eq-eqb, ne-eqb}
 use borrow.Author.Needs.{needs}
+use Rattle.table.specs.Record.{formAt, headLength}
 use Rattle.saving.specs.Save.{unfit}
 use Rattle.saving.proofs.judge.unfit.Statement.{statement}
 use Rattle.saving.proofs.judge.unfit.Tie as tie
 
+-- the fixed part is there
+there : (c : tie.Else1) → headLength (formAt (now (c .before .before .before .args .new)) 0) ≤ length (now (c .before .before .before .args .new))
+there c = ltb-false _ _ (sym (c .before .cut .ensures) ∙ c .if1 .left)
+
+cut-requires : tie.Need-cut-requires
+cut-requires c κs = search needs
+
 returns : tie.Need-returns
 unfolding unfit
-returns c = rw (lt-ltb _ _ (c .if1 .taken))
+returns c = rw (← c .before .cut .ensures, c .if1 .taken)
 
-u16-at-requires : tie.Need-u16-at-requires
-u16-at-requires c κs = search needs
+form-at-requires : tie.Need-form-at-requires
+form-at-requires c κs = omega (arith, there c)
 
 mark-of-requires : tie.Need-mark-of-requires
 mark-of-requires c κs = search needs
@@ -20,32 +33,35 @@ is-chain-requires c κs = search needs
 
 returns-2 : tie.Need-returns-2
 unfolding unfit
-returns-2 c = rw (le-ltb _ _ (c .before .before .before .before .if1 .left), ← c .before .before .before .u16-at .ensures, ← c .before .before .mark-of .ensures, ← c .before .is-chain .ensures, c .if2 .taken)
+returns-2 c =
+    let m = c .before in
+    rw (← m .before .before .before .before .cut .ensures, m .before .before .before .if1 .left, ← m .before .before .form-at .ensures, ← m .before .mark-of .ensures, ← m .is-chain .ensures, c .if2 .taken)
 
 record-length-requires : tie.Need-record-length-requires
-record-length-requires c κs = search needs
+record-length-requires c κs = omega (arith, there (c .before .before .before .before))
 
 returns-3 : tie.Need-returns-3
 unfolding unfit
 returns-3 c =
     let m = c .before .before .before in
-    rw (le-ltb _ _ (m .before .before .before .if1 .left), ← m .before .before .u16-at .ensures, ← m .before .mark-of .ensures, ← m .is-chain .ensures, c .before .before .if2 .left, ← c .before .record-length .ensures, ne-eqb _ _ (c .if3 .taken))
+    rw (← m .before .before .before .before .cut .ensures, m .before .before .before .if1 .left, ← c .before .record-length .ensures, ← m .before .before .form-at .ensures, ← m .before .mark-of .ensures, ← m .is-chain .ensures, c .before .before .if2 .left, ne-eqb _ _ (c .if3 .taken))
 
 id-at-requires : tie.Need-id-at-requires
-id-at-requires c κs = search needs
+id-at-requires c κs = omega (arith, there (c .before .before .before .before .before .before))
 
 returns-4 : tie.Need-returns-4
 unfolding unfit
 returns-4 c =
     let m = c .before .before .before .before in
-    rw (le-ltb _ _ (m .before .before .before .if1 .left), ← m .before .before .u16-at .ensures, ← m .before .mark-of .ensures, ← m .is-chain .ensures, c .before .before .before .if2 .left, ← c .before .before .record-length .ensures, eq-eqb _ _ (c .before .if3 .left), ← c .id-at .ensures)
+    rw (← m .before .before .before .before .cut .ensures, m .before .before .before .if1 .left, ← c .before .before .record-length .ensures, ← m .before .before .form-at .ensures, ← m .before .mark-of .ensures, ← m .is-chain .ensures, c .before .before .before .if2 .left, eq-eqb _ _ (c .before .if3 .left), ← c .id-at .ensures)
 
 pub unfit-spec : {M : Type 1} → statement M
 unfit-spec =
     tie.close
     (tie.spec
+    cut-requires
     returns
-    u16-at-requires
+    form-at-requires
     mark-of-requires
     is-chain-requires
     returns-2

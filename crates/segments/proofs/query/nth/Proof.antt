@@ -1,5 +1,5 @@
 -- The active segment comes out of the arrays, and lies inside its chain, whose record stands in the table.
-use Prim.Native.Nat.{_*_, _≤_}
+use Prim.Native.Nat.{_+_, _*_, _≤_}
 use native.Mathlib.Omega.{arith}
 use mathlib.Core.Path.{_≡_, ap₂, _∙_}
 use mathlib.Core.Logic.{inl, inr, ⊎-elim}
@@ -7,18 +7,19 @@ use denote.Ref.{now}
 use borrow.Author.Needs.{needs}
 use borrow.Author.Tests.{ltb-false}
 use Rattle.table.specs.Limits.{maxChains, maxTasks}
-use Rattle.table.specs.Record.{afterList, rowAt}
+use Rattle.table.specs.Record.{rowAt}
 use Rattle.table.specs.Find.{rowOf}
-use Rattle.table.specs.Place.{placeOf}
+use Rattle.table.specs.Place.{tasksStart, placeOf}
 use Rattle.table.specs.Read.{tableOf}
 use Rattle.table.specs.declared.Table.{Table}
-use Rattle.table.proofs.Stands.{row-there, stands}
+use Rattle.table.proofs.Stands.{row-there, first-there, stands}
 use Rattle.segments.specs.Actives.{activesOf}
 use Rattle.segments.specs.Query.{activesIn}
 use Rattle.segments.specs.code.Held.{arraysOf}
 use Rattle.segments.proofs.Levels.{floor-tail}
 use Rattle.table.proofs.Standing.{longestRecord, place-max}
-use Rattle.segments.proofs.Asking.{Fetched, found-is, first-there, fetched, nth-none, nth-records}
+use Rattle.table.proofs.Widths.{width-most, known-most}
+use Rattle.segments.proofs.Asking.{Fetched, found-is, fetched, nth-none, nth-records}
 use Rattle.segments.proofs.query.nth.Statement.{statement}
 use Rattle.segments.proofs.query.nth.Tie as tie
 
@@ -57,14 +58,15 @@ module _ (c : tie.After-first-task) where
   abbrev asked : tie.Start
   asked = start (found (c .before))
 
-  first-is : c .first-task .result ≡ afterList (placeOf (table asked) (asked .args .chain)) (rowOf (table asked) (asked .args .chain) .listed)
+  first-is : c .first-task .result ≡ placeOf (table asked) (asked .args .chain) + tasksStart (rowOf (table asked) (asked .args .chain))
   first-is = c .first-task .ensures ∙ first-there (asked .pre .0) (chain (found (c .before)) .place .ensures) (asked .pre .1)
 
   near : c .first-task .result ≤ longestRecord * maxChains
   near =
       let g = asked .pre .0 .good in
       let r = g .row (asked .args .chain) (asked .pre .1) in
-      omega (arith, first-is, place-max (table asked) g (asked .args .chain) (omega (arith, asked .pre .1)), g .few, asked .pre .1, r .list .few, r .listed)
+      let row = rowOf (table asked) (asked .args .chain) in
+      omega (arith, first-is, place-max (table asked) g (asked .args .chain) (omega (arith, asked .pre .1)), g .few, asked .pre .1, r .list .few, r .listed, width-most (row .form), known-most (row .form) (row .flag) (row .listed))
 
   few : rowOf (table asked) (asked .args .chain) .tasks ≤ maxTasks
   few = asked .pre .0 .good .row (asked .args .chain) (asked .pre .1) .tasks .few
@@ -91,7 +93,7 @@ returns : tie.Need-returns
 returns c = nth-none _ _ _ (start (c .before) .args .number) _ (held (c .before)) (⊎-elim (λ w. inl (w .taken)) (λ w. inr (w .1 .taken)) (c .if1 .came))
 
 first-task-requires : tie.Need-first-task-requires
-first-task-requires c κs = let s = start (found c) in stands (s .pre .0) (chain (found c) .place .ensures) (s .pre .1) .there
+first-task-requires c κs = let s = start (found c) in omega (arith, stands (s .pre .0) (chain (found c) .place .ensures) (s .pre .1) .there)
 
 sub-offset : tie.Need-sub-offset
 sub-offset c = search needs

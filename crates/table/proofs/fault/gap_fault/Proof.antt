@@ -6,24 +6,20 @@ use borrow.Author.Needs.{needs}
 use Rattle.table.proofs.fault.gap_fault.Statement.{statement}
 use Rattle.table.proofs.fault.gap_fault.Tie as tie
 
-u32-at-requires : tie.Need-u32-at-requires
-u32-at-requires c κs = search needs
-
 returns : tie.Need-returns
 unfolding gapFault _when_else_
-returns c = rw (← c .before .u32-at .ensures, eq-eqb _ _ (c .if1 .taken))
+returns c = rw (eq-eqb _ _ (c .if1 .taken))
 
 gap-short-requires : tie.Need-gap-short-requires
 gap-short-requires c κs = search needs
 
 returns-2 : tie.Need-returns-2
 unfolding gapFault _when_else_
-returns-2 c = rw (← c .before .before .before .u32-at .ensures, ne-eqb _ _ (c .before .before .if1 .left), ← c .before .gap-short .ensures, c .if2 .taken)
+returns-2 c = rw (ne-eqb _ _ (c .before .before .if1 .left), ← c .before .gap-short .ensures, c .if2 .taken)
 
 returns-3 : tie.Need-returns-3
 unfolding gapFault _when_else_
-returns-3 c = rw (← c .before .before .before .u32-at .ensures, ne-eqb _ _ (c .before .before .if1 .left), ← c .before .gap-short .ensures, c .if2 .left)
+returns-3 c = rw (ne-eqb _ _ (c .before .before .if1 .left), ← c .before .gap-short .ensures, c .if2 .left)
 
 pub gap-fault-spec : {M : Type 1} → statement M
-gap-fault-spec =
-    tie.close (tie.spec u32-at-requires returns gap-short-requires returns-2 returns-3)
+gap-fault-spec = tie.close (tie.spec returns gap-short-requires returns-2 returns-3)

@@ -8,12 +8,12 @@ use mathlib.Core.Logic.{⊎-elim}
 use denote.Ref.{now}
 use lib.ListN.{length, length-set}
 use lib.Dec.{eqb, ltb}
-use borrow.Author.Tests.{eq-eqb, ne-eqb, ltb-false}
-use Rattle.table.specs.Limits.{maxChains, maxAllTasks, maxBytes}
+use borrow.Author.Tests.{eq-eqb, ne-eqb}
+use Rattle.table.specs.Limits.{maxChains, maxAllTasks}
 use Rattle.table.specs.Bytes.{word}
-use Rattle.table.specs.Record.{idAt, lengthAt, rowAt}
+use Rattle.table.specs.Record.{formAt, idAt, lengthAt, rowAt}
 use Rattle.table.specs.Fault.{markOf, chainFault, endFault}
-use Rattle.table.specs.Read.{empty, plus, accepted, refusal, unless, byMark, records, readTable}
+use Rattle.table.specs.Read.{empty, plus, accepted, refusal, unless, byMark, records, limitOf, readTable}
 use Rattle.table.specs.code.Before.{Keeps}
 use Rattle.table.specs.declared.Table.{Table}
 use Rattle.table.specs.declared.Reading.{Reading}
@@ -23,7 +23,7 @@ use Rattle.table.specs.declared.before.Before.{Before}
 use Rattle.table.proofs.Earlier.{before-more}
 use Rattle.table.proofs.Firsts.{or-left, or-right, or-none, unless-fault, unless-none, ends-verdict}
 use Rattle.table.proofs.Faultless.{ChainRight, chain-right}
-use Rattle.table.proofs.Steps.{read-long, read-on, records-short, records-mark, records-full, records-chain}
+use Rattle.table.proofs.Steps.{read-long, read-on, records-short, records-mark, records-other, records-full, records-chain}
 use borrow.Author.Needs.{needs}
 use Rattle.table.proofs.reader.judge.Statement.{statement}
 use Rattle.table.proofs.reader.judge.Tie as tie
@@ -48,7 +48,7 @@ verdict e = ap (λ (x : Reading). x .verdict) e
 
 -- at the loop's head: the bytes, the table so far, and how many rows it has
 abbrev bytes : tie.At-loop Inv-loop μ-loop → List ℕ
-bytes l = now (l .before .before .before .before .args .s)
+bytes l = now (l .before .before .before .before .before .args .s)
 
 abbrev sofar : tie.At-loop Inv-loop μ-loop → Table
 sofar l = l .loop .inv .0
@@ -60,12 +60,13 @@ totals : (l : tie.At-loop Inv-loop μ-loop) → sofar l .tasks ≡ l .loop .befo
 totals l = sym (l .loop .inv .1 .known .tasks)
 
 -- the length is wrong
-long : (c : tie.Joined1 Inv-loop μ-loop) → (eqb (length (now (c .before .before .args .s))) 0 || ltb maxBytes (length (now (c .before .before .args .s)))) ≡ true
-long c = ⊎-elim (λ w. or-left _ _ (eq-eqb _ _ (w .taken))) (λ w. or-right (eqb (length (now (c .before .before .args .s))) 0) _ (w .1 .taken)) (c .if1 .came)
+long : (c : tie.Joined1 Inv-loop μ-loop)
+    → (eqb (length (now (c .before .before .args .s))) 0 || ltb (limitOf (word 2 (now (c .before .before .args .s)) 0)) (length (now (c .before .before .args .s)))) ≡ true
+long c = ⊎-elim (λ w. or-left _ _ (eq-eqb _ _ (w .taken))) (λ w. or-right (eqb (length (now (c .before .before .args .s))) 0) _ (ap (λ n. ltb n (length (now (c .before .before .args .s)))) (sym (w .1 .ensures)) ∙ w .2 .taken)) (c .if1 .came)
 
 -- the length is right, and what is left gives what the whole gives
 whole : (l : tie.At-loop Inv-loop μ-loop) → readTable (bytes l) ≡ records (maxChains - sofar l .count) (bytes l) (l .loop .at) (sofar l)
-whole l = read-on (bytes l) (or-none _ _ (ne-eqb _ _ (l .before .before .if1 .left)) (l .before .if2 .left)) ∙ sym (l .loop .inv .1 .left)
+whole l = read-on (bytes l) (or-none _ _ (ne-eqb _ _ (l .before .before .before .if1 .left)) (ap (λ n. ltb n (length (bytes l))) (sym (l .before .before .limit .ensures)) ∙ l .before .if2 .left)) ∙ sym (l .loop .inv .1 .left)
 
 -- the mark at the record's start, and what it leads to
 module _ (c : tie.After-mark-of Inv-loop μ-loop) where
@@ -75,33 +76,49 @@ module _ (c : tie.After-mark-of Inv-loop μ-loop) where
   mark : markOf (word 2 (bytes l) (l .loop .at)) ≡ c .mark-of .result
   mark = ap markOf (sym (c .before .u16-at .ensures)) ∙ sym (c .mark-of .ensures)
 
-  full : c .mark-of .result ≡ Chain → sofar l .count ≡ maxChains → readTable (bytes l) ≡ refusal 11 (l .loop .at)
-  full e n = whole l ∙ records-full (bytes l) (l .loop .at) (sofar l) (c .before .before .loop-test .taken) (mark ∙ e) n
+  other-form : c .mark-of .result ≡ Chain → (formAt (bytes l) (l .loop .at) ≡ formAt (bytes l) 0 → ⊥) → readTable (bytes l) ≡ refusal 3 (l .loop .at)
+  other-form e h = whole l ∙ records-other (bytes l) (l .loop .at) (sofar l) (c .before .before .loop-test .taken) (mark ∙ e) (maxChains - sofar l .count) h
+
+  full : c .mark-of .result ≡ Chain → formAt (bytes l) (l .loop .at) ≡ formAt (bytes l) 0 → sofar l .count ≡ maxChains → readTable (bytes l) ≡ refusal 11 (l .loop .at)
+  full e f n = whole l ∙ records-full (bytes l) (l .loop .at) (sofar l) (c .before .before .loop-test .taken) (mark ∙ e) f n
 
   -- what a chain without a fault leads to
   abbrev rest : Reading
   rest = records (maxChains - (sofar l .count + 1)) (bytes l) (l .loop .at + lengthAt (bytes l) (l .loop .at)) (plus (sofar l) (rowAt (bytes l) (l .loop .at)))
 
-  chain : c .mark-of .result ≡ Chain → sofar l .count < maxChains → readTable (bytes l) ≡ unless refusal (chainFault (bytes l) (l .loop .at) (sofar l)) rest
-  chain e n = whole l ∙ records-chain (bytes l) (l .loop .at) (sofar l) (c .before .before .loop-test .taken) (mark ∙ e) n
+  chain : c .mark-of .result ≡ Chain → formAt (bytes l) (l .loop .at) ≡ formAt (bytes l) 0 → sofar l .count < maxChains
+      → readTable (bytes l) ≡ unless refusal (chainFault (bytes l) (l .loop .at) (sofar l)) rest
+  chain e f n = whole l ∙ records-chain (bytes l) (l .loop .at) (sofar l) (c .before .before .loop-test .taken) (mark ∙ e) f n
 
   other : (m : Mark) → c .mark-of .result ≡ m → (m ≡ Chain → ⊥)
       → readTable (bytes l) ≡ byMark (l .loop .at) m (refusal 11 (l .loop .at)) (unless refusal (endFault (bytes l) (l .loop .at) (sofar l)) (accepted (sofar l)))
   other m e h = whole l ∙ records-mark (bytes l) (l .loop .at) (sofar l) (c .before .before .loop-test .taken) (maxChains - sofar l .count) m (mark ∙ e) h
 
+-- it has the first record's form
+module _ (c : tie.Else3 Inv-loop μ-loop) where
+  abbrev marked : tie.After-mark-of Inv-loop μ-loop
+  marked = c .before .before .before .before .before
+
+  form : formAt (bytes (l marked)) (l marked .loop .at) ≡ formAt (bytes (l marked)) 0
+  form = sym (c .before .before .form-at .ensures) ∙ c .if3 .left ∙ c .before .form-at2 .ensures
+
+  told : marked .mark-of .result ≡ Chain
+  told = c .before .before .before .enum-told .given .1
+
 -- there is room for a chain more
-room : (c : tie.Else3 Inv-loop μ-loop) → sofar (c .before .before .before .before .before .before .before) .count < maxChains
-room c =
-    let l = c .before .before .before .before .before .before .before in
-    omega (arith, counts l, l .loop .inv .1 .few, c .if3 .left)
+room : (c : tie.Else4 Inv-loop μ-loop) → sofar (l (marked (c .before .before))) .count < maxChains
+room c = let m = l (marked (c .before .before)) in omega (arith, counts m, m .loop .inv .1 .few, c .if4 .left)
 
 -- no fault: the record is right
 module _ (c : tie.After-enum-told2 Inv-loop μ-loop) where
   abbrev before : tie.At-loop Inv-loop μ-loop
-  before = c .before .before .before .before .before .before .before .before .before .before .before
+  before = l (marked (c .before .before .before .before .before .before))
 
   right : ChainRight (bytes before) (before .loop .at) (sofar before)
   right = chain-right _ _ _ (sym (c .before .before .chain-fault .ensures _ (before .loop .inv .1 .known)) ∙ c .enum-told2 .given .1)
+
+limit-requires : tie.Need-limit-requires Inv-loop μ-loop
+limit-requires c κs = search needs
 
 returns : tie.Need-returns Inv-loop μ-loop
 returns c = sym (verdict (read-long (now (c .before .before .args .s)) (long c)))
@@ -110,7 +127,7 @@ loop-holds : tie.Need-loop-holds Inv-loop μ-loop
 loop-holds c = (empty, record { few = omega arith; all = omega arith; inside = omega arith; left = refl; size = refl; known = record { bear = refl; count = refl; tasks = refl } })
 
 add-loop : tie.Need-add-loop Inv-loop μ-loop
-add-loop c = omega (arith, c .loop .inv .1 .inside, ltb-false maxBytes (length (bytes c)) (c .before .if2 .left))
+add-loop c = search needs
 
 u16-at-requires : tie.Need-u16-at-requires Inv-loop μ-loop
 u16-at-requires c κs = search needs
@@ -121,11 +138,24 @@ mark-of-requires c κs = search needs
 enum-told : tie.Need-enum-told Inv-loop μ-loop
 enum-told c = search needs
 
+form-at-requires : tie.Need-form-at-requires Inv-loop μ-loop
+form-at-requires c κs = search needs
+
+form-at-requires-2 : tie.Need-form-at-requires-2 Inv-loop μ-loop
+form-at-requires-2 c κs = search needs
+
 returns-2 : tie.Need-returns-2 Inv-loop μ-loop
-returns-2 c = sym (verdict (full (c .before .before .before .before) (c .before .before .enum-told .given .1) (counts (c .before .before .before .before .before .before .before) ∙ c .if3 .taken)))
+returns-2 c =
+    let m = c .before .before .before .before .before in
+    sym (verdict (other-form m (c .before .before .before .enum-told .given .1) (λ e. c .if3 .taken (c .before .before .form-at .ensures ∙ e ∙ sym (c .before .form-at2 .ensures)))))
+
+returns-3 : tie.Need-returns-3 Inv-loop μ-loop
+returns-3 c =
+    let f = c .before .before in
+    sym (verdict (full (marked f) (told f) (form f) (counts (l (marked f)) ∙ c .if4 .taken)))
 
 chain-fault-requires : tie.Need-chain-fault-requires Inv-loop μ-loop
-chain-fault-requires c κs = let i = c .before .before .before .before .before .before .before .before .loop .inv .1 in (c .before .before .before .before .before .before .before .loop-test .taken, i .few, i .all)
+chain-fault-requires c κs = let m = marked (c .before .before .before) in let i = l m .loop .inv .1 in (m .before .before .loop-test .taken, i .few, i .all)
 
 enum-told-2 : tie.Need-enum-told-2 Inv-loop μ-loop
 enum-told-2 c = search needs
@@ -134,19 +164,19 @@ id-at-requires : tie.Need-id-at-requires Inv-loop μ-loop
 id-at-requires c κs = right c .head .there
 
 mul-ids : tie.Need-mul-ids Inv-loop μ-loop
-mul-ids c = omega (arith, c .before .before .before .before .before .before .before .before .before .before .before .before .loop .inv .1 .few)
+mul-ids c = omega (arith, before (c .before) .loop .inv .1 .few)
 
 array-write-ids : tie.Need-array-write-ids Inv-loop μ-loop
-array-write-ids c = let i = c .before .before .before .before .before .before .before .before .before .before .before .before .loop .inv .1 in omega (arith, i .few, i .size, c .before .before .before .before .before .if3 .left)
+array-write-ids c = let i = before (c .before) .loop .inv .1 in omega (arith, i .few, i .size, c .before .before .before .before .before .if4 .left)
 
 add-before : tie.Need-add-before Inv-loop μ-loop
-add-before c = omega (arith, c .before .before .before .before .before .before .before .before .before .before .before .before .loop .inv .1 .few)
+add-before c = omega (arith, before (c .before) .loop .inv .1 .few)
 
 tasks-at-requires : tie.Need-tasks-at-requires Inv-loop μ-loop
 tasks-at-requires c κs = right (c .before) .head .there
 
 add-before-2 : tie.Need-add-before-2 Inv-loop μ-loop
-add-before-2 c = omega (arith, c .before .before .before .before .before .before .before .before .before .before .before .before .before .before .loop .inv .1 .all, c .before .tasks-at .ensures .1)
+add-before-2 c = omega (arith, before (c .before .before .before) .loop .inv .1 .all, c .before .tasks-at .ensures .1)
 
 record-length-requires : tie.Need-record-length-requires Inv-loop μ-loop
 record-length-requires c κs = right (c .before .before .before) .head .there
@@ -155,23 +185,25 @@ add-at : tie.Need-add-at Inv-loop μ-loop
 add-at c = omega (arith, right (c .before .before .before .before) .there, c .record-length .ensures)
 
 loop-less : tie.Need-loop-less Inv-loop μ-loop
-loop-less c = omega (arith, c .before .before .before .before .before .before .before .before .before .before .before .before .before .before .before .loop .inv .1 .few, c .before .before .before .before .before .before .before .before .if3 .left)
+loop-less c = omega (arith, before (c .before .before .before .before) .loop .inv .1 .few, c .before .before .before .before .before .before .before .before .if4 .left)
 
 loop-again : tie.Need-loop-again Inv-loop μ-loop
 unfolding rowAt
-loop-again c = let l = c .before .before .before .before .before .before .before .before .before .before .before .before .before .before .before in
+loop-again c = let e = c .before .before .before .before .before .before .before .before in
+    let m = marked (e .before .before) in
+    let l = before (c .before .before .before .before) in
     let t = sofar l in
     let at = l .loop .at in
     let i = l .loop .inv .1 in
     let r = right (c .before .before .before .before) in
     let f = c .before .before .before .before .before .before .chain-fault in
     let n : at + c .record-length .result ≡ at + lengthAt (bytes l) at = ap (λ (m : ℕ). at + m) (c .record-length .ensures) in
-    let none = unless-none refusal (chainFault (bytes l) at t) (rest (c .before .before .before .before .before .before .before .before .before .before .before .before)) (sym (f .ensures t (i .known)) ∙ c .before .before .before .before .enum-told2 .given .1) in
-    let whole-is = chain (c .before .before .before .before .before .before .before .before .before .before .before .before) (c .before .before .before .before .before .before .before .before .before .before .enum-told .given .1) (room (c .before .before .before .before .before .before .before .before)) in
+    let none = unless-none refusal (chainFault (bytes l) at t) (rest m) (sym (f .ensures t (i .known)) ∙ c .before .before .before .before .enum-told2 .given .1) in
+    let whole-is = chain m (told (e .before .before)) (form (e .before .before)) (room e) in
     rw (c .before .before .before .id-at .ensures, c .before .before .tasks-at .ensures .0, n) (
       plus t (rowAt (bytes l) at),
       record {
-        few = omega (arith, i .few, c .before .before .before .before .before .before .before .before .if3 .left);
+        few = omega (arith, i .few, e .if4 .left);
         all = omega (arith, r .head .all, totals l);
         inside = r .there;
         left = sym none ∙ sym whole-is ∙ whole l ∙ i .left;
@@ -183,13 +215,14 @@ loop-again c = let l = c .before .before .before .before .before .before .before
 enum-told-3 : tie.Need-enum-told-3 Inv-loop μ-loop
 enum-told-3 c = search needs
 
-returns-3 : tie.Need-returns-3 Inv-loop μ-loop
-returns-3 c = let m = c .before .before .before .before .before .before .before .before in
-    let l = m .before .before .before in
-    let told = c .enum-told3 .given .1 in
-    let fault = sym (c .before .before .chain-fault .ensures (sofar l) (l .loop .inv .1 .known)) ∙ told in
-    let read = chain m (c .before .before .before .before .before .before .enum-told .given .1) (room (c .before .before .before .before)) in
-    told ∙ sym (verdict (read ∙ unless-fault refusal (chainFault (bytes l) (l .loop .at) (sofar l)) (rest m) fault))
+returns-4 : tie.Need-returns-4 Inv-loop μ-loop
+returns-4 c = let e = c .before .before .before .before in
+    let m = marked (e .before .before) in
+    let b = m .before .before .before in
+    let given = c .enum-told3 .given .1 in
+    let fault = sym (c .before .before .chain-fault .ensures (sofar b) (b .loop .inv .1 .known)) ∙ given in
+    let read = chain m (told (e .before .before)) (form (e .before .before)) (room e) in
+    given ∙ sym (verdict (read ∙ unless-fault refusal (chainFault (bytes b) (b .loop .at) (sofar b)) (rest m) fault))
 
 enum-told-4 : tie.Need-enum-told-4 Inv-loop μ-loop
 enum-told-4 c = search needs
@@ -197,25 +230,25 @@ enum-told-4 c = search needs
 end-fault-requires : tie.Need-end-fault-requires Inv-loop μ-loop
 end-fault-requires c κs = search needs
 
-returns-4 : tie.Need-returns-4 Inv-loop μ-loop
-returns-4 c = let l = c .before .before .before .before .before .before in
+returns-5 : tie.Need-returns-5 Inv-loop μ-loop
+returns-5 c = let l = c .before .before .before .before .before .before in
     c .end-fault .ensures (sofar l) (counts l)
     ∙ sym (verdict (other (c .before .before .before) End (c .before .enum-told4 .given .1) (λ e. let z : _≡_ {A = ℕ} 0 1 = cc in omega arith)) ∙ ends-verdict (endFault (bytes l) (l .loop .at) (sofar l)) (sofar l))
 
 enum-told-5 : tie.Need-enum-told-5 Inv-loop μ-loop
 enum-told-5 c = search needs
 
-returns-5 : tie.Need-returns-5 Inv-loop μ-loop
-returns-5 c = sym (verdict (other (c .before .before) Task (c .enum-told5 .given .1) (λ e. let z : _≡_ {A = ℕ} 0 1 = cc in omega arith)))
+returns-6 : tie.Need-returns-6 Inv-loop μ-loop
+returns-6 c = sym (verdict (other (c .before .before) Task (c .enum-told5 .given .1) (λ e. let z : _≡_ {A = ℕ} 0 1 = cc in omega arith)))
 
 enum-told-6 : tie.Need-enum-told-6 Inv-loop μ-loop
 enum-told-6 c = search needs
 
-returns-6 : tie.Need-returns-6 Inv-loop μ-loop
-returns-6 c = sym (verdict (other (c .before .before) Unknown (c .enum-told6 .given .1) (λ e. let z : _≡_ {A = ℕ} 0 1 = cc in omega arith)))
-
 returns-7 : tie.Need-returns-7 Inv-loop μ-loop
-returns-7 c = let l = c .before in
+returns-7 c = sym (verdict (other (c .before .before) Unknown (c .enum-told6 .given .1) (λ e. let z : _≡_ {A = ℕ} 0 1 = cc in omega arith)))
+
+returns-8 : tie.Need-returns-8 Inv-loop μ-loop
+returns-8 c = let l = c .before in
     sym (verdict (whole l ∙ records-short (bytes l) (l .loop .at) (sofar l) (maxChains - sofar l .count) (c .loop-test .left)))
 
 pub judge-spec : {M : Type 1} → statement M
@@ -224,13 +257,17 @@ judge-spec =
     (tie.spec
     Inv-loop
     μ-loop
+    limit-requires
     returns
     loop-holds
     add-loop
     u16-at-requires
     mark-of-requires
     enum-told
+    form-at-requires
+    form-at-requires-2
     returns-2
+    returns-3
     chain-fault-requires
     enum-told-2
     id-at-requires
@@ -244,12 +281,12 @@ judge-spec =
     loop-less
     loop-again
     enum-told-3
-    returns-3
+    returns-4
     enum-told-4
     end-fault-requires
-    returns-4
-    enum-told-5
     returns-5
-    enum-told-6
+    enum-told-5
     returns-6
-    returns-7)
+    enum-told-6
+    returns-7
+    returns-8)

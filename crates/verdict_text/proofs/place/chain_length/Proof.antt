@@ -4,8 +4,8 @@ use borrow.Author.Needs.{needs}
 use Rattle.verdict_text.proofs.place.chain_length.Statement.{statement}
 use Rattle.verdict_text.proofs.place.chain_length.Tie as tie
 
-is-there-requires : tie.Need-is-there-requires
-is-there-requires c κs = search needs
+has-head-requires : tie.Need-has-head-requires
+has-head-requires c κs = search needs
 
 returns : tie.Need-returns
 returns c = search needs
@@ -17,7 +17,7 @@ enum-told : tie.Need-enum-told
 enum-told c = search needs
 
 record-length-requires : tie.Need-record-length-requires
-record-length-requires c κs = c .before .before .before .before .is-there .ensures (not-false _ (c .before .before .before .if1 .left))
+record-length-requires c κs = c .before .before .before .before .has-head .ensures (not-false _ (c .before .before .before .if1 .left))
 
 returns-2 : tie.Need-returns-2
 returns-2 c = search needs
@@ -29,7 +29,7 @@ pub chain-length-spec : {M : Type 1} → statement M
 chain-length-spec =
     tie.close
     (tie.spec
-    is-there-requires
+    has-head-requires
     returns
     record-at-requires
     enum-told

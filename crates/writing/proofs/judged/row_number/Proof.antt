@@ -52,6 +52,9 @@ returns-5 c =
       c .if5 .taken,
     )
 
+gap-of-requires : tie.Need-gap-of-requires
+gap-of-requires c κs = search needs
+
 returns-6 : tie.Need-returns-6
 unfolding rowNumber identityNumber timesNumber countsNumber byNumber _when_else_
 returns-6 c =
@@ -63,6 +66,7 @@ returns-6 c =
       le-ltb _ _ (c .before .before .before .before .if4 .left),
       ← c .before .before .before .outside .ensures,
       c .before .before .if5 .left,
+      ← c .before .gap-of .ensures,
       lt-ltb _ _ (c .if6 .taken),
     )
 
@@ -78,6 +82,7 @@ returns-7 c =
       le-ltb _ _ (c .before .before .before .before .before .before .if4 .left),
       ← c .before .before .before .before .before .outside .ensures,
       c .before .before .before .before .if5 .left,
+      ← c .before .before .before .gap-of .ensures,
       le-ltb _ _ (c .before .before .if6 .left),
       outside-yes maxDistances (r .listed) (⊎-elim (λ w. inl (w .taken)) (λ w. inr (w .2 .taken)) (c .if7 .came)),
     )
@@ -94,6 +99,7 @@ returns-8 c =
       le-ltb _ _ (c .before .before .before .before .before .before .before .before .before .before .if4 .left),
       ← c .before .before .before .before .before .before .before .before .before .outside .ensures,
       c .before .before .before .before .before .before .before .before .if5 .left,
+      ← c .before .before .before .before .before .before .before .gap-of .ensures,
       le-ltb _ _ (c .before .before .before .before .before .before .if6 .left),
       outside-no maxDistances (r .listed) (c .before .before .before .before .if7 .left) (c .before .before .if8 .left),
       outside-yes maxTasks (r .tasks) (⊎-elim (λ w. inl (w .taken)) (λ w. inr (w .2 .taken)) (c .if9 .came)),
@@ -116,6 +122,7 @@ returns-9 c =
       le-ltb _ _ (c .before .before .before .before .before .before .before .before .before .before .before .before .before .before .before .if4 .left),
       ← c .before .before .before .before .before .before .before .before .before .before .before .before .before .before .outside .ensures,
       c .before .before .before .before .before .before .before .before .before .before .before .before .before .if5 .left,
+      ← c .before .before .before .before .before .before .before .before .before .before .before .before .gap-of .ensures,
       le-ltb _ _ (c .before .before .before .before .before .before .before .before .before .before .before .if6 .left),
       outside-no maxDistances (r .listed) (c .before .before .before .before .before .before .before .before .before .if7 .left) (c .before .before .before .before .before .before .before .if8 .left),
       outside-no maxTasks (r .tasks) (c .before .before .before .before .before .if9 .left) (c .before .before .before .if10 .left),
@@ -141,6 +148,7 @@ returns-10 c =
       le-ltb _ _ (c .before .before .before .before .before .before .before .before .before .before .before .before .before .before .before .before .if4 .left),
       ← c .before .before .before .before .before .before .before .before .before .before .before .before .before .before .before .outside .ensures,
       c .before .before .before .before .before .before .before .before .before .before .before .before .before .before .if5 .left,
+      ← c .before .before .before .before .before .before .before .before .before .before .before .before .before .gap-of .ensures,
       le-ltb _ _ (c .before .before .before .before .before .before .before .before .before .before .before .before .if6 .left),
       outside-no maxDistances (r .listed) (c .before .before .before .before .before .before .before .before .before .before .if7 .left) (c .before .before .before .before .before .before .before .before .if8 .left),
       outside-no maxTasks (r .tasks) (c .before .before .before .before .before .before .if9 .left) (c .before .before .before .before .if10 .left),
@@ -159,6 +167,7 @@ row-number-spec =
     returns-4
     outside-requires
     returns-5
+    gap-of-requires
     returns-6
     returns-7
     returns-8

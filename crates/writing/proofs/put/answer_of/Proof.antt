@@ -1,5 +1,4 @@
 -- The rules' number, then 24, is the first number; without one the length is answered.
-use Prim.Native.Nat.{ℕ}
 use mathlib.Core.Path.{_≡_, ap, ap₂, sym, _∙_}
 use lib.Dec.{ltb}
 use Rattle.search.specs.Choice.{_when_else_}

@@ -1,0 +1,9 @@
+pub mod Walks
+pub mod Multiples
+pub mod Gaps
+pub mod Lengths
+pub mod Goods
+pub mod Typed
+pub mod Accepted
+pub mod Puts
+pub mod Results

@@ -1,0 +1,32 @@
+// A table in the other form (document 02, request 7): each chain is read as a row, converted, and put as a record of that form. All is
+// judged before the first byte is put.
+ghost use Rattle.converting.specs.Convert.{Converts};
+ghost use Rattle.converting.specs.declared.To.the-variants.{Largest, Gap};
+
+mod forms;
+mod put;
+mod shape;
+
+use put::convert;
+pub use shape::has_gap;
+use writing::Written;
+
+// The form asked.
+pub enum To {
+    Largest,
+    Gap,
+}
+
+// The table with largest distances becomes the first bytes of `out`; refused, every byte stays.
+pub fn to_largest(s: &[u8], out: &mut [u8]) -> Written
+    ensures { λ r. ⌜ Converts Largest (now (s .entry)) (now (out .entry)) r (now (out .exit)) ⌝ }
+{
+    convert(s, out, To::Largest)
+}
+
+// The table with gaps becomes the first bytes of `out`; refused, every byte stays.
+pub fn to_gap(s: &[u8], out: &mut [u8]) -> Written
+    ensures { λ r. ⌜ Converts Gap (now (s .entry)) (now (out .entry)) r (now (out .exit)) ⌝ }
+{
+    convert(s, out, To::Gap)
+}

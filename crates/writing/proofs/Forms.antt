@@ -1,0 +1,122 @@
+-- What the form of a row decides: its mark, the gap or the flag, the largest distances, how long its record and its table are. Assumes
+-- nothing.
+use Prim.Native.Nat.{ℕ, _+_, _*_, _<_, _≤_}
+use native.Mathlib.Omega.{arith}
+use mathlib.Core.Path.{_≡_, refl, ap, sym, _∙_}
+use mathlib.Core.Bool.{Bool, true, false, _&&_}
+use mathlib.Core.Logic.{_⊎_, inl, inr, ⊎-elim}
+use borrow.Author.Tests.{eqb-true, eqb-false, eq-eqb, ne-eqb}
+use lib.Dec.{eqb}
+use lib.ListN.{length}
+use Rattle.search.specs.Choice.{_when_else_}
+use Rattle.search.proofs.Choice.{when-yes, when-no, when-cases}
+use Rattle.table.specs.Limits.{maxDistances, maxBytes, maxGapBytes}
+use Rattle.table.specs.Bytes.{bytesOf, Bytes}
+use Rattle.table.specs.Record.{gapForm, largestForm, gapWidth, known, recordLength}
+use Rattle.table.specs.Fault.{markOf}
+use Rattle.table.specs.Read.{limitOf}
+use Rattle.table.specs.declared.Mark.the-variants.{Chain}
+use Rattle.table.proofs.Firsts.{or-left, or-right, or-cases}
+use Rattle.table.proofs.Forms.{wide}
+use Rattle.table.proofs.Marks.{chain-form}
+use Rattle.table.proofs.Widths.{known-most}
+use Rattle.table.proofs.Words.{length-bytes, bytes-of}
+use Rattle.writing.specs.Rows.{isForm, formMark, gapOf, flagOf, gapBytes}
+
+-- a test holds, or it does not
+pub true-or-false : (b : Bool) → (b ≡ true) ⊎ (b ≡ false)
+true-or-false true = inl refl
+true-or-false false = inr refl
+
+-- `CG`, or another form
+pub form-or : (form : ℕ) → (form ≡ largestForm) ⊎ (form ≡ largestForm → ⊥)
+form-or form = ⊎-elim (λ e. inl (eqb-true form largestForm e)) (λ e. inr (eqb-false form largestForm e)) (true-or-false (eqb form largestForm))
+
+-- The mark
+
+module _ (form : ℕ) where
+  pub mark-own : isForm form ≡ true → formMark form ≡ form
+  unfolding formMark
+  mark-own e = when-yes form 0 e
+
+  pub mark-none : isForm form ≡ false → formMark form ≡ 0
+  unfolding formMark
+  mark-none e = when-no form 0 e
+
+  pub mark-small : formMark form < 65536
+  unfolding formMark
+  mark-small = when-cases (λ n. n < 65536) (isForm form)
+      (λ e. ⊎-elim (λ f. omega (arith, eqb-true form gapForm f)) (λ f. omega (arith, eqb-true form largestForm f)) (or-cases (eqb form gapForm) (eqb form largestForm) e))
+      (λ e. omega arith)
+
+  -- it is a chain's
+  pub form-chain : isForm form ≡ true → markOf form ≡ Chain
+  unfolding markOf _when_else_
+  form-chain e = rw e
+
+  pub chain-is : markOf form ≡ Chain → isForm form ≡ true
+  chain-is e = ⊎-elim (λ f. or-left (eqb form gapForm) _ (eq-eqb form gapForm f)) (λ f. or-right (eqb form gapForm) _ (eq-eqb form largestForm f)) (chain-form form e)
+
+-- The gap or the flag
+
+module _ (form : ℕ) where
+  pub narrow : form ≡ largestForm → gapWidth form ≡ 1
+  unfolding gapWidth
+  narrow e = when-yes 1 4 (eq-eqb form largestForm e)
+
+  module _ (flag gap : ℕ) where
+    pub flag-bytes : form ≡ largestForm → gapBytes form flag gap ≡ bytesOf 1 flag
+    unfolding gapBytes
+    flag-bytes e = when-yes _ _ (eq-eqb form largestForm e)
+
+    pub gap-bytes : (form ≡ largestForm → ⊥) → gapBytes form flag gap ≡ bytesOf 4 gap
+    unfolding gapBytes
+    gap-bytes h = when-no _ _ (ne-eqb form largestForm h)
+
+    pub gap-length : length (gapBytes form flag gap) ≡ gapWidth form
+    gap-length = ⊎-elim
+        (λ e. ap length (flag-bytes e) ∙ length-bytes 1 flag ∙ sym (narrow e))
+        (λ h. ap length (gap-bytes h) ∙ length-bytes 4 gap ∙ sym (wide form h))
+        (form-or form)
+
+    pub are-bytes : Bytes (gapBytes form flag gap)
+    unfolding gapBytes
+    are-bytes = when-cases Bytes (eqb form largestForm) (λ e. bytes-of 1 flag) (λ e. bytes-of 4 gap)
+
+  -- what the form lacks has no byte
+  pub lacks-none : (flag gap : ℕ) → gapBytes form (flagOf form flag) (gapOf form gap) ≡ gapBytes form flag gap
+  unfolding gapBytes flagOf gapOf _when_else_
+  lacks-none flag gap = by (eqb form largestForm)
+    where
+      by : (b : Bool) → (bytesOf 1 (flag when b else 0) when b else bytesOf 4 (0 when b else gap)) ≡ (bytesOf 1 flag when b else bytesOf 4 gap)
+      by true = refl
+      by false = refl
+
+  -- The largest distances
+
+  pub known-lacks : (flag listed : ℕ) → (form ≡ largestForm → ⊥) → known form flag listed ≡ 0
+  unfolding known _when_else_
+  known-lacks flag listed h = rw (ne-eqb form largestForm h)
+
+  pub known-flag : (flag listed : ℕ) → known form (flagOf form flag) listed ≡ known form flag listed
+  unfolding known flagOf _when_else_
+  known-flag flag listed = by (eqb form largestForm)
+    where
+      by : (b : Bool) → (listed when b && eqb (flag when b else 0) 1 else 0) ≡ (listed when b && eqb flag 1 else 0)
+      by true = refl
+      by false = refl
+
+  -- How long the record is
+
+  module _ (flag listed tasks : ℕ) (few : listed ≤ maxDistances) where
+    pub gap-record : (form ≡ largestForm → ⊥) → recordLength form flag listed tasks ≤ 48 + 8 * tasks
+    gap-record h = omega (arith, wide form h, known-lacks flag listed h)
+
+    pub any-record : recordLength form flag listed tasks ≤ 77 + 8 * tasks
+    any-record = ⊎-elim (λ e. omega (arith, narrow e, known-most form flag listed)) (λ h. omega (arith, gap-record h)) (form-or form)
+
+-- How long a table may be
+
+pub limit-largest : (mark : ℕ) → mark ≡ largestForm → limitOf mark ≡ maxBytes
+unfolding limitOf
+limit-largest mark e = when-yes maxBytes maxGapBytes (eq-eqb mark largestForm e)
