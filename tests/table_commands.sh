@@ -185,7 +185,7 @@ cut "after 138 bytes, in the end record" 138
 whole=examples/sample.table
 broke "3 at byte 0: $no_mark (record 1, mark)" 0 84 75
 broke "3 at byte 36: $no_mark (record 2, mark)" 36 88 88
-broke "3 at byte 36: $no_mark (record 2, mark)" 36 67 71
+broke "3 at byte 36: $no_mark (chain record 2, mark)" 36 67 71
 broke "3 at byte 92: $no_mark (chain record 3, task 2, mark)" 92 88
 broke "4 at byte 66: an id is 0 or used earlier (chain record 3, id)" 66 0
 broke "4 at byte 110: an id is 0 or used earlier (chain record 4, id)" 110 2
@@ -219,7 +219,7 @@ whole=examples/bursts.table
 prints check "largest distances" "accepted, 2 chains" <"$whole"
 prints check "12 bytes of CG" "refused 2 at byte 12: $cut_short (after 12 bytes, in chain record 1)" < <(head -c 12 "$whole")
 prints check "28 bytes of CG" "refused 2 at byte 28: $cut_short (after 28 bytes, in chain record 1)" < <(head -c 28 "$whole")
-broke "3 at byte 45: $no_mark (record 2, mark)" 45 67 72
+broke "3 at byte 45: $no_mark (chain record 2, mark)" 45 67 72
 broke "33 at byte 10: $bad_largest (chain record 1, flag)" 10 2
 broke "33 at byte 55: $bad_largest (chain record 2, flag)" 55 255
 broke "28 at byte 11: a list length is not 1 to 8 (chain record 1, list length)" 11 9
@@ -241,7 +241,7 @@ prints check "16 chains and an end cut off" "refused 2 at byte 450: $cut_short (
 prints check "16 chains and no mark" "refused 3 at byte 448: $no_mark (record 17, mark)" \
     < <(seventeen | head -c 448 && bytes 88 88)
 prints check "a 17th chain" "refused 11 at byte 448: $ended (chain record 17, mark)" < <(seventeen)
-prints check "a 17th of the other form" "refused 3 at byte 448: $no_mark (record 17, mark)" \
+prints check "a 17th of the other form" "refused 3 at byte 448: $no_mark (chain record 17, mark)" \
     < <(seventeen | head -c 448 && bytes 67 71 17 0)
 
 # ---- The misses ----

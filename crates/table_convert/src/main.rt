@@ -100,7 +100,7 @@ fn put_no_form(s: &[u8], to: To) -> bool
     what && put(STDERR_FILENO, b" (") && put_reason(s, to) && put(STDERR_FILENO, b")")
 }
 
-// Why there is no result. Every result has room, so an accepted table has not the form asked.
+// Why there is no result. Every result has room, so an accepted table is refused with 34 alone.
 fn put_why(s: &[u8], to: To) -> bool {
     match table::judge(s) {
         Verdict::Accepted => put_no_form(s, to),
