@@ -16,25 +16,25 @@ use Rattle.table.specs.Limits.{maxLargest, maxRun}
 use Rattle.arrivals.specs.Arrivals.{asListed, δ, largest, unknown}
 use Rattle.arrivals.proofs.Lists.{Rising, δ-after}
 use Rattle.arrivals.proofs.Distances.{δ-rises, δ-bounded}
-use Rattle.table.specs.Record.{listedAt, rowAt, distances, largests}
+use Rattle.table.specs.Bytes.{word}
+use Rattle.table.specs.Record.{listedAt, rowAt, largests}
 use Rattle.table.specs.code.Good.{GoodRow}
+use Rattle.table.specs.code.Listed.{listedFrom, distancesFrom, Lists}
 use Rattle.table.specs.code.Taken.{Stands}
 use Rattle.table.specs.declared.Row.{Row}
+use Rattle.table.proofs.Lists.{length-spaced}
 use Rattle.table.proofs.Largests.{largests-long}
 
--- places past the listed are 0 in the row too
-pub distances-at : {r : Row} → GoodRow r → (j : ℕ) → getD (distances r) j 0 ≡ getD (r .list) j 0
-distances-at {r} good j =
-    ⊎-elim (getD-take (r .listed) (r .list) j 0)
-    (λ h. List·getD-eq-default (distances r) 0 (rw (good .listed) h) ∙ sym (good .list-past j h)) (lt-or-le j (r .listed))
+-- a list where it stands has as many distances as it says, and one at least; so has a record's
+pub lists-length : {s : List ℕ} {list : ℕ} → Lists s list → length (distancesFrom s list) ≡ listedFrom s list
+lists-length {s} {list} here = length-spaced (word 4 s) 4 (listedFrom s list) list
 
-pub stands-length : {s : List ℕ} {at : ℕ} → Stands s at → length (distances (rowAt s at)) ≡ listedAt s at
-unfolding rowAt
-stands-length there = there .good .listed
+pub lists-some : {s : List ℕ} {list : ℕ} → Lists s list → 0 < listedFrom s list
+lists-some here = omega (arith, lists-length here, here .good .some)
 
--- it lists one distance at least
 pub stands-some : {s : List ℕ} {at : ℕ} → Stands s at → 0 < listedAt s at
-stands-some there = omega (arith, stands-length there, there .good .list .some)
+unfolding rowAt
+stands-some here = omega (arith, here .good .listed, here .good .list .some)
 
 -- its largest distances rise, where it has any
 pub largests-rising : {r : Row} → GoodRow r → r .flag ≡ 1 → Rising maxLargest (largests r)

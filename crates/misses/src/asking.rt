@@ -15,6 +15,7 @@ use table::Verdict;
 use table::count;
 use table::find;
 use table::judge;
+use table::list_place;
 use table::overload_at;
 use table::place;
 use table::record_length;
@@ -67,7 +68,7 @@ fn again(s: &[u8], a: usize, t: u64) -> bool
     if overload_at(s, a) == 0 {
         return false;
     }
-    1 < eta_up_to(s, a, t, 2)
+    1 < eta_up_to(s, list_place(s, a), t, 2)
 }
 
 // Whether any chain of a table is one.

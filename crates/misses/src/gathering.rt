@@ -6,6 +6,7 @@ use segments::floor_of;
 use segments::tail_of;
 use table::Table;
 use table::count;
+use table::list_place;
 use table::overload_at;
 use table::record_length;
 use table::u64_from_u32;
@@ -29,7 +30,7 @@ fn capacity(s: &[u8], a: usize, t: u64) -> u8
     requires { ⌜ Stands (now s) a × (t ≤ longestSpan) ⌝ }
     ensures { λ r. ⌜ r ≡ min (maxCapacity + 1) (η (distances (rowAt (now (s .entry)) a)) t + 1) ⌝ }
 {
-    (eta_up_to(s, a, t, Table::CAPACITY) + 1) as u8
+    (eta_up_to(s, list_place(s, a), t, Table::CAPACITY) + 1) as u8
 }
 
 impl Pieces {

@@ -1,5 +1,5 @@
 -- Laws of the two forms of a chain record, in the code's shape. Assumes nothing.
-use Prim.Native.Nat.{ℕ, max, _+_, _<_}
+use Prim.Native.Nat.{ℕ, max, _+_, _*_, _-_, _<_, _≤_}
 use native.Mathlib.Omega.{arith}
 use mathlib.Core.Path.{_≡_, refl}
 use mathlib.Core.List.{List, [], _∷_}
@@ -7,19 +7,36 @@ use mathlib.Core.Bool.{Bool, true, false, _&&_}
 use mathlib.Core.Logic.{_⊎_, inl, inr, ⊎-elim}
 use lib.ListN.{length, getD, List·getD-eq-default}
 use lib.Dec.{eqb}
-use borrow.Author.Tests.{eq-eqb, ne-eqb}
+use borrow.Author.Tests.{eq-eqb, ne-eqb, le-ltb}
 use Rattle.search.specs.Choice.{_when_else_}
 use Rattle.search.proofs.Choice.{when-cases}
 use Rattle.table.specs.Limits.{maxLargest}
 use Rattle.table.specs.Bytes.{word, Bytes}
-use Rattle.table.specs.Record.{largestForm, formAt, flagAt, gapPlace, gapWidth, known, listedAt, knownAt, spaced}
-use Rattle.table.specs.Fault.{outside, shortFault}
+use Rattle.table.specs.Record.{largestForm, formAt, flagAt, gapPlace, gapWidth, known, listedPlace, listedAt, tasksPlace, listPlace, knownAt, largestPlace, spaced}
+use Rattle.table.specs.Fault.{outside, shortFault, largestFault}
 use Rattle.table.specs.declared.Verdict.the-variants.{Accepted, Refused}
 
--- the form with a gap has four bytes for it
+-- the form with a gap has four bytes for it, the other one for its flag
 pub wide : (form : ℕ) → (form ≡ largestForm → ⊥) → gapWidth form ≡ 4
 unfolding gapWidth _when_else_
 wide form h = rw (ne-eqb _ _ h)
+
+pub narrow : (form : ℕ) → form ≡ largestForm → gapWidth form ≡ 1
+unfolding gapWidth _when_else_
+narrow form e = rw (eq-eqb _ _ e)
+
+-- and no largest distances
+pub known-lacks : (form flag listed : ℕ) → (form ≡ largestForm → ⊥) → known form flag listed ≡ 0
+unfolding known _when_else_
+known-lacks form flag listed h = rw (ne-eqb _ _ h)
+
+-- the two counts stand before the list
+module _ (s : List ℕ) (list at : ℕ) (e : list ≡ listPlace s at) where
+  pub listed-before : list - 2 ≡ listedPlace s at
+  listed-before = omega (arith, e)
+
+  pub tasks-before : list - 1 ≡ tasksPlace s at
+  tasks-before = omega (arith, e)
 
 -- fewer than two bytes are no mark of a chain
 pub no-mark : (s : List ℕ) → Bytes s → length s < 2 → word 2 s 0 < 256
@@ -45,6 +62,17 @@ module _ (s : List ℕ) (at : ℕ) where
   pub known-no : (flagAt s at ≡ 1 → ⊥) → knownAt s at ≡ 0
   unfolding known flagAt
   known-no = flag-no (eqb (formAt s at) largestForm) (getD s (gapPlace at) 0) (listedAt s at)
+
+-- the form with a gap has no fault of largest distances
+flag-none : (s : List ℕ) (at : ℕ) → (formAt s at ≡ largestForm → ⊥) → flagAt s at ≡ 0
+unfolding flagAt _when_else_
+flag-none s at h = rw (ne-eqb _ _ h)
+
+pub largest-none : (s : List ℕ) (at : ℕ) → (formAt s at ≡ largestForm → ⊥) → largestPlace s at ≤ length s → largestFault s at ≡ Accepted
+unfolding largestFault shortFault spaced _when_else_
+largest-none s at h room =
+    let fits : largestPlace s at + 4 * 0 ≤ length s = omega (arith, room) in
+    rw (known-lacks (formAt s at) (flagAt s at) (listedAt s at) h, flag-none s at h, le-ltb _ _ fits)
 
 -- as many as smallest, or none
 pub known-cases : (form flag listed : ℕ) → (known form flag listed ≡ listed) ⊎ (known form flag listed ≡ 0)

@@ -6,15 +6,17 @@ use mathlib.Core.List.{List}
 use lib.ListN.{getD}
 use Rattle.table.specs.Limits.{maxDistances, maxTasks}
 use Rattle.table.specs.Bytes.{word}
-use Rattle.table.specs.Record.{listedAt, tasksAt, listPlace, knownAt, largestPlace, firstTask, lengthAt, priorityAt, costAt, distancesAt, largestsAt, prioritiesAt, costsAt, rowAt}
+use Rattle.table.specs.Record.{listedAt, tasksAt, listPlace, knownAt, largestPlace, firstTask, lengthAt, priorityAt, costAt, distancesAt, largestsAt, prioritiesAt, costsAt, spaced, rowAt, distances}
 use Rattle.table.specs.Find.{rowOf}
 use Rattle.table.specs.Place.{lengthOf, tasksStart, placeOf}
 use Rattle.table.specs.declared.Row.{Row}
-use Rattle.table.specs.code.Good.{GoodRow}
+use Rattle.table.specs.code.Good.{GoodDistances, GoodRow}
+use Rattle.table.specs.code.Listed.{listedFrom, distancesFrom, Lists}
 use Rattle.table.specs.code.Taken.{Taken, Stands}
 use Rattle.table.specs.Read.{tableOf}
 use Rattle.table.proofs.Lists.{spaced-at}
-use Rattle.table.proofs.Goods.{pad-at}
+use Rattle.table.proofs.Forms.{listed-before}
+use Rattle.table.proofs.Goods.{pad-at, distances-read}
 use Rattle.table.proofs.Standing.{place-on}
 
 -- the numbers listed, by their offsets
@@ -44,6 +46,22 @@ module _ (s : List ℕ) (at : ℕ) where
   pub length-at : lengthAt s at ≡ lengthOf (rowAt s at)
   unfolding rowAt
   length-at = refl
+
+-- its list, read from where it starts
+module _ (s : List ℕ) (at : ℕ) {list : ℕ} (e : list ≡ listPlace s at) where
+  listed-from : listedFrom s list ≡ listedAt s at
+  listed-from = ap (λ i. getD s i 0) (listed-before s list at e)
+
+  pub distances-from : distances (rowAt s at) ≡ distancesFrom s list
+  distances-from = distances-read s at ∙ ap₂ (spaced (word 4 s) 4) (sym listed-from) (sym e)
+
+  pub lists : Stands s at → Lists s list
+  lists here =
+      record {
+        after = omega (arith, e);
+        there = omega (arith, here .there, listed-from, e);
+        good = subst GoodDistances distances-from (here .good .list);
+      }
 
 -- a chain of an accepted table, at its place
 module _ {s : List ℕ} (t : Taken s) {chain at : ℕ} (e : at ≡ placeOf (tableOf s) chain) (h : chain < tableOf s .count) where

@@ -1,3 +1,4 @@
 pub mod Before
 pub mod Good
+pub mod Listed
 pub mod Taken

@@ -3,6 +3,7 @@ use crate::Mark;
 use crate::Table;
 use crate::Verdict;
 use crate::before::Before;
+use crate::bytes::count_at;
 use crate::bytes::u16_at;
 use crate::bytes::u32_at;
 use crate::record::deadline_at;
@@ -10,26 +11,23 @@ use crate::record::first_task;
 use crate::record::flag_at;
 use crate::record::form_at;
 use crate::record::gap_at;
+use crate::record::has_flag;
 use crate::record::head_length;
 use crate::record::id_at;
 use crate::record::kind_at;
 use crate::record::known_at;
-use crate::record::largest_place;
-use crate::record::list_place;
-use crate::record::listed_at;
-use crate::record::listed_place;
+use crate::record::listed_from;
 use crate::record::overload_at;
-use crate::record::tasks_at;
 use crate::wide::u32_from_u8;
 ghost use mathlib.Core.Path.{_≡_};
 ghost use mathlib.Core.Bool.{_||_};
-ghost use Prim.Native.Nat.{max, _+_, _*_, _≤_, _<_};
+ghost use Prim.Native.Nat.{ℕ, max, _+_, _*_, _≤_, _<_};
 ghost use lib.ListN.{length, getD};
 ghost use lib.Dec.{eqb, ltb};
 ghost use Rattle.search.specs.Find.{first};
 ghost use Rattle.table.specs.Limits.{maxChains, maxTasks, maxAllTasks, maxDistances};
 ghost use Rattle.table.specs.Bytes.{word};
-ghost use Rattle.table.specs.Record.{formAt, headLength, listedAt, largestPlace, spaced};
+ghost use Rattle.table.specs.Record.{formAt, headLength, gapAt, listedAt, listPlace, largestPlace, spaced};
 ghost use Rattle.table.specs.Find.{used};
 ghost use Rattle.table.specs.Fault.{outside as outsideOf, markOf, identityFault, timesFault, countsFault, headFault, fallFault, lastFault, gapShort, gapFault, distancesFault, listFault, shortFault, largestFault, taskMarkFault, valuesFault, taskFault, tasksFault, chainFault, endFault};
 ghost use Rattle.table.specs.code.Before.{Keeps};
@@ -96,14 +94,14 @@ fn identity_fault(s: &[u8], at: usize, ids: &[u16; Table::CHAINS], before: Befor
 }
 
 // 6 or 7: its deadline and its gap.
-fn times_fault(s: &[u8], at: usize) -> Verdict
-    requires { ⌜ at + headLength (formAt (now s) at) ≤ length (now s) ⌝ }
+fn times_fault(s: &[u8], at: usize, gap: u32) -> Verdict
+    requires { ⌜ (at + headLength (formAt (now s) at) ≤ length (now s)) × (gap ≡ gapAt (now s) at) ⌝ }
     ensures { λ r. ⌜ r ≡ timesFault (now (s .entry)) at ⌝ }
 {
     if outside(1, Table::DEADLINE, deadline_at(s, at)) {
         return Verdict::Refused(6, at + 6);
     }
-    if Table::GAP < gap_at(s, at) {
+    if Table::GAP < gap {
         return Verdict::Refused(7, at + 10);
     }
     Verdict::Accepted
@@ -117,35 +115,38 @@ fn tasks_wrong(tasks: u8, before: usize) -> bool
     outside(1, Table::TASKS as u32, tasks as u32) || Table::ALL_TASKS < before + tasks as usize
 }
 
-// 28 or 9: its list length, and its task count after `before` tasks.
-fn counts_fault(s: &[u8], at: usize, before: usize) -> Verdict
-    requires { ⌜ (at + headLength (formAt (now s) at) ≤ length (now s)) × (before ≤ maxAllTasks) ⌝ }
-    ensures { λ r. ⌜ r ≡ countsFault (now (s .entry)) at before ⌝ }
+// 28 or 9: the list length and the task count of a record, after `before` tasks; they stand before its list.
+fn counts_fault(s: &[u8], list: usize, before: usize) -> Verdict
+    requires { ⌜ (2 ≤ list) × (list ≤ length (now s)) × (before ≤ maxAllTasks) ⌝ }
+    ensures { λ r. ⌜ ((at : ℕ) → list ≡ listPlace (now (s .entry)) at → r ≡ countsFault (now (s .entry)) at before) ⌝ }
 {
-    let place = listed_place(s, at);
-    if outside(1, Table::DISTANCES as u32, u32_from_u8(s[place])) {
-        return Verdict::Refused(28, place);
+    if outside(1, Table::DISTANCES as u32, u32_from_u8(s[list - 2])) {
+        return Verdict::Refused(28, list - 2);
     }
-    if tasks_wrong(s[place + 1], before) {
-        return Verdict::Refused(9, place + 1);
+    if tasks_wrong(s[list - 1], before) {
+        return Verdict::Refused(9, list - 1);
     }
     Verdict::Accepted
 }
 
-// 2, 4 to 7, 28 or 9: the fixed part of the chain record at `at`.
-fn head_fault(s: &[u8], at: usize, ids: &[u16; Table::CHAINS], before: Before) -> Verdict
-    requires { ⌜ (at + 2 ≤ length (now s)) × (before .count ≤ maxChains) × (before .tasks ≤ maxAllTasks) ⌝ }
+// 4 to 7, 28 or 9: the fixed part of the chain record at `at`, all of which is there; its list would start at `list`.
+fn head_fault(
+    s: &[u8],
+    at: usize,
+    list: usize,
+    gap: u32,
+    ids: &[u16; Table::CHAINS],
+    before: Before,
+) -> Verdict
+    requires { ⌜ (list ≤ length (now s)) × (list ≡ listPlace (now s) at) × (gap ≡ gapAt (now s) at) × (before .count ≤ maxChains) × (before .tasks ≤ maxAllTasks) ⌝ }
     ensures { λ r. ⌜ ((t : Table) → Keeps (now (ids .entry)) before t → r ≡ headFault (now (s .entry)) at t) ⌝ }
 {
-    if s.len() < at + head_length(form_at(s, at)) {
-        return Verdict::Refused(2, s.len());
-    }
     let identity = identity_fault(s, at, ids, before);
     match identity {
         Verdict::Accepted => {
-            let times = times_fault(s, at);
+            let times = times_fault(s, at, gap);
             match times {
-                Verdict::Accepted => counts_fault(s, at, before.tasks),
+                Verdict::Accepted => counts_fault(s, list, before.tasks),
                 Verdict::Refused(_, _) => times,
             }
         }
@@ -231,16 +232,15 @@ fn distances_fault(s: &[u8], at: usize, n: usize, gap: u32, place: usize) -> Ver
 }
 
 // 2, 29, 30 or 31: the list of the chain record at `at`, its fixed part without a fault.
-fn list_fault(s: &[u8], at: usize) -> Verdict
-    requires { ⌜ (at + headLength (formAt (now s) at) ≤ length (now s)) × (1 ≤ listedAt (now s) at) × (listedAt (now s) at ≤ maxDistances) ⌝ }
+fn list_fault(s: &[u8], at: usize, list: usize, gap: u32) -> Verdict
+    requires { ⌜ (list ≤ length (now s)) × (list ≡ listPlace (now s) at) × (gap ≡ gapAt (now s) at) × (1 ≤ listedAt (now s) at) × (listedAt (now s) at ≤ maxDistances) ⌝ }
     ensures { λ r. ⌜ r ≡ listFault (now (s .entry)) at ⌝ }
 {
-    let n = listed_at(s, at);
-    let from = list_place(s, at);
-    if s.len() < from + 4 * n {
+    let n = listed_from(s, list);
+    if s.len() < list + 4 * n {
         return Verdict::Refused(2, s.len());
     }
-    distances_fault(s, from, n, gap_at(s, at), at + 10)
+    distances_fault(s, list, n, gap, at + 10)
 }
 
 // The larger of two numbers.
@@ -271,19 +271,22 @@ fn short_fault(s: &[u8], from: usize, at: usize, n: usize) -> Verdict
 }
 
 // 33 or 2: the flag of the chain record at `at`, then its largest distances; its smallest ones are there.
-fn largest_fault(s: &[u8], at: usize) -> Verdict
-    requires { ⌜ (largestPlace (now s) at ≤ length (now s)) × (listedAt (now s) at ≤ maxDistances) ⌝ }
+fn largest_fault(s: &[u8], at: usize, list: usize) -> Verdict
+    requires { ⌜ (largestPlace (now s) at ≤ length (now s)) × (list ≡ listPlace (now s) at) × (listedAt (now s) at ≤ maxDistances) ⌝ }
     ensures { λ r. ⌜ r ≡ largestFault (now (s .entry)) at ⌝ }
 {
+    if !has_flag(form_at(s, at)) {
+        return Verdict::Accepted;
+    }
     if 1 < flag_at(s, at) {
         return Verdict::Refused(33, at + 10);
     }
     let n = known_at(s, at);
-    let from = largest_place(s, at);
+    let from = list + 4 * listed_from(s, list);
     if s.len() < from + 4 * n {
         return Verdict::Refused(2, s.len());
     }
-    short_fault(s, list_place(s, at), from, n)
+    short_fault(s, list, from, n)
 }
 
 // 2 or 3: the mark of the task record at `at`.
@@ -378,19 +381,28 @@ pub fn chain_fault(s: &[u8], at: usize, ids: &[u16; Table::CHAINS], before: Befo
     requires { ⌜ (at + 2 ≤ length (now s)) × (before .count ≤ maxChains) × (before .tasks ≤ maxAllTasks) ⌝ }
     ensures { λ r. ⌜ ((t : Table) → Keeps (now (ids .entry)) before t → r ≡ chainFault (now (s .entry)) at t) ⌝ }
 {
-    let head = head_fault(s, at, ids, before);
+    let list = at + head_length(form_at(s, at));
+    if s.len() < list {
+        return Verdict::Refused(2, s.len());
+    }
+    let gap = gap_at(s, at);
+    let head = head_fault(s, at, list, gap, ids, before);
     match head {
         Verdict::Accepted => {
-            let list = list_fault(s, at);
-            match list {
+            let distances = list_fault(s, at, list, gap);
+            match distances {
                 Verdict::Accepted => {
-                    let largest = largest_fault(s, at);
+                    let largest = largest_fault(s, at, list);
                     match largest {
-                        Verdict::Accepted => tasks_fault(s, first_task(s, at), tasks_at(s, at)),
+                        Verdict::Accepted => tasks_fault(
+                            s,
+                            first_task(s, at),
+                            count_at(s, list - 1),
+                        ),
                         Verdict::Refused(_, _) => largest,
                     }
                 }
-                Verdict::Refused(_, _) => list,
+                Verdict::Refused(_, _) => distances,
             }
         }
         Verdict::Refused(_, _) => head,

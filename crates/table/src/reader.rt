@@ -10,8 +10,7 @@ use crate::fault::end_fault;
 use crate::fault::mark_of;
 use crate::record::form_at;
 use crate::record::id_at;
-use crate::record::record_length;
-use crate::record::tasks_at;
+use crate::record::tasks_part;
 ghost use mathlib.Core.Path.{_≡_};
 ghost use Rattle.table.specs.Bytes.{word};
 ghost use Rattle.table.specs.Read.{limitOf, readTable};
@@ -54,8 +53,9 @@ pub fn judge(s: &[u8]) -> Verdict
                         let count = before.count;
                         ids[count] = id_at(s, at);
                         before.count = count + 1;
-                        before.tasks = before.tasks + tasks_at(s, at);
-                        at = at + record_length(s, at);
+                        let tasks = tasks_part(s, at);
+                        before.tasks = before.tasks + tasks.count;
+                        at = at + (tasks.from + 8 * tasks.count);
                     }
                     Verdict::Refused(_, _) => {
                         return chain;

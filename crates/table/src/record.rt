@@ -1,4 +1,4 @@
-// A chain record's fields, read where they stand. Here alone the two forms are told apart.
+// A chain record's fields, read where they stand. What the two forms have at other places is told apart here.
 use crate::Row;
 use crate::bytes::count_at;
 use crate::bytes::u16_at;
@@ -9,6 +9,7 @@ ghost use Prim.Native.Nat.{_+_, _*_, _≤_, _<_};
 ghost use lib.ListN.{length, getD};
 ghost use lib.Dec.{eqb};
 ghost use Rattle.table.specs.Record.{largestForm, formAt, idAt, kindAt, overloadAt, deadlineAt, gapAt, flagAt, gapWidth, headLength, listedPlace, listedAt, tasksAt, listPlace, knownAt, largestPlace, firstTask, lengthAt, rowAt};
+ghost use Rattle.table.specs.code.Listed.{listedFrom, distancesFrom, Lists};
 ghost use Rattle.table.specs.code.Taken.{Stands};
 
 // The form of the chain record at `at`: its mark as a number.
@@ -30,7 +31,7 @@ pub fn has_flag(form: u16) -> bool
 fn gap_width(form: u16) -> usize
     ensures { λ r. ⌜ (r ≡ gapWidth form) × (r ≤ 4) ⌝ }
 {
-    if form == Row::LARGEST_FORM { 1 } else { 4 }
+    if has_flag(form) { 1 } else { 4 }
 }
 
 // How many bytes the fixed part of a record has.
@@ -73,7 +74,7 @@ pub fn gap_at(s: &[u8], at: usize) -> u32
     requires { ⌜ at + headLength (formAt (now s) at) ≤ length (now s) ⌝ }
     ensures { λ r. ⌜ r ≡ gapAt (now (s .entry)) at ⌝ }
 {
-    if form_at(s, at) == Row::LARGEST_FORM {
+    if has_flag(form_at(s, at)) {
         return 0;
     }
     u32_at(s, at + 10)
@@ -84,7 +85,7 @@ pub fn flag_at(s: &[u8], at: usize) -> u8
     requires { ⌜ at + headLength (formAt (now s) at) ≤ length (now s) ⌝ }
     ensures { λ r. ⌜ r ≡ flagAt (now (s .entry)) at ⌝ }
 {
-    if form_at(s, at) == Row::LARGEST_FORM {
+    if has_flag(form_at(s, at)) {
         return s[at + 10];
     }
     0
@@ -141,12 +142,36 @@ pub fn largest_place(s: &[u8], at: usize) -> usize
     list_place(s, at) + 4 * listed_at(s, at)
 }
 
+// Where its tasks start, from its first byte on, and how many they are. Each form's counts are read at their own places, so that a
+// processor that foresees the form need not wait for the mark.
+pub struct TasksPart {
+    pub from: usize,
+    pub count: usize,
+}
+
+pub fn tasks_part(s: &[u8], at: usize) -> TasksPart
+    requires { ⌜ at + headLength (formAt (now s) at) ≤ length (now s) ⌝ }
+    ensures { λ r. ⌜ (r .from ≡ headLength (formAt (now (s .entry)) at) + 4 * listedAt (now (s .entry)) at + 4 * knownAt (now (s .entry)) at) × (r .count ≡ tasksAt (now (s .entry)) at) × (r .from < 3000) × (r .count < 256) ⌝ }
+{
+    if has_flag(form_at(s, at)) {
+        return TasksPart {
+            from: 13 + 4 * count_at(s, at + 11) + 4 * known_at(s, at),
+            count: count_at(s, at + 12),
+        };
+    }
+    TasksPart {
+        from: 16 + 4 * count_at(s, at + 14),
+        count: count_at(s, at + 15),
+    }
+}
+
 // Where its tasks start, its distances being there.
 pub fn first_task(s: &[u8], at: usize) -> usize
     requires { ⌜ firstTask (now s) at ≤ length (now s) ⌝ }
     ensures { λ r. ⌜ r ≡ firstTask (now (s .entry)) at ⌝ }
 {
-    largest_place(s, at) + 4 * known_at(s, at)
+    let tasks = tasks_part(s, at);
+    at + tasks.from
 }
 
 // How long it is, by its count bytes as they stand.
@@ -154,18 +179,27 @@ pub fn record_length(s: &[u8], at: usize) -> usize
     requires { ⌜ at + headLength (formAt (now s) at) ≤ length (now s) ⌝ }
     ensures { λ r. ⌜ r ≡ lengthAt (now (s .entry)) at ⌝ }
 {
-    head_length(form_at(s, at)) + 4 * listed_at(s, at) + 4 * known_at(s, at) + 8 * tasks_at(s, at)
+    let tasks = tasks_part(s, at);
+    tasks.from + 8 * tasks.count
 }
 
-// The distance j of a record that stands.
-pub fn distance_at(s: &[u8], at: usize, j: usize) -> u32
-    requires { ⌜ Stands (now s) at × (j < listedAt (now s) at) ⌝ }
-    ensures { λ r. ⌜ r ≡ getD (rowAt (now (s .entry)) at .list) j 0 ⌝ }
+// How many distances the list that starts at `list` has; in either form that stands two bytes before it.
+pub fn listed_from(s: &[u8], list: usize) -> usize
+    requires { ⌜ (2 ≤ list) × (list ≤ length (now s)) ⌝ }
+    ensures { λ r. ⌜ (r ≡ listedFrom (now (s .entry)) list) × (r < 256) ⌝ }
 {
-    u32_at(s, list_place(s, at) + 4 * j)
+    count_at(s, list - 2)
 }
 
-// Its largest distance j.
+// Its distance j.
+pub fn distance_from(s: &[u8], list: usize, j: usize) -> u32
+    requires { ⌜ Lists (now s) list × (j < listedFrom (now s) list) ⌝ }
+    ensures { λ r. ⌜ r ≡ getD (distancesFrom (now (s .entry)) list) j 0 ⌝ }
+{
+    u32_at(s, list + 4 * j)
+}
+
+// The largest distance j of a record that stands.
 pub fn largest_at(s: &[u8], at: usize, j: usize) -> u32
     requires { ⌜ Stands (now s) at × (j < knownAt (now s) at) ⌝ }
     ensures { λ r. ⌜ r ≡ getD (rowAt (now (s .entry)) at .largest) j 0 ⌝ }

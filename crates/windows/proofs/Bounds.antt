@@ -37,7 +37,7 @@ module _ (s held : List ℕ) where
       omega (
         arith,
         held-le n t (held-fewer s held n h) l,
-        turns-le (h .stands n (le-refl (suc n)) .good .list) (η (heldAt s held n) t) (heldRate held n) t (le-refl _) (h .cheap n (le-refl (suc n))) l,
+        turns-le (h .lists n (le-refl (suc n)) .good) (η (heldAt s held n) t) (heldRate held n) t (le-refl _) (h .cheap n (le-refl (suc n))) l,
       )
 
 -- where the part is 0, it does not matter how many are counted

@@ -87,7 +87,7 @@ module _ (s held : List ℕ) where
   held-fewer n h = record {
     few = omega (arith, h .few);
     size = h .size;
-    stands = λ i l. h .stands i (omega arith);
+    lists = λ i l. h .lists i (omega arith);
     cheap = λ i l. h .cheap i (omega arith);
   }
 
@@ -95,7 +95,7 @@ module _ (s held : List ℕ) where
   unfolding heldOf
   held-mono zero t u h l = le-refl 0
   held-mono (suc n) t u h l =
-      omega (arith, held-mono n t u (held-fewer n h) l, mul-le-mul-right (heldRate held n) (η-mono (h .stands n (le-refl (suc n)) .good .list) t u l))
+      omega (arith, held-mono n t u (held-fewer n h) l, mul-le-mul-right (heldRate held n) (η-mono (h .lists n (le-refl (suc n)) .good) t u l))
 
 pub load-growing : (l : Load) → Sound l → Growing (demandIn l)
 unfolding demandIn

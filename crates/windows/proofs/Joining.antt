@@ -10,8 +10,9 @@ use lib.Seq.{getD-set-same, getD-set-other}
 use Rattle.search.specs.Lists.{sumOf}
 use Rattle.search.proofs.Lists.{sum-append}
 use Rattle.table.specs.Limits.{maxChains}
-use Rattle.table.specs.Record.{rowAt, distances}
+use Rattle.table.specs.Record.{rowAt}
 use Rattle.table.specs.declared.Row.{Row}
+use Rattle.table.specs.code.Listed.{distancesFrom, Lists}
 use Rattle.table.specs.code.Taken.{Stands}
 use Rattle.arrivals.specs.Arrivals.{η}
 use Rattle.segments.specs.Tasks.{chainCost}
@@ -39,7 +40,7 @@ alone-loads s at here held long = record {
     held = record {
       few = omega arith;
       size = long;
-      stands = λ i h. absurd (omega (arith, h));
+      lists = λ i h. absurd (omega (arith, h));
       cheap = λ i h. absurd (omega (arith, h));
     };
   };
@@ -82,7 +83,7 @@ once-joined l v x ok a z room = record {
       omega (arith, dearer-demand l (x .once) q t, one-term v t, a .term t, ap (λ r. η (v .list) t * r) z, mul-zero (η (v .list) t));
 }
 
--- a chain more whose η counts: its rate and the place of its record come after those of the n held so far
+-- a chain more whose η counts: its rate and where its list starts come after those of the n held so far
 abbrev pub heldWith : List ℕ → ℕ → ℕ → ℕ → List ℕ
 heldWith held n rate place = set (set held n rate) (maxChains + n) place
 
@@ -109,17 +110,17 @@ module _ (s held : List ℕ) (n rate place : ℕ) (before : Held s held n) (room
   held-same : (i t : ℕ) → i ≤ n → heldOf s more i t ≡ heldOf s held i t
   unfolding heldOf
   held-same zero t h = refl
-  held-same (suc i) t h = ap₂ _+_ (held-same i t (omega arith)) (ap₂ (λ p r. η (distances (rowAt s p)) t * r) (place-old i h) (rate-old i h))
+  held-same (suc i) t h = ap₂ _+_ (held-same i t (omega arith)) (ap₂ (λ p r. η (distancesFrom s p) t * r) (place-old i h) (rate-old i h))
 
-  held-more : (t : ℕ) → heldOf s more (n + 1) t ≡ heldOf s held n t + η (distances (rowAt s place)) t * rate
-  held-more t = held-on s more n t ∙ ap₂ _+_ (held-same n t (le-refl n)) (ap₂ (λ p r. η (distances (rowAt s p)) t * r) place-new rate-new)
+  held-more : (t : ℕ) → heldOf s more (n + 1) t ≡ heldOf s held n t + η (distancesFrom s place) t * rate
+  held-more t = held-on s more n t ∙ ap₂ _+_ (held-same n t (le-refl n)) (ap₂ (λ p r. η (distancesFrom s p) t * r) place-new rate-new)
 
-  held-room : Stands s place → rate ≤ dearest → Held s more (n + 1)
+  held-room : Lists s place → rate ≤ dearest → Held s more (n + 1)
   held-room there cheap = record {
     few = omega arith;
     size = length-set (set held n rate) (maxChains + n) place ∙ length-set held n rate ∙ before .size;
-    stands = below-more (λ i. Stands s (heldPlace more i)) n
-        (λ i h. subst (Stands s) (sym (place-old i h)) (before .stands i h)) (subst (Stands s) (sym place-new) there);
+    lists = below-more (λ i. Lists s (heldPlace more i)) n
+        (λ i h. subst (Lists s) (sym (place-old i h)) (before .lists i h)) (subst (Lists s) (sym place-new) there);
     cheap = below-more (λ i. heldRate more i ≤ dearest) n (λ i h. rw (rate-old i h) (before .cheap i h)) (rw rate-new cheap);
   }
 
@@ -137,7 +138,7 @@ joined l x place =
     }
 
 module _ (l : Load) (v : View) (x : Term) (place : ℕ) (ok : Sound l) (few : l .count < maxChains) (room : l .once + dearest ≤ onceLimit)
-    (adds : Adds v x) (same : v .list ≡ distances (rowAt (l .bytes) place)) (there : Stands (l .bytes) place) where
+    (adds : Adds v x) (same : v .list ≡ distancesFrom (l .bytes) place) (there : Lists (l .bytes) place) where
   joined-demand : (q t : ℕ) → demandIn (joined l x place) q t ≡ demandIn l q t + termOf v t
   unfolding demandIn
   joined-demand q t =

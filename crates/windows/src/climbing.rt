@@ -3,13 +3,13 @@ use crate::Own;
 use crate::Window;
 use arrivals::eta_from;
 use table::Table;
+use table::list_place;
 ghost use mathlib.Core.Path.{_≡_};
 ghost use Prim.Native.Nat.{_-_, _≤_};
 ghost use lib.Dec.{eqb};
 ghost use Rattle.search.specs.Choice.{_when_else_};
 ghost use Rattle.table.specs.Limits.{horizon};
-ghost use Rattle.table.specs.Record.{rowAt, distances};
-ghost use Rattle.table.specs.code.Taken.{Stands};
+ghost use Rattle.table.specs.code.Listed.{distancesFrom, Lists};
 ghost use Rattle.arrivals.specs.Arrivals.{η};
 ghost use Rattle.windows.specs.code.Load.{loadOf, heldOf, Held};
 ghost use Rattle.windows.specs.code.Climb.{Behind, CountsHeld, Climbs, Climbed};
@@ -21,15 +21,15 @@ pub fn past(a: u64, b: u64) -> u64
     if a < b { 0 } else { a - b }
 }
 
-// η(t) of the chain at `at`, which is no less than `before`; not counted where its first part counts nothing.
-fn own_count(s: &[u8], at: usize, part: u64, t: u64, before: u64) -> u64
-    requires { ⌜ Stands (now s) at × (t ≤ horizon) × (before ≤ η (distances (rowAt (now s) at)) t) ⌝ }
-    ensures { λ r. ⌜ r ≡ (before when eqb part 0 else η (distances (rowAt (now (s .entry)) at)) t) ⌝ }
+// η(t) by the chain's list, which is no less than `before`; not counted where its first part counts nothing.
+fn own_count(s: &[u8], list: usize, part: u64, t: u64, before: u64) -> u64
+    requires { ⌜ Lists (now s) list × (t ≤ horizon) × (before ≤ η (distancesFrom (now s) list) t) ⌝ }
+    ensures { λ r. ⌜ r ≡ (before when eqb part 0 else η (distancesFrom (now (s .entry)) list) t) ⌝ }
 {
     if part == 0 {
         return before;
     }
-    eta_from(s, at, t, before)
+    eta_from(s, list, t, before)
 }
 
 // What the n chains held add in t. Each one's arrivals are no fewer than those counted before.
@@ -67,10 +67,11 @@ pub fn climb(
     requires { ⌜ Climbs (loadOf (now s) own (now held)) q start (now counts) ⌝ }
     ensures { λ r. ⌜ Climbed (loadOf (now (s .entry)) own (now (held .entry))) q r (now (counts .exit)) ⌝ }
 {
+    let list = list_place(s, own.at);
     let fixed = q * own.cost + own.once;
     let mut t = start;
     while t <= Table::HORIZON {
-        let mine = own_count(s, own.at, own.part, t, counts[Table::CHAINS]);
+        let mine = own_count(s, list, own.part, t, counts[Table::CHAINS]);
         counts[Table::CHAINS] = mine;
         let more = past(mine, q) * own.part;
         let d = fixed + more + held_sum(s, held, own.count, t, counts);

@@ -67,7 +67,7 @@ pub struct Own {
 }
 
 impl Own {
-    // The numbers of the chains held: of the i-th its rate at i, and the place of its record at CHAINS + i.
+    // The numbers of the chains held: of the i-th its rate at i, and where its list starts at CHAINS + i.
     pub const HELD: usize = 2 * Table::CHAINS;
 
     // How many counts of arrivals a climb keeps: of each chain held, and of the chain itself at last.

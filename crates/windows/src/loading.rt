@@ -12,6 +12,7 @@ use segments::own_part;
 use table::Table;
 use table::count;
 use table::kind_at;
+use table::list_place;
 use table::overload_at;
 use table::place;
 use table::record_length;
@@ -91,7 +92,7 @@ fn adds(others: Others, overload: u8) -> bool
     }
 }
 
-// Those of a span that add beside the chain: of each what it adds once, and its rate and place where its η counts.
+// Those of a span that add beside the chain: of each what it adds once, and its rate and its list's place where its η counts.
 fn join(
     s: &[u8],
     span: Span,
@@ -117,7 +118,7 @@ fn join(
             if x.rate != 0 {
                 let i = l.count;
                 held[i] = x.rate;
-                held[Table::CHAINS + i] = here as u64;
+                held[Table::CHAINS + i] = list_place(s, here) as u64;
                 l.count = i + 1;
             }
         }

@@ -17,7 +17,7 @@ use Rattle.table.specs.Fault.{markOf}
 use Rattle.table.specs.Read.{limitOf}
 use Rattle.table.specs.declared.Mark.the-variants.{Chain}
 use Rattle.table.proofs.Firsts.{or-left, or-right, or-cases}
-use Rattle.table.proofs.Forms.{wide}
+use Rattle.table.proofs.Forms.{wide, narrow, known-lacks}
 use Rattle.table.proofs.Marks.{chain-form}
 use Rattle.table.proofs.Widths.{known-most}
 use Rattle.table.proofs.Words.{length-bytes, bytes-of}
@@ -60,10 +60,6 @@ module _ (form : ℕ) where
 -- The gap or the flag
 
 module _ (form : ℕ) where
-  pub narrow : form ≡ largestForm → gapWidth form ≡ 1
-  unfolding gapWidth
-  narrow e = when-yes 1 4 (eq-eqb form largestForm e)
-
   module _ (flag gap : ℕ) where
     pub flag-bytes : form ≡ largestForm → gapBytes form flag gap ≡ bytesOf 1 flag
     unfolding gapBytes
@@ -75,7 +71,7 @@ module _ (form : ℕ) where
 
     pub gap-length : length (gapBytes form flag gap) ≡ gapWidth form
     gap-length = ⊎-elim
-        (λ e. ap length (flag-bytes e) ∙ length-bytes 1 flag ∙ sym (narrow e))
+        (λ e. ap length (flag-bytes e) ∙ length-bytes 1 flag ∙ sym (narrow form e))
         (λ h. ap length (gap-bytes h) ∙ length-bytes 4 gap ∙ sym (wide form h))
         (form-or form)
 
@@ -94,10 +90,6 @@ module _ (form : ℕ) where
 
   -- The largest distances
 
-  pub known-lacks : (flag listed : ℕ) → (form ≡ largestForm → ⊥) → known form flag listed ≡ 0
-  unfolding known _when_else_
-  known-lacks flag listed h = rw (ne-eqb form largestForm h)
-
   pub known-flag : (flag listed : ℕ) → known form (flagOf form flag) listed ≡ known form flag listed
   unfolding known flagOf _when_else_
   known-flag flag listed = by (eqb form largestForm)
@@ -110,10 +102,10 @@ module _ (form : ℕ) where
 
   module _ (flag listed tasks : ℕ) (few : listed ≤ maxDistances) where
     pub gap-record : (form ≡ largestForm → ⊥) → recordLength form flag listed tasks ≤ 48 + 8 * tasks
-    gap-record h = omega (arith, wide form h, known-lacks flag listed h)
+    gap-record h = omega (arith, wide form h, known-lacks form flag listed h)
 
     pub any-record : recordLength form flag listed tasks ≤ 77 + 8 * tasks
-    any-record = ⊎-elim (λ e. omega (arith, narrow e, known-most form flag listed)) (λ h. omega (arith, gap-record h)) (form-or form)
+    any-record = ⊎-elim (λ e. omega (arith, narrow form e, known-most form flag listed)) (λ h. omega (arith, gap-record h)) (form-or form)
 
 -- How long a table may be
 

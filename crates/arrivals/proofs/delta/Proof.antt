@@ -4,10 +4,10 @@ use mathlib.Core.Path.{_≡_, ap, _∙_}
 use native.Mathlib.Omega.{arith}
 use borrow.Author.Needs.{needs}
 use denote.Ref.{now}
-use Rattle.table.specs.Record.{listedAt, rowAt, distances}
+use Rattle.table.specs.code.Listed.{listedFrom, distancesFrom}
 use Rattle.arrivals.specs.Arrivals.{δ}
 use Rattle.arrivals.proofs.Lists.{split-whole}
-use Rattle.arrivals.proofs.Rows.{stands-some}
+use Rattle.arrivals.proofs.Rows.{lists-some}
 use Rattle.arrivals.proofs.delta.Statement.{statement}
 use Rattle.arrivals.proofs.delta.Tie as tie
 
@@ -16,19 +16,19 @@ module _ (c : tie.After-split) where
   s = c .before .before .before
 
   abbrev listed : ℕ
-  listed = listedAt (now (s .args .s)) (s .args .at)
+  listed = listedFrom (now (s .args .s)) (s .args .list)
 
   whole : (c .split .result .lists * listed + c .split .result .rest ≡ s .args .n - 1) × (c .split .result .rest < listed)
-  whole = split-whole (s .args .n - 1) (stands-some (s .pre .0)) (c .before .listed-at .ensures .0) (c .split .ensures .0) (c .split .ensures .1)
+  whole = split-whole (s .args .n - 1) (lists-some (s .pre .0)) (c .before .listed-from .ensures .0) (c .split .ensures .0) (c .split .ensures .1)
 
 sub-split : tie.Need-sub-split
 sub-split c = search needs
 
-listed-at-requires : tie.Need-listed-at-requires
-listed-at-requires c κs = omega (arith, c .before .pre .0 .there)
+listed-from-requires : tie.Need-listed-from-requires
+listed-from-requires c κs = let h = c .before .pre .0 in (h .after, omega (arith, h .there))
 
 split-requires : tie.Need-split-requires
-split-requires c κs = omega (arith, c .listed-at .ensures .0, stands-some (c .before .before .pre .0))
+split-requires c κs = omega (arith, c .listed-from .ensures .0, lists-some (c .before .before .pre .0))
 
 delta-at-requires : tie.Need-delta-at-requires
 delta-at-requires c κs = (s c .pre .0, omega (arith, whole c .1), omega (arith, whole c .0, s c .pre .1, s c .pre .2))
@@ -36,8 +36,8 @@ delta-at-requires c κs = (s c .pre .0, omega (arith, whole c .1), omega (arith,
 returns : tie.Need-returns
 returns c =
     let b = s (c .before) in
-    c .delta-at .ensures ∙ ap (δ (distances (rowAt (now (b .args .s)) (b .args .at)))) (omega (arith, whole (c .before) .0, b .pre .1))
+    c .delta-at .ensures ∙ ap (δ (distancesFrom (now (b .args .s)) (b .args .list))) (omega (arith, whole (c .before) .0, b .pre .1))
 
 pub delta-spec : {M : Type 1} → statement M
 delta-spec =
-    tie.close (tie.spec sub-split listed-at-requires split-requires delta-at-requires returns)
+    tie.close (tie.spec sub-split listed-from-requires split-requires delta-at-requires returns)

@@ -6,30 +6,30 @@ use native.Mathlib.Omega.{arith}
 use denote.Ref.{now}
 use lib.ListN.{length}
 use Rattle.table.specs.Limits.{maxDistance}
-use Rattle.table.specs.Record.{listedAt, rowAt, distances}
+use Rattle.table.specs.code.Listed.{listedFrom, distancesFrom}
 use Rattle.arrivals.specs.Arrivals.{asListed, δ}
 use Rattle.arrivals.specs.code.Bounds.{farthest}
 use Rattle.arrivals.proofs.Lists.{rising, δ-after}
 use Rattle.arrivals.proofs.Distances.{δ-near}
-use Rattle.arrivals.proofs.Rows.{stands-length}
+use Rattle.arrivals.proofs.Rows.{lists-length}
 use Rattle.arrivals.proofs.delta_at.Statement.{statement}
 use Rattle.arrivals.proofs.delta_at.Tie as tie
 
 module _ (s : tie.Start) where
   -- the chain's distances, and the activation asked for
   abbrev ds : List ℕ
-  ds = distances (rowAt (now (s .args .s)) (s .args .at))
+  ds = distancesFrom (now (s .args .s)) (s .args .list)
 
   abbrev n : ℕ
-  n = s .args .i * listedAt (now (s .args .s)) (s .args .at) + s .args .j + 1
+  n = s .args .i * listedFrom (now (s .args .s)) (s .args .list) + s .args .j + 1
 
   by-lists : δ ds n ≡ s .args .i * asListed ds (length ds) + asListed ds (s .args .j)
   by-lists =
-      ap (λ l. δ ds (s .args .i * l + s .args .j + 1)) (sym (stands-length (s .pre .0)))
-      ∙ δ-after (rising (s .pre .0 .good .list)) (s .args .i) (s .args .j) (omega (arith, stands-length (s .pre .0), s .pre .1))
+      ap (λ l. δ ds (s .args .i * l + s .args .j + 1)) (sym (lists-length (s .pre .0)))
+      ∙ δ-after (rising (s .pre .0 .good)) (s .args .i) (s .args .j) (omega (arith, lists-length (s .pre .0), s .pre .1))
 
   near : δ ds n ≤ farthest * maxDistance
-  near = omega (arith, δ-near (s .pre .0 .good .list) n, s .pre .2)
+  near = omega (arith, δ-near (s .pre .0 .good) n, s .pre .2)
 
 -- how long the whole lists last, as it was read
 module _ (c : tie.After-as-listed) where
@@ -39,17 +39,17 @@ module _ (c : tie.After-as-listed) where
   lists-read : start .args .i * c .as-listed .result ≡ start .args .i * asListed (ds start) (length (ds start))
   lists-read =
       ap (λ p. start .args .i * p)
-      (c .as-listed .ensures ∙ ap (asListed (ds start)) (c .before .listed-at .ensures .0 ∙ sym (stands-length (start .pre .0))))
+      (c .as-listed .ensures ∙ ap (asListed (ds start)) (c .before .listed-from .ensures .0 ∙ sym (lists-length (start .pre .0))))
 
 all : (c : tie.After-as-listed2)
     → start (c .before) .args .i * c .before .as-listed .result + c .as-listed2 .result ≡ δ (ds (start (c .before))) (n (start (c .before)))
 all c = ap₂ (λ x y. x + y) (lists-read (c .before)) (c .as-listed2 .ensures) ∙ sym (by-lists (start (c .before)))
 
-listed-at-requires : tie.Need-listed-at-requires
-listed-at-requires c κs = omega (arith, c .before .pre .0 .there)
+listed-from-requires : tie.Need-listed-from-requires
+listed-from-requires c κs = let h = c .before .pre .0 in (h .after, omega (arith, h .there))
 
 as-listed-requires : tie.Need-as-listed-requires
-as-listed-requires c κs = (c .before .before .pre .0, omega (arith, c .listed-at .ensures .0))
+as-listed-requires c κs = (c .before .before .pre .0, omega (arith, c .listed-from .ensures .0))
 
 mul-result : tie.Need-mul-result
 mul-result c = omega (arith, lists-read c, by-lists (start c), near (start c))
@@ -67,7 +67,7 @@ pub delta-at-spec : {M : Type 1} → statement M
 delta-at-spec =
     tie.close
     (tie.spec
-    listed-at-requires
+    listed-from-requires
     as-listed-requires
     mul-result
     as-listed-requires-2

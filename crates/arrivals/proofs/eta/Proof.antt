@@ -5,19 +5,19 @@ use mathlib.Core.List.{List}
 use native.Mathlib.Omega.{arith}
 use denote.Ref.{now}
 use lib.ListN.{length}
-use Rattle.table.specs.Record.{rowAt, distances}
+use Rattle.table.specs.code.Listed.{listedFrom, distancesFrom}
 use Rattle.arrivals.specs.Arrivals.{asListed, η}
 use Rattle.arrivals.specs.code.WithinList.{withinList}
 use Rattle.arrivals.proofs.Lists.{last-above}
 use Rattle.arrivals.proofs.Counts.{η-near}
 use Rattle.arrivals.proofs.Remainders.{lists-below, η-whole}
-use Rattle.arrivals.proofs.Rows.{stands-length}
+use Rattle.arrivals.proofs.Rows.{lists-length}
 use Rattle.arrivals.proofs.eta.Statement.{statement}
 use Rattle.arrivals.proofs.eta.Tie as tie
 
 -- the chain's distances
 abbrev ds : tie.Start → List ℕ
-ds s = distances (rowAt (now (s .args .s)) (s .args .at))
+ds s = distancesFrom (now (s .args .s)) (s .args .list)
 
 -- the numbers of lists, of activations in them, and of ticks, as they were read
 module _ (c : tie.After-as-listed) where
@@ -27,20 +27,20 @@ module _ (c : tie.After-as-listed) where
   abbrev last : ℕ
   last = asListed (ds s) (length (ds s))
 
-  listed-is : c .before .listed-at .result ≡ length (ds s)
-  listed-is = c .before .listed-at .ensures .0 ∙ sym (stands-length (s .pre .0))
+  listed-is : c .before .listed-from .result ≡ length (ds s)
+  listed-is = c .before .listed-from .ensures .0 ∙ sym (lists-length (s .pre .0))
 
   last-is : c .as-listed .result ≡ last
   last-is = c .as-listed .ensures ∙ ap (asListed (ds s)) listed-is
 
-  activations : (s .args .t - 1) / c .as-listed .result * c .before .listed-at .result ≡ (s .args .t - 1) / last * length (ds s)
+  activations : (s .args .t - 1) / c .as-listed .result * c .before .listed-from .result ≡ (s .args .t - 1) / last * length (ds s)
   activations = ap₂ (λ p l. (s .args .t - 1) / p * l) last-is listed-is
 
   ticks : (s .args .t - 1) / c .as-listed .result * c .as-listed .result ≡ (s .args .t - 1) / last * last
   ticks = ap (λ p. (s .args .t - 1) / p * p) last-is
 
   ticks-below : (s .args .t - 1) / c .as-listed .result * c .as-listed .result < s .args .t
-  ticks-below = omega (arith, ticks, lists-below (s .pre .0 .good .list) (s .args .t) (s .pre .1))
+  ticks-below = omega (arith, ticks, lists-below (s .pre .0 .good) (s .args .t) (s .pre .1))
 
 -- the remainder is at least 1
 within-list-requires : tie.Need-within-list-requires
@@ -48,32 +48,32 @@ within-list-requires c κs = (s c .pre .0, omega (arith, ticks-below c))
 
 -- η(t) in the code's shape
 all : (c : tie.After-within-list)
-    → (s (c .before) .args .t - 1) / c .before .as-listed .result * c .before .before .listed-at .result + c .within-list .result ≡ η (ds (s (c .before))) (s (c .before) .args .t)
+    → (s (c .before) .args .t - 1) / c .before .as-listed .result * c .before .before .listed-from .result + c .within-list .result ≡ η (ds (s (c .before))) (s (c .before) .args .t)
 all c =
     let b = s (c .before) in
     ap₂ (λ x y. x + y) (activations (c .before))
-    (c .within-list .ensures ∙ ap₂ (λ w l. withinList (ds b) (b .args .t - w) l) (ticks (c .before)) (sym (stands-length (b .pre .0))))
-    ∙ sym (η-whole (b .pre .0 .good .list) (b .args .t) (b .pre .1))
+    (c .within-list .ensures ∙ ap₂ (λ w l. withinList (ds b) (b .args .t - w) l) (ticks (c .before)) (sym (lists-length (b .pre .0))))
+    ∙ sym (η-whole (b .pre .0 .good) (b .args .t) (b .pre .1))
 
 returns : tie.Need-returns
 returns c = omega (arith, all c)
 
-listed-at-requires : tie.Need-listed-at-requires
-listed-at-requires c κs = omega (arith, c .before .pre .0 .there)
+listed-from-requires : tie.Need-listed-from-requires
+listed-from-requires c κs = let h = c .before .pre .0 in (h .after, omega (arith, h .there))
 
 as-listed-requires : tie.Need-as-listed-requires
-as-listed-requires c κs = (c .before .before .pre .0, omega (arith, c .listed-at .ensures .0))
+as-listed-requires c κs = (c .before .before .pre .0, omega (arith, c .listed-from .ensures .0))
 
 sub-lists : tie.Need-sub-lists
 sub-lists c = omega (arith, c .before .before .before .pre .1)
 
 div-lists : tie.Need-div-lists
-div-lists c = omega (arith, last-is c, last-above (s c .pre .0 .good .list))
+div-lists c = omega (arith, last-is c, last-above (s c .pre .0 .good))
 
 mul-result : tie.Need-mul-result
 mul-result c =
     let b = s c in
-    omega (arith, activations c, η-whole (b .pre .0 .good .list) (b .args .t) (b .pre .1), η-near (b .pre .0 .good .list) (b .args .t), b .pre .2)
+    omega (arith, activations c, η-whole (b .pre .0 .good) (b .args .t) (b .pre .1), η-near (b .pre .0 .good) (b .args .t), b .pre .2)
 
 mul-within-list : tie.Need-mul-within-list
 mul-within-list c = omega (arith, ticks-below c, s c .pre .2)
@@ -82,13 +82,13 @@ sub-within-list : tie.Need-sub-within-list
 sub-within-list c = omega (arith, ticks-below c)
 
 add-result : tie.Need-add-result
-add-result c = let b = s (c .before) in omega (arith, all c, η-near (b .pre .0 .good .list) (b .args .t), b .pre .2)
+add-result c = let b = s (c .before) in omega (arith, all c, η-near (b .pre .0 .good) (b .args .t), b .pre .2)
 
 pub eta-spec : {M : Type 1} → statement M
 eta-spec =
     tie.close
     (tie.spec
-    listed-at-requires
+    listed-from-requires
     as-listed-requires
     sub-lists
     div-lists

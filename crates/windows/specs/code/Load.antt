@@ -14,6 +14,7 @@ use Rattle.table.specs.Place.{placeOf}
 use Rattle.table.specs.Read.{tableOf}
 use Rattle.table.specs.declared.Row.{Row}
 use Rattle.table.specs.declared.Table.{Table}
+use Rattle.table.specs.code.Listed.{distancesFrom, Lists}
 use Rattle.table.specs.code.Taken.{Taken, Stands}
 use Rattle.arrivals.specs.Arrivals.{η}
 use Rattle.segments.specs.Tasks.{floorOf}
@@ -36,7 +37,7 @@ onceLimit = 2 * maxChains * dearest
 abbrev pub latest : ℕ
 latest = horizon + maxDeadline
 
--- what is held of chains whose η counts: of the i-th its rate, and the place of its record, which gives its distances
+-- what is held of chains whose η counts: of the i-th its rate, and where its list of distances starts
 abbrev pub heldRate : List ℕ → ℕ → ℕ
 heldRate held i = getD held i 0
 
@@ -44,18 +45,18 @@ abbrev pub heldPlace : List ℕ → ℕ → ℕ
 heldPlace held i = getD held (maxChains + i) 0
 
 abbrev pub heldAt : List ℕ → List ℕ → ℕ → List ℕ
-heldAt s held i = distances (rowAt s (heldPlace held i))
+heldAt s held i = distancesFrom s (heldPlace held i)
 
 -- what the first n of them add in t: η(t) times its rate each
 unfoldable pub heldOf : List ℕ → List ℕ → ℕ → ℕ → ℕ
 heldOf s held zero t = 0
 heldOf s held (suc n) t = heldOf s held n t + η (heldAt s held n) t * heldRate held n
 
--- n chains are held: each one's record stands in the bytes, and its rate is no more than a chain costs
+-- n chains are held: each one's list stands in the bytes, and its rate is no more than a chain costs
 pub record Held (s held : List ℕ) (n : ℕ) : Type 0 where
   pub few : n ≤ maxChains
   pub size : length held ≡ 2 * maxChains
-  pub stands : (i : ℕ) → i < n → Stands s (heldPlace held i)
+  pub lists : (i : ℕ) → i < n → Lists s (heldPlace held i)
   pub cheap : (i : ℕ) → i < n → heldRate held i ≤ dearest
 
 -- a table's bytes; the chain: the place of its record, its cost, its own first part, 0 if it's synchronous; what the others add

@@ -12,26 +12,27 @@ deadline-at-requires c κs = search needs
 outside-requires : tie.Need-outside-requires
 outside-requires c κs = search needs
 
-add-t5 : tie.Need-add-t5
-add-t5 c = search needs
+add-t6 : tie.Need-add-t6
+add-t6 c = search needs
 
 returns : tie.Need-returns
 unfolding timesFault _when_else_
 returns c = rw (← c .before .before .deadline-at .ensures, ← c .before .outside .ensures, c .if1 .taken)
 
-gap-at-requires : tie.Need-gap-at-requires
-gap-at-requires c κs = search needs
-
-add-t7 : tie.Need-add-t7
-add-t7 c = search needs
+add-t8 : tie.Need-add-t8
+add-t8 c = search needs
 
 returns-2 : tie.Need-returns-2
 unfolding timesFault _when_else_
-returns-2 c = rw (← c .before .before .before .before .deadline-at .ensures, ← c .before .before .before .outside .ensures, c .before .before .if1 .left, ← c .before .gap-at .ensures, lt-ltb _ _ (c .if2 .taken))
+returns-2 c =
+    let d = c .before .before .before in
+    rw (← d .deadline-at .ensures, ← c .before .before .outside .ensures, c .before .if1 .left, ← d .before .before .pre .1, lt-ltb _ _ (c .if2 .taken))
 
 returns-3 : tie.Need-returns-3
 unfolding timesFault _when_else_
-returns-3 c = rw (← c .before .before .before .before .deadline-at .ensures, ← c .before .before .before .outside .ensures, c .before .before .if1 .left, ← c .before .gap-at .ensures, le-ltb _ _ (c .if2 .left))
+returns-3 c =
+    let d = c .before .before .before in
+    rw (← d .deadline-at .ensures, ← c .before .before .outside .ensures, c .before .if1 .left, ← d .before .before .pre .1, le-ltb _ _ (c .if2 .left))
 
 pub times-fault-spec : {M : Type 1} → statement M
 times-fault-spec =
@@ -39,9 +40,8 @@ times-fault-spec =
     (tie.spec
     deadline-at-requires
     outside-requires
-    add-t5
+    add-t6
     returns
-    gap-at-requires
-    add-t7
+    add-t8
     returns-2
     returns-3)

@@ -1,5 +1,5 @@
 -- The loop has read the rows of some table t; what is left gives what the whole gives.
-use Prim.Native.Nat.{ℕ, _+_, _-_, _<_, _≤_}
+use Prim.Native.Nat.{ℕ, _+_, _-_, _<_, _≤_, _*_}
 use native.Mathlib.Omega.{arith}
 use mathlib.Core.Path.{_≡_, refl, ap, sym, _∙_}
 use mathlib.Core.List.{List}
@@ -8,8 +8,8 @@ use mathlib.Core.Logic.{⊎-elim}
 use denote.Ref.{now}
 use lib.ListN.{length, length-set}
 use lib.Dec.{eqb, ltb}
-use borrow.Author.Tests.{eq-eqb, ne-eqb}
-use Rattle.table.specs.Limits.{maxChains, maxAllTasks}
+use borrow.Author.Tests.{eq-eqb, ne-eqb, ltb-false}
+use Rattle.table.specs.Limits.{maxChains, maxAllTasks, maxBytes}
 use Rattle.table.specs.Bytes.{word}
 use Rattle.table.specs.Record.{formAt, idAt, lengthAt, rowAt}
 use Rattle.table.specs.Fault.{markOf, chainFault, endFault}
@@ -20,6 +20,7 @@ use Rattle.table.specs.declared.Reading.{Reading}
 use Rattle.table.specs.declared.Mark.{Mark}
 use Rattle.table.specs.declared.Mark.the-variants.{Chain, Task, End, Unknown}
 use Rattle.table.specs.declared.before.Before.{Before}
+use Rattle.table.proofs.Widths.{limit-most}
 use Rattle.table.proofs.Earlier.{before-more}
 use Rattle.table.proofs.Firsts.{or-left, or-right, or-none, unless-fault, unless-none, ends-verdict}
 use Rattle.table.proofs.Faultless.{ChainRight, chain-right}
@@ -67,6 +68,9 @@ long c = ⊎-elim (λ w. or-left _ _ (eq-eqb _ _ (w .taken))) (λ w. or-right (e
 -- the length is right, and what is left gives what the whole gives
 whole : (l : tie.At-loop Inv-loop μ-loop) → readTable (bytes l) ≡ records (maxChains - sofar l .count) (bytes l) (l .loop .at) (sofar l)
 whole l = read-on (bytes l) (or-none _ _ (ne-eqb _ _ (l .before .before .before .if1 .left)) (ap (λ n. ltb n (length (bytes l))) (sym (l .before .before .limit .ensures)) ∙ l .before .if2 .left)) ∙ sym (l .loop .inv .1 .left)
+
+short : (l : tie.At-loop Inv-loop μ-loop) → length (bytes l) ≤ maxBytes
+short l = omega (arith, ltb-false (l .before .before .limit .result) (length (bytes l)) (l .before .if2 .left), l .before .before .limit .ensures, limit-most (word 2 (bytes l) 0))
 
 -- the mark at the record's start, and what it leads to
 module _ (c : tie.After-mark-of Inv-loop μ-loop) where
@@ -172,35 +176,44 @@ array-write-ids c = let i = before (c .before) .loop .inv .1 in omega (arith, i 
 add-before : tie.Need-add-before Inv-loop μ-loop
 add-before c = omega (arith, before (c .before) .loop .inv .1 .few)
 
-tasks-at-requires : tie.Need-tasks-at-requires Inv-loop μ-loop
-tasks-at-requires c κs = right (c .before) .head .there
+tasks-part-requires : tie.Need-tasks-part-requires Inv-loop μ-loop
+tasks-part-requires c κs = right (c .before) .head .there
 
 add-before-2 : tie.Need-add-before-2 Inv-loop μ-loop
-add-before-2 c = omega (arith, before (c .before .before .before) .loop .inv .1 .all, c .before .tasks-at .ensures .1)
+add-before-2 c = let p = c .before .before in omega (arith, before (p .before .before) .loop .inv .1 .all, p .tasks-part .ensures .3)
 
-record-length-requires : tie.Need-record-length-requires Inv-loop μ-loop
-record-length-requires c κs = right (c .before .before .before) .head .there
+mul-at : tie.Need-mul-at Inv-loop μ-loop
+mul-at c = omega (arith, c .before .before .before .tasks-part .ensures .3)
 
 add-at : tie.Need-add-at Inv-loop μ-loop
-add-at c = omega (arith, right (c .before .before .before .before) .there, c .record-length .ensures)
+add-at c = let p = c .before .before .before .before in omega (arith, p .tasks-part .ensures .2, p .tasks-part .ensures .3)
+
+-- the next record starts where this one ends
+next : (c : tie.After-tasks-part Inv-loop μ-loop) → let l = before (c .before .before) in l .loop .at + (c .tasks-part .result .from + 8 * c .tasks-part .result .count) ≡ l .loop .at + lengthAt (bytes l) (l .loop .at)
+next c = omega (arith, c .tasks-part .ensures .0, c .tasks-part .ensures .1)
+
+add-at-2 : tie.Need-add-at-2 Inv-loop μ-loop
+add-at-2 c = let p = c .before .before .before .before in rw (next p) (omega (arith, right (p .before .before) .there, short (before (p .before .before))))
 
 loop-less : tie.Need-loop-less Inv-loop μ-loop
-loop-less c = omega (arith, before (c .before .before .before .before) .loop .inv .1 .few, c .before .before .before .before .before .before .before .before .if4 .left)
+loop-less c = let p = c .before .before .before .before in omega (arith, before (p .before .before) .loop .inv .1 .few, p .before .before .before .before .before .before .if4 .left)
 
 loop-again : tie.Need-loop-again Inv-loop μ-loop
 unfolding rowAt
-loop-again c = let e = c .before .before .before .before .before .before .before .before in
+loop-again c =
+    let p = c .before .before .before .before in
+    let told2 = p .before .before in
+    let e = told2 .before .before .before .before in
     let m = marked (e .before .before) in
-    let l = before (c .before .before .before .before) in
+    let l = before told2 in
     let t = sofar l in
     let at = l .loop .at in
     let i = l .loop .inv .1 in
-    let r = right (c .before .before .before .before) in
-    let f = c .before .before .before .before .before .before .chain-fault in
-    let n : at + c .record-length .result ≡ at + lengthAt (bytes l) at = ap (λ (m : ℕ). at + m) (c .record-length .ensures) in
-    let none = unless-none refusal (chainFault (bytes l) at t) (rest m) (sym (f .ensures t (i .known)) ∙ c .before .before .before .before .enum-told2 .given .1) in
+    let r = right told2 in
+    let f = told2 .before .before .chain-fault in
+    let none = unless-none refusal (chainFault (bytes l) at t) (rest m) (sym (f .ensures t (i .known)) ∙ told2 .enum-told2 .given .1) in
     let whole-is = chain m (told (e .before .before)) (form (e .before .before)) (room e) in
-    rw (c .before .before .before .id-at .ensures, c .before .before .tasks-at .ensures .0, n) (
+    rw (p .before .id-at .ensures, next p, p .tasks-part .ensures .1) (
       plus t (rowAt (bytes l) at),
       record {
         few = omega (arith, i .few, e .if4 .left);
@@ -274,10 +287,11 @@ judge-spec =
     mul-ids
     array-write-ids
     add-before
-    tasks-at-requires
+    tasks-part-requires
     add-before-2
-    record-length-requires
+    mul-at
     add-at
+    add-at-2
     loop-less
     loop-again
     enum-told-3

@@ -52,7 +52,7 @@ eta-from-requires c κs =
     let h = c .before .before .before in
     let l = h .loop in
     let more = c .before .before .loop-test .taken in
-    (start h .pre .0 .stands (l .i) more, omega (arith, start h .pre .1), l .inv .3 .rest (l .i) more)
+    (start h .pre .0 .lists (l .i) more, omega (arith, start h .pre .1), l .inv .3 .rest (l .i) more)
 
 mul-counts : tie.Need-mul-counts Inv-loop μ-loop
 mul-counts c = omega arith
@@ -67,7 +67,7 @@ adds-le c =
     let more = c .before .before .before .loop-test .taken in
     let a = start (head c) .args in
     let p = start (head c) .pre in
-    turns-le (p .0 .stands i more .good .list) (c .eta-from .result) (heldRate (a .held .now) i) (a .t) (le-of-eq (c .eta-from .ensures)) (p .0 .cheap i more) (omega (arith, p .1))
+    turns-le (p .0 .lists i more .good) (c .eta-from .result) (heldRate (a .held .now) i) (a .t) (le-of-eq (c .eta-from .ensures)) (p .0 .cheap i more) (omega (arith, p .1))
 
 mul-sum : tie.Need-mul-sum Inv-loop μ-loop
 mul-sum c = omega arith

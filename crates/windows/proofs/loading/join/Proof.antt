@@ -14,7 +14,7 @@ use Rattle.table.specs.Find.{rowOf}
 use Rattle.table.specs.Place.{placeOf}
 use Rattle.table.specs.code.Taken.{Stands}
 use Rattle.table.specs.Read.{tableOf}
-use Rattle.table.proofs.Stands.{row-there, stands, place-next}
+use Rattle.table.proofs.Stands.{distances-from, lists, row-there, stands, place-next}
 use Rattle.segments.specs.View.{View, viewOf}
 use Rattle.segments.proofs.Views.{view-list}
 use Rattle.windows.specs.code.Load.{onceLimit, addsTo, viewsBetween, Load, loadOf, Joined, Adds}
@@ -161,31 +161,34 @@ mul-held c = omega (arith, space (c .before .before .before .before))
 element-write-held : tie.Need-element-write-held Inv-loop μ-loop
 element-write-held c = omega (arith, space (c .before .before .before .before), size (c .before .before .before .before))
 
+list-place-requires : tie.Need-list-place-requires Inv-loop μ-loop
+list-place-requires c κs = let x = c .before .before .before .before in omega (arith, here (head x) (more x) .there)
+
 add-held : tie.Need-add-held Inv-loop μ-loop
-add-held c = omega (arith, space (c .before .before .before .before))
+add-held c = omega (arith, space (c .before .before .before .before .before))
 
 mul-held-2 : tie.Need-mul-held-2 Inv-loop μ-loop
-mul-held-2 c = omega (arith, space (c .before .before .before .before))
+mul-held-2 c = omega (arith, space (c .before .before .before .before .before))
 
 element-write-held-2 : tie.Need-element-write-held-2 Inv-loop μ-loop
-element-write-held-2 c = omega (arith, space (c .before .before .before .before), size (c .before .before .before .before))
+element-write-held-2 c = omega (arith, space (c .before .before .before .before .before), size (c .before .before .before .before .before))
 
 add-l-2 : tie.Need-add-l-2 Inv-loop μ-loop
-add-l-2 c = omega (arith, space (c .before .before .before .before))
+add-l-2 c = omega (arith, space (c .before .before .before .before .before))
 
 loop-less : tie.Need-loop-less Inv-loop μ-loop
 loop-less c = omega arith
 
 loop-again : tie.Need-loop-again Inv-loop μ-loop
 loop-again c =
-    let x = c .before .before .before .before in
+    let x = c .before .before .before .before .before in
     let h = head x in
     let l = h .loop in (
       omega (arith, l .inv .0),
       omega (arith, more x),
       next-place x,
-      grown x (held-joined (now h) (view h) (x .term .result) (l .at) (l .inv .3 .sound) (few h (more x)) (room h (more x)) (adds x)
-          (view-list (rowAt (s h) (l .at)) (b h)) (here h (more x))),
+      grown x (held-joined (now h) (view h) (x .term .result) (c .list-place .result) (l .inv .3 .sound) (few h (more x)) (room h (more x)) (adds x)
+          (view-list (rowAt (s h) (l .at)) (b h) ∙ distances-from (s h) (l .at) (c .list-place .ensures)) (lists (s h) (l .at) (c .list-place .ensures) (here h (more x)))),
     )
 
 loop-less-2 : tie.Need-loop-less-2 Inv-loop μ-loop
@@ -242,6 +245,7 @@ join-spec =
     add-l
     mul-held
     element-write-held
+    list-place-requires
     add-held
     mul-held-2
     element-write-held-2

@@ -37,7 +37,7 @@ element-copy-out-eta-from c = omega (arith, start (c .before) .pre .0 .few, star
 eta-from-requires : tie.Need-eta-from-requires Inv-loop μ-loop
 eta-from-requires c κs =
     let h = c .before .before in
-    (start h .pre .0 .stands (h .loop .i) (c .before .loop-test .taken), omega (arith, start h .pre .1), omega arith)
+    (start h .pre .0 .lists (h .loop .i) (c .before .loop-test .taken), omega (arith, start h .pre .1), omega arith)
 
 -- what this chain adds fits
 adds-le : (c : tie.After-eta-from Inv-loop μ-loop) → c .eta-from .result * heldRate (start (head c) .args .held .now) (head c .loop .i) ≤ busiest
@@ -46,7 +46,7 @@ adds-le c =
     let more = c .before .before .loop-test .taken in
     let a = start (head c) .args in
     let p = start (head c) .pre in
-    turns-le (p .0 .stands i more .good .list) (c .eta-from .result) (heldRate (a .held .now) i) (a .t) (le-of-eq (c .eta-from .ensures)) (p .0 .cheap i more) (p .1)
+    turns-le (p .0 .lists i more .good) (c .eta-from .result) (heldRate (a .held .now) i) (a .t) (le-of-eq (c .eta-from .ensures)) (p .0 .cheap i more) (p .1)
 
 mul-sum : tie.Need-mul-sum Inv-loop μ-loop
 mul-sum c = omega arith

@@ -1,10 +1,12 @@
 -- `least_called` meets its contract. The loop's invariant: the costs called bad by the activations looked at so far are those from `least`
 -- on.
 use Prim.Native.Nat.{ℕ, _+_, _-_, _≤_}
-use mathlib.Core.Path.{_≡_, ap₂, sym, subst}
+use mathlib.Core.Path.{_≡_, ap, ap₂, sym, subst, _∙_}
 use native.Mathlib.Omega.{arith}
 use borrow.Author.Needs.{needs}
 use Rattle.table.specs.Record.{rowAt}
+use Rattle.table.proofs.Stands.{distances-from, lists}
+use Rattle.arrivals.specs.Arrivals.{δ}
 use Rattle.windows.specs.code.Load.{latest, Load, loadOf, rowIn, ownOf}
 use Rattle.windows.specs.code.Called.{CalledFrom}
 use Rattle.windows.specs.Sieve.{due}
@@ -13,10 +15,10 @@ use Rattle.windows.proofs.sieving.least_called.Statement.{statement}
 use Rattle.windows.proofs.sieving.least_called.Tie as tie
 
 abbrev Inv-loop : tie.InvT-loop
-Inv-loop s own held close most at deadline least₀ done₀ least done = (done ≤ close) × CalledFrom (loadOf s own held) done most least
+Inv-loop s own held close most at list deadline least₀ done₀ least done = (done ≤ close) × CalledFrom (loadOf s own held) done most least
 
 abbrev μ-loop : tie.MeasureT-loop
-μ-loop s own held close most at deadline least₀ done₀ least done = close - done
+μ-loop s own held close most at list deadline least₀ done₀ least done = close - done
 
 abbrev load : tie.Start Inv-loop μ-loop → Load
 load c = loadOf (c .args .s .now) (c .args .own) (c .args .held .now)
@@ -27,14 +29,17 @@ module _ (c : tie.After-delta Inv-loop μ-loop) where
   head = c .before .before
 
   abbrev start : tie.Start Inv-loop μ-loop
-  start = c .before .before .before .before .before
+  start = c .before .before .before .before .before .before
 
   abbrev t : ℕ
   t = c .delta .result + c .before .before .before .deadline-at .result
 
   due-is : t ≡ due (ownOf (load start)) (rowIn (load start) .deadline) (head .loop .done + 1)
   unfolding rowAt
-  due-is = ap₂ _+_ (c .delta .ensures) (c .before .before .before .deadline-at .ensures)
+  due-is =
+      ap₂ _+_
+      (c .delta .ensures ∙ ap (λ ds. δ ds (head .loop .done + 1)) (sym (distances-from (start .args .s .now) (start .args .own .at) (c .before .before .before .before .list-place .ensures))))
+      (c .before .before .before .deadline-at .ensures)
 
   near : t ≤ latest
   near =
@@ -45,20 +50,25 @@ module _ (c : tie.After-delta Inv-loop μ-loop) where
         start .pre .sound .stands .good .deadline-max,
       )
 
+list-place-requires : tie.Need-list-place-requires Inv-loop μ-loop
+list-place-requires c κs = omega (arith, c .before .pre .sound .stands .there)
+
 deadline-at-requires : tie.Need-deadline-at-requires Inv-loop μ-loop
-deadline-at-requires c κs = omega (arith, c .before .pre .sound .stands .there)
+deadline-at-requires c κs = omega (arith, c .before .before .pre .sound .stands .there)
 
 loop-holds : tie.Need-loop-holds Inv-loop μ-loop
-loop-holds c = let s = c .before .before in (omega arith, called-none (load s) (s .args .most))
+loop-holds c = let s = c .before .before .before in (omega arith, called-none (load s) (s .args .most))
 
 cast-q : tie.Need-cast-q Inv-loop μ-loop
 cast-q c = search needs
 
 add-q : tie.Need-add-q Inv-loop μ-loop
-add-q c = omega (arith, c .before .before .before .before .pre .few)
+add-q c = omega (arith, c .before .before .before .before .before .pre .few)
 
 delta-requires : tie.Need-delta-requires Inv-loop μ-loop
-delta-requires c κs = let s = c .before .before .before .before in (s .pre .sound .stands, omega arith, omega (arith, s .pre .few, c .loop-test .taken))
+delta-requires c κs =
+    let s = c .before .before .before .before .before in
+    (lists (s .args .s .now) (s .args .own .at) (c .before .before .before .list-place .ensures) (s .pre .sound .stands), omega arith, omega (arith, s .pre .few, c .loop-test .taken))
 
 cast-t : tie.Need-cast-t Inv-loop μ-loop
 cast-t c = search needs
@@ -96,7 +106,7 @@ loop-again c =
 
 returns : tie.Need-returns Inv-loop μ-loop
 returns c =
-    let s = c .before .before .before .before in
+    let s = c .before .before .before .before .before in
     let e : c .before .loop .done ≡ s .args .close = omega (arith, c .loop-test .left, c .before .loop .inv .0) in
     subst (λ n. CalledFrom (load s) n (s .args .most) (c .before .loop .least)) e (c .before .loop .inv .1)
 
@@ -106,6 +116,7 @@ least-called-spec =
     (tie.spec
     Inv-loop
     μ-loop
+    list-place-requires
     deadline-at-requires
     loop-holds
     cast-q

@@ -7,6 +7,8 @@ use native.Mathlib.Omega.{arith}
 use borrow.Author.Needs.{needs}
 use Rattle.table.specs.Limits.{maxDeadline}
 use Rattle.table.specs.Record.{rowAt}
+use Rattle.table.proofs.Stands.{distances-from, lists}
+use Rattle.arrivals.specs.Arrivals.{δ}
 use Rattle.arrivals.proofs.Distances.{δ-near}
 use Rattle.windows.specs.Window.{windowOf}
 use Rattle.windows.specs.Latency.{anyOver}
@@ -20,11 +22,11 @@ use Rattle.windows.proofs.sweeping.any_over.Statement.{statement}
 use Rattle.windows.proofs.sweeping.any_over.Tie as tie
 
 abbrev Inv-loop : tie.InvT-loop
-Inv-loop s own held close at deadline counts₀ start₀ done₀ counts start done =
+Inv-loop s own held close at list deadline counts₀ start₀ done₀ counts start done =
     (done ≤ close) × Swept (demandIn (loadOf s own held)) (ownOf (loadOf s own held)) deadline done start × Counted (loadOf s own held) start counts
 
 abbrev μ-loop : tie.MeasureT-loop
-μ-loop s own held close at deadline counts₀ start₀ done₀ counts start done = close - done
+μ-loop s own held close at list deadline counts₀ start₀ done₀ counts start done = close - done
 
 -- the load, and its demand
 abbrev load : tie.Start Inv-loop μ-loop → Load
@@ -38,18 +40,18 @@ abbrev dated : tie.At-loop Inv-loop μ-loop → tie.After-deadline-at Inv-loop �
 dated c = c .before
 
 abbrev entry : tie.At-loop Inv-loop μ-loop → tie.Start Inv-loop μ-loop
-entry c = c .before .before .before
+entry c = c .before .before .before .before
 
 abbrev head : tie.After-known-told Inv-loop μ-loop → tie.At-loop Inv-loop μ-loop
 head c = c .before .before .before .before .before .before
 
 -- the deadline is the chain's
-deadline-is : (c : tie.After-deadline-at Inv-loop μ-loop) → c .deadline-at .result ≡ rowAt (c .before .before .args .s .now) (c .before .before .args .own .at) .deadline
+deadline-is : (c : tie.After-deadline-at Inv-loop μ-loop) → c .deadline-at .result ≡ rowAt (c .before .before .before .args .s .now) (c .before .before .before .args .own .at) .deadline
 unfolding rowAt
 deadline-is c = c .deadline-at .ensures
 
 deadline-le : (c : tie.After-deadline-at Inv-loop μ-loop) → c .deadline-at .result ≤ maxDeadline
-deadline-le c = omega (arith, deadline-is c, c .before .before .pre .0 .stands .good .deadline-max)
+deadline-le c = omega (arith, deadline-is c, c .before .before .before .pre .0 .stands .good .deadline-max)
 
 -- what is said of it is said of the load
 abbrev over-by : tie.At-loop Inv-loop μ-loop → ℕ → Bool
@@ -62,11 +64,14 @@ told h = ap (over-by h) (deadline-is (dated h))
 at : (c : tie.After-known-told Inv-loop μ-loop) → windowOf (demand (entry (head c)) (head c .loop .done + 1)) ≡ At (c .before .w .given .0 .0)
 at c = sym (c .before .before .before .climb .ensures .window) ∙ c .before .w .given .1
 
+list-place-requires : tie.Need-list-place-requires Inv-loop μ-loop
+list-place-requires c κs = omega (arith, c .before .pre .0 .stands .there)
+
 deadline-at-requires : tie.Need-deadline-at-requires Inv-loop μ-loop
-deadline-at-requires c κs = omega (arith, c .before .pre .0 .stands .there)
+deadline-at-requires c κs = omega (arith, c .before .before .pre .0 .stands .there)
 
 loop-holds : tie.Need-loop-holds Inv-loop μ-loop
-loop-holds c = let s = c .before .before in (omega arith, swept-start _ _ _, counted-none (load s) 1 (s .pre .0))
+loop-holds c = let s = c .before .before .before in (omega arith, swept-start _ _ _, counted-none (load s) 1 (s .pre .0))
 
 cast-q : tie.Need-cast-q Inv-loop μ-loop
 cast-q c = search needs
@@ -93,7 +98,14 @@ returns c =
     (sym (c .before .before .climb .ensures .window) ∙ c .enum-told .given .1)) ∙ told h
 
 delta-requires : tie.Need-delta-requires Inv-loop μ-loop
-delta-requires c κs = let s = entry (head c) in (s .pre .0 .stands, omega arith, omega (arith, s .pre .1))
+delta-requires c κs = let h = head c in let s = entry h in (lists (s .args .s .now) (s .args .own .at) (dated h .before .list-place .ensures) (s .pre .0 .stands), omega arith, omega (arith, s .pre .1))
+
+-- when the activation starts, by the chain's own list
+starts : (c : tie.After-delta Inv-loop μ-loop) → c .delta .result ≡ δ (ownOf (load (entry (head (c .before))))) (head (c .before) .loop .done + 1)
+starts c =
+    let h = head (c .before) in
+    let s = entry h in
+    c .delta .ensures ∙ ap (λ ds. δ ds (h .loop .done + 1)) (sym (distances-from (s .args .s .now) (s .args .own .at) (dated h .before .list-place .ensures)))
 
 cast-if1 : tie.Need-cast-if1 Inv-loop μ-loop
 cast-if1 c = search needs
@@ -102,7 +114,7 @@ add-if1 : tie.Need-add-if1 Inv-loop μ-loop
 add-if1 c =
     let h = head (c .before) in
     let s = entry h in
-    omega (arith, c .delta .ensures, δ-near (s .pre .0 .stands .good .list) (h .loop .done + 1), deadline-le (dated h), s .pre .1)
+    omega (arith, starts c, δ-near (s .pre .0 .stands .good .list) (h .loop .done + 1), deadline-le (dated h), s .pre .1)
 
 returns-2 : tie.Need-returns-2 Inv-loop μ-loop
 returns-2 c =
@@ -110,7 +122,7 @@ returns-2 c =
     let h = head f in
     let s = entry h in
     sym (swept-past (demand s) (ownOf (load s)) (dated h .deadline-at .result) (s .args .close) (h .loop .done) (f .before .before .before .before .before .loop-test .taken) _ (at f)
-    (omega (arith, c .before .delta .ensures, c .if1 .taken))) ∙ told h
+    (omega (arith, starts (c .before), c .if1 .taken))) ∙ told h
 
 add-done : tie.Need-add-done Inv-loop μ-loop
 add-done c = omega arith
@@ -125,7 +137,7 @@ loop-again c =
     let s = entry h in (
       omega (arith, f .before .before .before .before .before .loop-test .taken),
       swept-on (demand s) (ownOf (load s)) (dated h .deadline-at .result) (s .args .close) (h .loop .done) (f .before .before .before .before .before .loop-test .taken) _ (at f)
-          (load-growing (load s) (s .pre .0)) (h .loop .start) (h .loop .inv .1) (omega (arith, c .before .delta .ensures, c .if1 .left)),
+          (load-growing (load s) (s .pre .0)) (h .loop .start) (h .loop .inv .1) (omega (arith, starts (c .before), c .if1 .left)),
       f .before .before .before .climb .ensures .counted _ (f .before .w .given .1),
     )
 
@@ -142,6 +154,7 @@ any-over-spec =
     (tie.spec
     Inv-loop
     μ-loop
+    list-place-requires
     deadline-at-requires
     loop-holds
     cast-q
