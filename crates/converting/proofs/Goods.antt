@@ -36,7 +36,7 @@ module _ {r : Row} (good : GoodRow r) where
   flag-cases = ⊎-elim (λ h. inl (omega arith)) (λ h. inr (omega (arith, good .flag))) (lt-or-le (r .flag) 1)
 
   -- with flag 0 every largest place is 0
-  largest-none : r .flag ≡ 0 → (j : ℕ) → getD (r .largest) j 0 ≡ 0
+  pub largest-none : r .flag ≡ 0 → (j : ℕ) → getD (r .largest) j 0 ≡ 0
   unfolding known _when_else_
   largest-none e j =
       let in-form : (form : ℕ) → r .form ≡ form → knownOf r ≡ known form 0 (r .listed) = λ form f. ap₂ (λ x flag. known x flag (r .listed)) f e in
@@ -57,6 +57,10 @@ says-has {r} good form h = ⊎-elim (has-unknown r) (λ f. ⊎-elim (has-unknown
     (λ s. let g : firstLargest r ≡ s .0 = omega (arith, s .2 0 (some good)) in
     has-even r (λ z. omega (arith, z, f)) (omega (arith, g, s .1))
     ∙ same-yes (largests r) (multiples (firstLargest r) (r .listed)) (even-yes good f (λ j l. s .2 j l ∙ ap (λ n. n * (j + 1)) (sym g)))) h) (flag-cases good)
+
+-- the places of a gap's multiples
+pub place-at : (r : Row) (j : ℕ) → j < r .listed → getD (withLargest r .largest) j 0 ≡ r .gap * (j + 1)
+place-at r j h = pad-at maxDistances (multiples (r .gap) (r .listed)) j ∙ multiple-at (r .gap) (r .listed) j h
 
 -- no largest distance is good beside any smallest
 none-good : (ds : List ℕ) → GoodLargests ds []
@@ -94,10 +98,6 @@ module _ {r : Row} (good : GoodRow r) where
           above = λ j h. let l : j < r .listed = omega (arith, h, n) in omega (arith, multiple-at (r .gap) (r .listed) j l, good .gaps above j l);
         }
 
-  -- each of them
-  place-at : (j : ℕ) → j < r .listed → getD (withLargest r .largest) j 0 ≡ r .gap * (j + 1)
-  place-at j h = pad-at maxDistances made j ∙ multiple-at (r .gap) (r .listed) j h
-
   gap-cases : (r .gap ≡ 0) ⊎ (0 < r .gap)
   gap-cases = ⊎-elim (λ h. inr h) (λ h. inl (omega arith)) (lt-or-le 0 (r .gap))
 
@@ -126,7 +126,7 @@ largest-good {r} good form = record {
 }
 
 pub largest-has : {r : Row} → GoodRow r → r .form ≡ gapForm → hasGap (withLargest r) ≡ true
-largest-has {r} good form = says-has (largest-good good form) refl (inr (r .gap, good .gap-max, place-at good))
+largest-has {r} good form = says-has (largest-good good form) refl (inr (r .gap, good .gap-max, place-at r))
 
 -- with a gap: the first largest distance, which is 0 where none is known
 module _ {r : Row} (good : GoodRow r) (form : r .form ≡ largestForm) (has : hasGap r ≡ true) where
@@ -189,7 +189,7 @@ same-row r a b c d = λ i. inForm r (a i) (b i) (c i) (d i)
 
 pub largest-back : {r : Row} → GoodRow r → r .form ≡ gapForm → length (r .largest) ≡ maxDistances → withGap (withLargest r) ≡ r
 largest-back {r} good form long =
-    same-row r (sym form) (sym (good .flag-form form)) (omega (arith, place-at good 0 (some good)))
+    same-row r (sym form) (sym (good .flag-form form)) (omega (arith, place-at r 0 (some good)))
     (ext-getD 0 (replicate maxDistances 0) (r .largest) (sym long)
     (λ j h. pad-at maxDistances [] j ∙ sym (largest-none good (good .flag-form form) j)))
 
