@@ -6,7 +6,7 @@ use mathlib.Core.Path.{_≡_, refl, ap, ap₂, sym, subst, _∙_}
 use mathlib.Core.Bool.{true}
 use mathlib.Core.List.{List, []}
 use mathlib.Core.Logic.{_⊎_, inl, inr, ⊎-elim}
-use lib.ListN.{length, getD, replicate, length-append, length-replicate}
+use lib.ListN.{length, getD, replicate}
 use lib.Seq.{ext-getD, take-at}
 use lib.Dec.{eqb}
 use borrow.Author.Tests.{eq-eqb, ne-eqb}
@@ -20,17 +20,15 @@ use Rattle.table.proofs.Goods.{pad-at}
 use Rattle.table.proofs.Widths.{known-most}
 use Rattle.table.proofs.Largests.{largests-at, largests-long}
 use Rattle.slices.proofs.Sameness.{same-yes, same-true}
+use Rattle.writing.proofs.Typed.{pad-long, listed-few}
 use Rattle.converting.specs.Forms.{multiples, inForm, withLargest, firstLargest, withGap, hasGap}
 use Rattle.converting.proofs.Multiples.{multiples-long, multiple-at, multiple-past, multiple-none}
 use Rattle.converting.proofs.Gaps.{has-unknown, has-wide, has-even, even-yes, even-each}
 
 module _ {r : Row} (good : GoodRow r) where
-  -- it lists 1 to 8 distances, and its flag is 0 or 1
+  -- it lists a distance, and its flag is 0 or 1
   some : 0 < r .listed
   some = omega (arith, good .listed, good .list .some)
-
-  few : r .listed ≤ maxDistances
-  few = omega (arith, good .listed, good .list .few)
 
   flag-cases : (r .flag ≡ 0) ⊎ (r .flag ≡ 1)
   flag-cases = ⊎-elim (λ h. inl (omega arith)) (λ h. inr (omega (arith, good .flag))) (lt-or-le (r .flag) 1)
@@ -84,7 +82,7 @@ module _ {r : Row} (good : GoodRow r) where
     unfolding known _when_else_
     known-all = rw (ne-eqb (r .gap) 0 (λ z. omega (arith, z, above)))
 
-    largests-all : largests (withLargest r) ≡ made
+    pub largests-all : largests (withLargest r) ≡ made
     largests-all = rw known-all (take-at made (replicate (maxDistances - length made) 0) (r .listed) (multiples-long (r .gap) (r .listed)))
 
     multiples-good : GoodLargests (distances r) made
@@ -93,7 +91,7 @@ module _ {r : Row} (good : GoodRow r) where
         record {
           rises = λ j h. omega (arith, multiple-at (r .gap) (r .listed) j (omega (arith, h, n)), multiple-at (r .gap) (r .listed) (j + 1) (omega (arith, h, n)));
           near = λ j. ⊎-elim
-              (λ h. let l : j + 1 ≤ maxDistances = omega (arith, h, few good) in omega (arith, multiple-at (r .gap) (r .listed) j h, mul-le-mul (good .gap-max) l))
+              (λ h. let l : j + 1 ≤ maxDistances = omega (arith, h, listed-few good) in omega (arith, multiple-at (r .gap) (r .listed) j h, mul-le-mul (good .gap-max) l))
               (λ h. omega (arith, multiple-past (r .gap) (r .listed) j h)) (lt-or-le j (r .listed));
           above = λ j h. let l : j < r .listed = omega (arith, h, n) in omega (arith, multiple-at (r .gap) (r .listed) j l, good .gaps above j l);
         }
@@ -196,6 +194,6 @@ largest-back {r} good form long =
 pub gap-back : {r : Row} → GoodRow r → r .form ≡ largestForm → hasGap r ≡ true → length (r .largest) ≡ maxDistances → withLargest (withGap r) ≡ r
 gap-back {r} good form has long =
     let ms = multiples (firstLargest r) (r .listed) in
-    let n : length (pad maxDistances ms) ≡ maxDistances = rw (length-append, length-replicate, multiples-long) (omega (arith, few good)) in
+    let n = pad-long maxDistances ms (omega (arith, multiples-long (firstLargest r) (r .listed), listed-few good)) in
     same-row r (sym form) (flag-back good form has) (sym (good .gap-form form))
     (ext-getD 0 (pad maxDistances ms) (r .largest) (n ∙ sym long) (λ j h. pad-at maxDistances ms j ∙ place-back good form has j))

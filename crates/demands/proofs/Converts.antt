@@ -12,6 +12,7 @@ use lib.Seq.{take-at, drop-at}
 use Rattle.search.specs.Choice.{_when_else_}
 use Rattle.search.specs.Lists.{All, every}
 use Rattle.search.proofs.Choice.{when-yes, when-no, when-cases}
+use Rattle.search.proofs.Lists.{every-says, every-given, all-after, map-back}
 use Rattle.table.specs.Record.{gapForm, largestForm, formAt, blank}
 use Rattle.table.specs.Find.{rowOf, rows}
 use Rattle.table.specs.Read.{byVerdict, tableOf, readTable}
@@ -43,7 +44,7 @@ use Rattle.converting.specs.declared.To.{To}
 use Rattle.converting.specs.declared.To.the-variants.{Largest, Gap}
 use Rattle.converting.proofs.Goods.{largest-none, place-at, largest-back, gap-back, largest-has, has-says, says-has}
 use Rattle.converting.proofs.Accepted.{together-written}
-use Rattle.converting.proofs.Results.{Given, all-every, every-all, all-after, good, long, row-at, first-form, each, id-kept, Convertible, row-good, from, together, result, result-rows, result-form, unrefused}
+use Rattle.converting.proofs.Results.{Given, good, long, row-at, first-mark, each, id-kept, Convertible, row-good, from, together, result, result-back, result-mark, unrefused}
 use Rattle.demands.specs.Chains.{IsTable, Has, chainNumber, chainOf, othersOf}
 use Rattle.demands.specs.Converts.{tableIn, TableOf, OfGap, Conversions}
 use Rattle.demands.specs.Others.{Unmoved}
@@ -62,10 +63,6 @@ given h = record { bytes = h .bytes; accepted = h .accepted }
 accepted-table : {s : List ℕ} → Given s → IsTable s
 accepted-table g = record { bytes = g .bytes; accepted = g .accepted }
 
-map-back : {A : Type 0} (f g : A → A) (l : List A) → All (λ a. f (g a) ≡ a) l → map f (map g l) ≡ l
-map-back f g [] h = refl
-map-back f g (a ∷ l) h = rw (h .0, map-back f g l (h .1))
-
 -- its largest distance stays, and so does whether it is known
 largest-stays : (to : To) {r : Row} → Convertible to r → (k : ℕ) → largest (converted to r) k ≡ largest r k
 largest-stays Largest c k = largest-kept (c .good) (c .form) k
@@ -83,7 +80,7 @@ module _ (to : To) {s : List ℕ} (h : IsTable s) (other : formAt s 0 ≡ formOf
   converted-table = accepted-table (result to (given h) other have)
 
   converted-rows : rows (tableOf (tableIn to s)) ≡ rowsIn to s
-  converted-rows = result-rows to (given h) other have
+  converted-rows = result-back to (given h) other have
 
   given-room : (room : ℕ) → length (tableIn to s) ≤ room → convertedOf to room s ≡ Used (length (tableIn to s))
   given-room room l = unrefused to (given h) other have room ∙ used-given room (rowsIn to s) (together-written (together to (given h) other have)) l
@@ -196,15 +193,15 @@ always-34 to {s} h room e =
 -- the shape in words
 module _ {s : List ℕ} (x : TableOf largestForm s) where
   in-form : (i : ℕ) → i < tableOf s .count → rowOf (tableOf s) i .form ≡ largestForm
-  in-form i l = good (given (x .table)) .forms i l ∙ sym (first-form (given (x .table))) ∙ x .has
+  in-form i l = good (given (x .table)) .forms i l ∙ sym (first-mark (given (x .table))) ∙ x .has
 
   shaped : every (has Gap) (rows (tableOf s)) ≡ true → All (λ r. (r .flag ≡ 0) ⊎ OfGap r) (rows (tableOf s))
   shaped e = each (given (x .table)) (λ r. (r .flag ≡ 0) ⊎ OfGap r)
-      (λ i l. let h = subst (λ (r : Row). has Gap r ≡ true) (row-at (given (x .table)) i l) (all-at (λ r. has Gap r ≡ true) (rows (tableOf s)) i blank (all-every (has Gap) (rows (tableOf s)) e) (omega (arith, long (given (x .table))))) in
+      (λ i l. let h = subst (λ (r : Row). has Gap r ≡ true) (row-at (given (x .table)) i l) (all-at (λ r. has Gap r ≡ true) (rows (tableOf s)) i blank (every-says (has Gap) (rows (tableOf s)) e) (omega (arith, long (given (x .table))))) in
       ⊎-elim (λ z. inl z) (λ g. inr (record { gap = _; near = g .0; each = g .1 })) (has-says (good (given (x .table)) .row i l) (in-form i l) h))
 
   has-shape : All (λ r. (r .flag ≡ 0) ⊎ OfGap r) (rows (tableOf s)) → every (has Gap) (rows (tableOf s)) ≡ true
-  has-shape a = every-all (has Gap) (rows (tableOf s)) (each (given (x .table)) (λ r. has Gap r ≡ true)
+  has-shape a = every-given (has Gap) (rows (tableOf s)) (each (given (x .table)) (λ r. has Gap r ≡ true)
       (λ i l. let h = subst (λ (r : Row). (r .flag ≡ 0) ⊎ OfGap r) (row-at (given (x .table)) i l) (all-at (λ r. (r .flag ≡ 0) ⊎ OfGap r) (rows (tableOf s)) i blank a (omega (arith, long (given (x .table))))) in
       says-has (good (given (x .table)) .row i l) (in-form i l) (⊎-elim (λ z. inl z) (λ g. inr (g .gap, g .near, g .each)) h)))
 
@@ -217,7 +214,7 @@ module _ {s : List ℕ} (x : TableOf gapForm s) where
   not-largest e = omega (arith, e, x .has)
 
   all-have : every (has Largest) (rows (tableOf s)) ≡ true
-  all-have = every-all (has Largest) (rows (tableOf s)) (each (given (x .table)) (λ r. has Largest r ≡ true) (λ i l. refl))
+  all-have = every-given (has Largest) (rows (tableOf s)) (each (given (x .table)) (λ r. has Largest r ≡ true) (λ i l. refl))
 
   there : (i : ℕ) → i < tableOf s .count → Convertible Largest (rowOf (tableOf s) i)
   there = from Largest (given (x .table)) not-largest all-have
@@ -229,7 +226,7 @@ module _ {s : List ℕ} (x : TableOf gapForm s) where
   far-rows = converted-rows Largest (x .table) not-largest all-have
 
   far-form : TableOf largestForm (tableIn Largest s)
-  far-form = record { table = far; has = result-form Largest (given (x .table)) not-largest all-have }
+  far-form = record { table = far; has = result-mark Largest (given (x .table)) not-largest all-have }
 
   returned : rowsIn Gap (tableIn Largest s) ≡ rows (tableOf s)
   returned = ap (map withGap) far-rows ∙ map-back withGap withLargest (rows (tableOf s))
@@ -240,7 +237,7 @@ module _ {s : List ℕ} (x : TableOf gapForm s) where
 
   back-has : every (has Gap) (rows (tableOf (tableIn Largest s))) ≡ true
   back-has = ap (every (has Gap)) far-rows
-      ∙ every-all (has Gap) _ (all-after (λ r. has Gap r ≡ true) withLargest (rows (tableOf s)) (each (given (x .table)) (λ r. has Gap (withLargest r) ≡ true) (λ i l. largest-has (there i l .good) (there i l .form))))
+      ∙ every-given (has Gap) _ (all-after (λ r. has Gap r ≡ true) withLargest (rows (tableOf s)) (each (given (x .table)) (λ r. has Gap (withLargest r) ≡ true) (λ i l. largest-has (there i l .good) (there i l .form))))
 
   back-answered : (room : ℕ) → length s ≤ room → convertedOf Gap room (tableIn Largest s) ≡ Used (length s)
   back-answered room l =
@@ -251,7 +248,7 @@ conversions = record {
   table = λ {to} {s} {room} {n} c.
       let e = converted-says to (c .table) room n (c .answered) in
       let u = used-says room (rowsIn to s) n (e .2) in
-      (record { table = converted-table to (c .table) (e .0) (e .1); has = result-form to (given (c .table)) (e .0) (e .1) }, u .2, omega (arith, u .1, u .2));
+      (record { table = converted-table to (c .table) (e .0) (e .1); has = result-mark to (given (c .table)) (e .0) (e .1) }, u .2, omega (arith, u .1, u .2));
   written = λ {to} {s} {buffer} {after} {n} c. written-says to s buffer after n c;
   chains = λ {to} {s} {room} {n} c. let e = converted-says to (c .table) room n (c .answered) in converted-rows to (c .table) (e .0) (e .1);
   stays = kept;

@@ -29,7 +29,7 @@ use Rattle.merging.proofs.Promises.{differ-conflict, conflict-differ, found-con
 use Rattle.merging.proofs.Equals.{same-result}
 use Rattle.merging.proofs.Within.{used-length}
 use Rattle.demands.specs.Chains.{IsTable}
-use Rattle.demands.specs.Merges.{AllTables, InConflict, Smallest, MergedInto, Gives, FirstMixed, NoEditLost, SwappedCopies, UnchangedCopies, MergeOfCopies}
+use Rattle.demands.specs.Merges.{AllTables, InConflict, Smallest, MergedInto, FirstMixed, NoEditLost, SwappedCopies, UnchangedCopies, MergeOfCopies}
 use Rattle.demands.proofs.Others.{reordered}
 
 module _ {v : Versions} (e : AllTables v) where

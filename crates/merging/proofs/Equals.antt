@@ -13,7 +13,6 @@ use Rattle.table.specs.Place.{placeOf}
 use Rattle.table.specs.Read.{readTable, tableOf}
 use Rattle.table.specs.declared.Verdict.the-variants.{Accepted}
 use Rattle.table.proofs.Firsts.{or-right}
-use Rattle.table.proofs.Accepted.{taken}
 use Rattle.slices.proofs.Records.{length-records}
 use Rattle.slices.proofs.Ends.{end-stored}
 use Rattle.merging.specs.Versions.{Versions, stateOf, idsOf}

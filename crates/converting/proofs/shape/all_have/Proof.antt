@@ -14,7 +14,7 @@ use Rattle.table.specs.code.Taken.{Stands}
 use Rattle.table.proofs.Standing.{place-none}
 use Rattle.table.proofs.Stands.{row-there, stands, place-next}
 use Rattle.converting.specs.Forms.{has}
-use Rattle.converting.proofs.Walks.{rows-on, rows-end}
+use Rattle.converting.proofs.Walks.{rows-from, rows-end}
 use Rattle.converting.proofs.shape.all_have.Statement.{statement}
 use Rattle.converting.proofs.shape.all_have.Tie as tie
 
@@ -45,7 +45,7 @@ module _ (c : tie.After-has Inv-loop μ-loop) where
   on =
       let l = c .before .before .loop in
       let h = within (c .before) in
-      ap (every (has (start .args .to))) (rows-on (start .pre .good) (l .chain) h)
+      ap (every (has (start .args .to))) (rows-from (start .pre .good) (l .chain) h)
       ∙ ap (λ b. b && left (l .chain + 1)) (ap (has (start .args .to)) (sym (row-there (start .pre) (l .inv .1) h)) ∙ sym (c .has .ensures))
 
   on-no : c .has .result ≡ false → left (c .before .before .loop .chain) ≡ false
