@@ -35,7 +35,7 @@ use Rattle.writing.specs.Write.{writtenOf}
 use Rattle.writing.specs.declared.Written.the-variants.{Used, Refused}
 use Rattle.writing.proofs.Typed.{row-typed}
 use Rattle.writing.proofs.Promises.{table-bytes}
-use Rattle.converting.specs.Forms.{formOf, has, converted}
+use Rattle.converting.specs.Forms.{formOf, fitsForm, converted}
 use Rattle.converting.specs.Convert.{rowsIn, convertedOf, Converts}
 use Rattle.converting.specs.declared.To.{To}
 use Rattle.converting.specs.declared.To.the-variants.{Largest, Gap}
@@ -104,20 +104,20 @@ pub record Convertible (to : To) (r : Row) : Type 0 where
   pub good : GoodRow r
   pub typed : Typed r
   pub form : r .form ≡ source to
-  pub has : has to r ≡ true
+  pub fits : fitsForm to r ≡ true
 
 pub row-good : (to : To) {r : Row} → Convertible to r → GoodRow (converted to r)
 row-good Largest c = largest-good (c .good) (c .form)
-row-good Gap c = gap-good (c .good) (c .form) (c .has)
+row-good Gap c = gap-good (c .good) (c .form) (c .fits)
 
 -- a table that can be converted
-module _ (to : To) {s : List ℕ} (h : Given s) (other : formAt s 0 ≡ formOf to → ⊥) (have : every (has to) (rows (tableOf s)) ≡ true) where
+module _ (to : To) {s : List ℕ} (h : Given s) (other : formAt s 0 ≡ formOf to → ⊥) (fit : every (fitsForm to) (rows (tableOf s)) ≡ true) where
   pub from : (i : ℕ) → i < tableOf s .count → Convertible to (rowOf (tableOf s) i)
   from i l = record {
     good = good h .row i l;
     typed = typed h i l;
     form = from-source to _ (good h .row i l .form) (λ e. other (first-mark h ∙ sym (good h .forms i l) ∙ e));
-    has = subst (λ (r : Row). has to r ≡ true) (row-at h i l) (all-at (λ r. has to r ≡ true) (rows (tableOf s)) i blank (every-says (has to) (rows (tableOf s)) have) (omega (arith, long h)));
+    fits = subst (λ (r : Row). fitsForm to r ≡ true) (row-at h i l) (all-at (λ r. fitsForm to r ≡ true) (rows (tableOf s)) i blank (every-says (fitsForm to) (rows (tableOf s)) fit) (omega (arith, long h)));
   }
 
   abbrev rs : List Row
@@ -162,8 +162,8 @@ module _ (to : To) {s : List ℕ} (h : Given s) (other : formAt s 0 ≡ formOf t
   pub unrefused : (room : ℕ) → convertedOf to room s ≡ writtenOf room rs
   unfolding convertedOf
   unrefused room =
-      ap (λ (v : Verdict). byVerdict Refused v (Refused 34 when eqb (formAt s 0) (formOf to) || not (every (has to) (rows (tableOf s))) else writtenOf room rs)) (h .accepted)
-      ∙ when-no _ _ (rw (ne-eqb _ _ other, have))
+      ap (λ (v : Verdict). byVerdict Refused v (Refused 34 when eqb (formAt s 0) (formOf to) || not (every (fitsForm to) (rows (tableOf s))) else writtenOf room rs)) (h .accepted)
+      ∙ when-no _ _ (rw (ne-eqb _ _ other, fit))
 
   -- the result's length, and what is left where there is room for it and where not
   result-long : length (tableBytes rs) ≡ sumOf lengthOf rs + 4
@@ -190,12 +190,12 @@ module _ (to : To) {s : List ℕ} (h : Given s) (other : formAt s 0 ≡ formOf t
       }
 
 -- 34, of an accepted table
-pub refused-34 : (to : To) (s buffer : List ℕ) → readTable s .verdict ≡ Accepted → (eqb (formAt s 0) (formOf to) || not (every (has to) (rows (tableOf s)))) ≡ true
+pub refused-34 : (to : To) (s buffer : List ℕ) → readTable s .verdict ≡ Accepted → (eqb (formAt s 0) (formOf to) || not (every (fitsForm to) (rows (tableOf s)))) ≡ true
     → Converts to s buffer (Refused 34) buffer
 unfolding convertedOf
 refused-34 to s buffer a e = record {
   answers =
-      sym (ap (λ (v : Verdict). byVerdict Refused v (Refused 34 when eqb (formAt s 0) (formOf to) || not (every (has to) (rows (tableOf s))) else writtenOf (length buffer) (rowsIn to s))) a ∙ when-yes _ _ e);
+      sym (ap (λ (v : Verdict). byVerdict Refused v (Refused 34 when eqb (formAt s 0) (formOf to) || not (every (fitsForm to) (rows (tableOf s))) else writtenOf (length buffer) (rowsIn to s))) a ∙ when-yes _ _ e);
   leaves = sym (when-no _ _ refl);
 }
 
@@ -204,6 +204,6 @@ pub refused-table : (to : To) (s buffer : List ℕ) {n place : ℕ} → readTabl
 unfolding convertedOf
 refused-table to s buffer {n} a some = record {
   answers =
-      sym (ap (λ (v : Verdict). byVerdict Refused v (Refused 34 when eqb (formAt s 0) (formOf to) || not (every (has to) (rows (tableOf s))) else writtenOf (length buffer) (rowsIn to s))) a);
+      sym (ap (λ (v : Verdict). byVerdict Refused v (Refused 34 when eqb (formAt s 0) (formOf to) || not (every (fitsForm to) (rows (tableOf s))) else writtenOf (length buffer) (rowsIn to s))) a);
   leaves = sym (when-no _ _ (ne-eqb n 0 (λ z. omega (arith, z, some))));
 }

@@ -38,11 +38,11 @@ use Rattle.writing.specs.Write.{writtenOf}
 use Rattle.writing.specs.declared.Written.{Written}
 use Rattle.writing.specs.declared.Written.the-variants.{Used, Refused}
 use Rattle.writing.proofs.Again.{table-again}
-use Rattle.converting.specs.Forms.{inForm, formOf, has, converted, withLargest, withGap}
+use Rattle.converting.specs.Forms.{inForm, formOf, fitsForm, converted, withLargest, withGap}
 use Rattle.converting.specs.Convert.{rowsIn, convertedOf, Converts}
 use Rattle.converting.specs.declared.To.{To}
 use Rattle.converting.specs.declared.To.the-variants.{Largest, Gap}
-use Rattle.converting.proofs.Goods.{largest-none, place-at, largest-back, gap-back, largest-has, has-says, says-has}
+use Rattle.converting.proofs.Goods.{largest-none, place-at, largest-back, gap-back, largest-fits, fits-says, fits-given}
 use Rattle.converting.proofs.Accepted.{together-written}
 use Rattle.converting.proofs.Results.{Given, good, long, row-at, first-mark, each, id-kept, Convertible, row-good, from, together, result, result-back, result-mark, unrefused}
 use Rattle.demands.specs.Chains.{IsTable, Has, chainNumber, chainOf, othersOf}
@@ -67,25 +67,25 @@ accepted-table g = record { bytes = g .bytes; accepted = g .accepted }
 largest-stays : (to : To) {r : Row} → Convertible to r → (k : ℕ) → largest (converted to r) k ≡ largest r k
 largest-stays Largest c k = largest-kept (c .good) (c .form) k
 largest-stays Gap {r} c k =
-    sym (ap (λ (x : Row). largest x k) (sym (gap-back (c .good) (c .form) (c .has) (c .typed .largest-places))) ∙ largest-kept (row-good Gap c) refl k)
+    sym (ap (λ (x : Row). largest x k) (sym (gap-back (c .good) (c .form) (c .fits) (c .typed .largest-places))) ∙ largest-kept (row-good Gap c) refl k)
 
 unknown-stays : (to : To) {r : Row} → Convertible to r → unknown (converted to r) ≡ unknown r
 unknown-stays Largest c = unknown-kept (c .good) (c .form)
 unknown-stays Gap {r} c =
-    sym (ap unknown (sym (gap-back (c .good) (c .form) (c .has) (c .typed .largest-places))) ∙ unknown-kept (row-good Gap c) refl)
+    sym (ap unknown (sym (gap-back (c .good) (c .form) (c .fits) (c .typed .largest-places))) ∙ unknown-kept (row-good Gap c) refl)
 
 -- a table that can be converted
-module _ (to : To) {s : List ℕ} (h : IsTable s) (other : formAt s 0 ≡ formOf to → ⊥) (have : every (has to) (rows (tableOf s)) ≡ true) where
+module _ (to : To) {s : List ℕ} (h : IsTable s) (other : formAt s 0 ≡ formOf to → ⊥) (fit : every (fitsForm to) (rows (tableOf s)) ≡ true) where
   converted-table : IsTable (tableIn to s)
-  converted-table = accepted-table (result to (given h) other have)
+  converted-table = accepted-table (result to (given h) other fit)
 
   converted-rows : rows (tableOf (tableIn to s)) ≡ rowsIn to s
-  converted-rows = result-back to (given h) other have
+  converted-rows = result-back to (given h) other fit
 
   given-room : (room : ℕ) → length (tableIn to s) ≤ room → convertedOf to room s ≡ Used (length (tableIn to s))
-  given-room room l = unrefused to (given h) other have room ∙ used-given room (rowsIn to s) (together-written (together to (given h) other have)) l
+  given-room room l = unrefused to (given h) other fit room ∙ used-given room (rowsIn to s) (together-written (together to (given h) other fit)) l
 
-  -- its chains have the same ids, in the same order
+  -- its chains fit the same ids, in the same order
   same-ids : idsOf s ≡ idsOf (tableIn to s)
   same-ids = let ids : Row → ℕ = λ r. r .id in
       sym (ap (map ids) converted-rows ∙ map-map ids (converted to) (rows (tableOf s)) ∙ map-alike (λ r. ids (converted to r)) ids (id-kept to) (rows (tableOf s)))
@@ -111,7 +111,7 @@ module _ (to : To) {s : List ℕ} (h : IsTable s) (other : formAt s 0 ≡ formOf
       b = chainOf s id
 
       own-row : Convertible to b
-      own-row = from to (given h) other have (chainNumber s id) (own .there)
+      own-row = from to (given h) other fit (chainNumber s id) (own .there)
 
       own-has : Has (tableIn to s) id
       own-has = step-has h converted-table (converted to) (id-kept to) converted-rows id own
@@ -161,7 +161,7 @@ unfolding convertedOf
 used-written to s room n = by (readTable s .verdict)
   where
     wrong : Bool
-    wrong = eqb (formAt s 0) (formOf to) || not (every (has to) (rows (tableOf s)))
+    wrong = eqb (formAt s 0) (formOf to) || not (every (fitsForm to) (rows (tableOf s)))
 
     by : (v : Verdict) → byVerdict Refused v (Refused 34 when wrong else writtenOf room (rowsIn to s)) ≡ Used n → writtenOf room (rowsIn to s) ≡ Used n
     by Accepted = when-cases (λ (w : Written). w ≡ Used n → writtenOf room (rowsIn to s) ≡ Used n) wrong (λ b f. absurd (let z : _≡_ {A = ℕ} 0 1 = cc in omega arith)) (λ b f. f)
@@ -169,25 +169,25 @@ used-written to s room n = by (readTable s .verdict)
 
 -- what an accepted conversion says
 converted-says : (to : To) {s : List ℕ} → IsTable s → (room n : ℕ) → convertedOf to room s ≡ Used n
-    → (formAt s 0 ≡ formOf to → ⊥) × (every (has to) (rows (tableOf s)) ≡ true) × (writtenOf room (rowsIn to s) ≡ Used n)
+    → (formAt s 0 ≡ formOf to → ⊥) × (every (fitsForm to) (rows (tableOf s)) ≡ true) × (writtenOf room (rowsIn to s) ≡ Used n)
 unfolding convertedOf
 converted-says to {s} h room n e =
-    when-cases (λ (w : Written). w ≡ Used n → (formAt s 0 ≡ formOf to → ⊥) × (every (has to) (rows (tableOf s)) ≡ true) × (writtenOf room (rowsIn to s) ≡ Used n))
-    (eqb (formAt s 0) (formOf to) || not (every (has to) (rows (tableOf s))))
+    when-cases (λ (w : Written). w ≡ Used n → (formAt s 0 ≡ formOf to → ⊥) × (every (fitsForm to) (rows (tableOf s)) ≡ true) × (writtenOf room (rowsIn to s) ≡ Used n))
+    (eqb (formAt s 0) (formOf to) || not (every (fitsForm to) (rows (tableOf s))))
     (λ b f. absurd (let z : _≡_ {A = ℕ} 0 1 = cc in omega arith))
     (λ b f. let c = none-or (eqb (formAt s 0) (formOf to)) _ b in (eqb-false _ _ (c .0), not-false _ (c .1), f))
-    (sym (ap (λ (v : Verdict). byVerdict Refused v (Refused 34 when eqb (formAt s 0) (formOf to) || not (every (has to) (rows (tableOf s))) else writtenOf room (rowsIn to s))) (h .accepted)) ∙ e)
+    (sym (ap (λ (v : Verdict). byVerdict Refused v (Refused 34 when eqb (formAt s 0) (formOf to) || not (every (fitsForm to) (rows (tableOf s))) else writtenOf room (rowsIn to s))) (h .accepted)) ∙ e)
 
 -- a refused table keeps its number
 own-number : (to : To) (s : List ℕ) {n place : ℕ} → readTable s .verdict ≡ Faulty n place → (room : ℕ) → convertedOf to room s ≡ Refused n
 unfolding convertedOf
-own-number to s e room = ap (λ (v : Verdict). byVerdict Refused v (Refused 34 when eqb (formAt s 0) (formOf to) || not (every (has to) (rows (tableOf s))) else writtenOf room (rowsIn to s))) e
+own-number to s e room = ap (λ (v : Verdict). byVerdict Refused v (Refused 34 when eqb (formAt s 0) (formOf to) || not (every (fitsForm to) (rows (tableOf s))) else writtenOf room (rowsIn to s))) e
 
 -- 34
-always-34 : (to : To) {s : List ℕ} → IsTable s → (room : ℕ) → (eqb (formAt s 0) (formOf to) || not (every (has to) (rows (tableOf s)))) ≡ true → convertedOf to room s ≡ Refused 34
+always-34 : (to : To) {s : List ℕ} → IsTable s → (room : ℕ) → (eqb (formAt s 0) (formOf to) || not (every (fitsForm to) (rows (tableOf s)))) ≡ true → convertedOf to room s ≡ Refused 34
 unfolding convertedOf
 always-34 to {s} h room e =
-    ap (λ (v : Verdict). byVerdict Refused v (Refused 34 when eqb (formAt s 0) (formOf to) || not (every (has to) (rows (tableOf s))) else writtenOf room (rowsIn to s))) (h .accepted)
+    ap (λ (v : Verdict). byVerdict Refused v (Refused 34 when eqb (formAt s 0) (formOf to) || not (every (fitsForm to) (rows (tableOf s))) else writtenOf room (rowsIn to s))) (h .accepted)
     ∙ when-yes _ _ e
 
 -- the shape in words
@@ -195,15 +195,15 @@ module _ {s : List ℕ} (x : TableOf largestForm s) where
   in-form : (i : ℕ) → i < tableOf s .count → rowOf (tableOf s) i .form ≡ largestForm
   in-form i l = good (given (x .table)) .forms i l ∙ sym (first-mark (given (x .table))) ∙ x .has
 
-  shaped : every (has Gap) (rows (tableOf s)) ≡ true → All (λ r. (r .flag ≡ 0) ⊎ OfGap r) (rows (tableOf s))
+  shaped : every (fitsForm Gap) (rows (tableOf s)) ≡ true → All (λ r. (r .flag ≡ 0) ⊎ OfGap r) (rows (tableOf s))
   shaped e = each (given (x .table)) (λ r. (r .flag ≡ 0) ⊎ OfGap r)
-      (λ i l. let h = subst (λ (r : Row). has Gap r ≡ true) (row-at (given (x .table)) i l) (all-at (λ r. has Gap r ≡ true) (rows (tableOf s)) i blank (every-says (has Gap) (rows (tableOf s)) e) (omega (arith, long (given (x .table))))) in
-      ⊎-elim (λ z. inl z) (λ g. inr (record { gap = _; near = g .0; each = g .1 })) (has-says (good (given (x .table)) .row i l) (in-form i l) h))
+      (λ i l. let h = subst (λ (r : Row). fitsForm Gap r ≡ true) (row-at (given (x .table)) i l) (all-at (λ r. fitsForm Gap r ≡ true) (rows (tableOf s)) i blank (every-says (fitsForm Gap) (rows (tableOf s)) e) (omega (arith, long (given (x .table))))) in
+      ⊎-elim (λ z. inl z) (λ g. inr (record { gap = _; near = g .0; each = g .1 })) (fits-says (good (given (x .table)) .row i l) (in-form i l) h))
 
-  has-shape : All (λ r. (r .flag ≡ 0) ⊎ OfGap r) (rows (tableOf s)) → every (has Gap) (rows (tableOf s)) ≡ true
-  has-shape a = every-given (has Gap) (rows (tableOf s)) (each (given (x .table)) (λ r. has Gap r ≡ true)
+  shape-fits : All (λ r. (r .flag ≡ 0) ⊎ OfGap r) (rows (tableOf s)) → every (fitsForm Gap) (rows (tableOf s)) ≡ true
+  shape-fits a = every-given (fitsForm Gap) (rows (tableOf s)) (each (given (x .table)) (λ r. fitsForm Gap r ≡ true)
       (λ i l. let h = subst (λ (r : Row). (r .flag ≡ 0) ⊎ OfGap r) (row-at (given (x .table)) i l) (all-at (λ r. (r .flag ≡ 0) ⊎ OfGap r) (rows (tableOf s)) i blank a (omega (arith, long (given (x .table))))) in
-      says-has (good (given (x .table)) .row i l) (in-form i l) (⊎-elim (λ z. inl z) (λ g. inr (g .gap, g .near, g .each)) h)))
+      fits-given (good (given (x .table)) .row i l) (in-form i l) (⊎-elim (λ z. inl z) (λ g. inr (g .gap, g .near, g .each)) h)))
 
   not-gap : formAt s 0 ≡ gapForm → ⊥
   not-gap e = omega (arith, e, x .has)
@@ -213,20 +213,20 @@ module _ {s : List ℕ} (x : TableOf gapForm s) where
   not-largest : formAt s 0 ≡ largestForm → ⊥
   not-largest e = omega (arith, e, x .has)
 
-  all-have : every (has Largest) (rows (tableOf s)) ≡ true
-  all-have = every-given (has Largest) (rows (tableOf s)) (each (given (x .table)) (λ r. has Largest r ≡ true) (λ i l. refl))
+  all-fit : every (fitsForm Largest) (rows (tableOf s)) ≡ true
+  all-fit = every-given (fitsForm Largest) (rows (tableOf s)) (each (given (x .table)) (λ r. fitsForm Largest r ≡ true) (λ i l. refl))
 
   there : (i : ℕ) → i < tableOf s .count → Convertible Largest (rowOf (tableOf s) i)
-  there = from Largest (given (x .table)) not-largest all-have
+  there = from Largest (given (x .table)) not-largest all-fit
 
   far : IsTable (tableIn Largest s)
-  far = converted-table Largest (x .table) not-largest all-have
+  far = converted-table Largest (x .table) not-largest all-fit
 
   far-rows : rows (tableOf (tableIn Largest s)) ≡ map withLargest (rows (tableOf s))
-  far-rows = converted-rows Largest (x .table) not-largest all-have
+  far-rows = converted-rows Largest (x .table) not-largest all-fit
 
   far-form : TableOf largestForm (tableIn Largest s)
-  far-form = record { table = far; has = result-mark Largest (given (x .table)) not-largest all-have }
+  far-form = record { table = far; has = result-mark Largest (given (x .table)) not-largest all-fit }
 
   returned : rowsIn Gap (tableIn Largest s) ≡ rows (tableOf s)
   returned = ap (map withGap) far-rows ∙ map-back withGap withLargest (rows (tableOf s))
@@ -235,13 +235,13 @@ module _ {s : List ℕ} (x : TableOf gapForm s) where
   old-bytes : tableIn Gap (tableIn Largest s) ≡ s
   old-bytes = ap tableBytes returned ∙ table-again s (x .table .bytes) (x .table .accepted)
 
-  back-has : every (has Gap) (rows (tableOf (tableIn Largest s))) ≡ true
-  back-has = ap (every (has Gap)) far-rows
-      ∙ every-given (has Gap) _ (all-after (λ r. has Gap r ≡ true) withLargest (rows (tableOf s)) (each (given (x .table)) (λ r. has Gap (withLargest r) ≡ true) (λ i l. largest-has (there i l .good) (there i l .form))))
+  back-fits : every (fitsForm Gap) (rows (tableOf (tableIn Largest s))) ≡ true
+  back-fits = ap (every (fitsForm Gap)) far-rows
+      ∙ every-given (fitsForm Gap) _ (all-after (λ r. fitsForm Gap r ≡ true) withLargest (rows (tableOf s)) (each (given (x .table)) (λ r. fitsForm Gap (withLargest r) ≡ true) (λ i l. largest-fits (there i l .good) (there i l .form))))
 
   back-answered : (room : ℕ) → length s ≤ room → convertedOf Gap room (tableIn Largest s) ≡ Used (length s)
   back-answered room l =
-      given-room Gap far (not-gap far-form) back-has room (omega (arith, ap length old-bytes, l)) ∙ ap (λ (b : List ℕ). Used (length b)) old-bytes
+      given-room Gap far (not-gap far-form) back-fits room (omega (arith, ap length old-bytes, l)) ∙ ap (λ (b : List ℕ). Used (length b)) old-bytes
 
 pub conversions : Conversions
 conversions = record {
@@ -258,13 +258,13 @@ conversions = record {
   none-becomes = λ {s} x. each (given (x .table)) (λ r. r .flag ≡ 0 → withGap r .gap ≡ 0) (λ i l e. largest-none (good (given (x .table)) .row i l) e 0);
   figures = λ {to} {s} {room} {n} c id. let e = converted-says to (c .table) room n (c .answered) in unmoved to (c .table) (e .0) (e .1) id;
   at-most = λ {to} {s} {room} {n} c id k. let e = converted-says to (c .table) room n (c .answered) in sieve-stays to (c .table) (e .0) (e .1) id k;
-  to-largest = λ x room l. given-room Largest (x .table) (not-largest x) (all-have x) room l;
+  to-largest = λ x room l. given-room Largest (x .table) (not-largest x) (all-fit x) room l;
   to-gap = λ {s} x room l. (
     λ e. shaped x (converted-says Gap (x .table) room _ e .1),
-    λ a. given-room Gap (x .table) (not-gap x) (has-shape x a) room l,
+    λ a. given-room Gap (x .table) (not-gap x) (shape-fits x a) room l,
   );
   refused = own-number;
-  no-gap = λ {s} x none room. always-34 Gap (x .table) room (or-right (eqb (formAt s 0) gapForm) _ (ap not (not-every (every (has Gap) (rows (tableOf s))) (λ e. none (shaped x e)))));
+  no-gap = λ {s} x none room. always-34 Gap (x .table) room (or-right (eqb (formAt s 0) gapForm) _ (ap not (not-every (every (fitsForm Gap) (rows (tableOf s))) (λ e. none (shaped x e)))));
   already = λ to {s} x room. always-34 to (x .table) room (or-left _ _ (eq-eqb _ _ (x .has)));
   no-room = λ {to} {s} {room} {n} c less l.
       let e = converted-says to (c .table) room n (c .answered) in
@@ -275,7 +275,7 @@ conversions = record {
       let e = converted-says Gap (c .table) room n (c .answered) in
       let f = from Gap (given (c .table)) (e .0) (e .1) in
       ap tableBytes (ap (map withLargest) (converted-rows Gap (c .table) (e .0) (e .1))
-      ∙ map-back withLargest withGap (rows (tableOf s)) (each (given (c .table)) (λ r. withLargest (withGap r) ≡ r) (λ i l. gap-back (f i l .good) (f i l .form) (f i l .has) (f i l .typed .largest-places))))
+      ∙ map-back withLargest withGap (rows (tableOf s)) (each (given (c .table)) (λ r. withLargest (withGap r) ≡ r) (λ i l. gap-back (f i l .good) (f i l .form) (f i l .fits) (f i l .typed .largest-places))))
       ∙ table-again s (c .table .bytes) (c .table .accepted);
   merged = λ {to} {s} {room} {n} c.
       let e = converted-says to (c .table) room n (c .answered) in

@@ -1,15 +1,13 @@
 -- The rows of an accepted table are of their fields' widths, and have 0 wherever nothing counts. Assumes nothing.
-use Prim.Native.Nat.{ℕ, zero, suc, _+_, _-_, _<_, _≤_}
+use Prim.Native.Nat.{ℕ, _+_, _-_, _<_, _≤_}
 use native.Mathlib.Omega.{arith}
-use native.Mathlib.Nat.{mul-le-mul}
-use mathlib.Core.Path.{_≡_, refl, sym, _∙_}
+use mathlib.Core.Path.{_≡_, sym, _∙_}
 use mathlib.Core.List.{List}
 use mathlib.Core.Logic.{⊎-elim}
 use lib.ListN.{length, getD, take, replicate, length-append, length-replicate, List·getD-eq-default}
 use lib.Seq.{ext-getD, getD-take, length-take-le}
-use lib.Dec.{eqb}
 use borrow.Author.Tests.{eq-eqb, ne-eqb}
-use Rattle.search.proofs.Choice.{when-cases, when-yes, when-no, lt-or-le}
+use Rattle.search.proofs.Choice.{when-yes, when-no, lt-or-le}
 use Rattle.table.specs.Limits.{maxDistances, maxTasks}
 use Rattle.table.specs.Bytes.{word, Bytes}
 use Rattle.table.specs.Record.{largestForm, formAt, flagAt, listedAt, tasksAt, listPlace, knownAt, largestPlace, firstTask, distancesAt, largestsAt, priorityAt, costAt, prioritiesAt, costsAt, spaced, pad, rowAt, knownOf}
