@@ -1,5 +1,5 @@
 -- Good rows of one form, no two with one id, are written as an accepted table, and read back as they are. Assumes nothing.
-use Prim.Native.Nat.{ℕ, suc, _+_, _*_, _<_, _≤_}
+use Prim.Native.Nat.{ℕ, _+_, _*_, _<_, _≤_}
 use native.Mathlib.Omega.{arith}
 use mathlib.Core.Path.{_≡_, refl, ap, sym, subst, _∙_}
 use mathlib.Core.List.{List, [], _∷_, map, flatten}
@@ -10,6 +10,7 @@ use Rattle.search.specs.Choice.{_when_else_}
 use lib.Dec.{eqb, ltb}
 use Rattle.search.specs.Lists.{sumOf, All}
 use Rattle.search.proofs.Choice.{when-cases}
+use Rattle.search.proofs.Lists.{all-of}
 use Rattle.table.specs.Limits.{maxChains, maxAllTasks}
 use Rattle.table.specs.Bytes.{word}
 use Rattle.table.specs.Record.{gapForm, largestForm, blank, idAt, tasksAt, firstTask, rowAt, endRecord}
@@ -24,18 +25,19 @@ use Rattle.table.specs.declared.Verdict.{Verdict}
 use Rattle.table.specs.declared.Verdict.the-variants.{Accepted, Refused}
 use Rattle.table.proofs.Firsts.{not-accepted}
 use Rattle.table.proofs.Words.{end-length, end-mark-word, end-count}
+use Rattle.table.proofs.Widths.{limit-largest, limit-least}
 use Rattle.table.proofs.Stands.{tasks-there}
 use Rattle.slices.specs.Stored.{formIn}
 use Rattle.slices.proofs.Parts.{Whole, Parts, all-at, map-at}
-use Rattle.slices.proofs.Sound.{Sound, NoTable, tasksIn, tasks-first, limit-least, no-table}
+use Rattle.slices.proofs.Sound.{Sound, NoTable, tasksIn, tasks-first, no-table}
 use Rattle.writing.specs.Rows.{isForm, rowBytes, tableBytes, cleared, Typed}
 use Rattle.writing.specs.Write.{verdictOn}
 use Rattle.writing.proofs.Fields.{Stored}
 use Rattle.writing.proofs.Pieces.{row-length}
-use Rattle.writing.proofs.Forms.{form-or, gap-record, any-record, limit-largest}
+use Rattle.writing.proofs.Forms.{form-or, gap-record, any-record}
 use Rattle.writing.proofs.Judging.{Counts}
 use Rattle.writing.proofs.Promises.{row-stored, row-whole, row-back, read-back}
-use Rattle.converting.proofs.Typed.{cleared-good}
+use Rattle.writing.proofs.Typed.{cleared-good}
 
 -- rows that a table can have
 pub record Together (rs : List Row) : Type 0 where
@@ -124,16 +126,12 @@ module _ {rs : List Row} (t : Together rs) where
   form-here i h = here i h .form ∙ t .forms i h
 
   -- within the limit of their form
-  none-largest : (l : List Row) → ((i : ℕ) → i < length l → getD l i blank .form ≡ largestForm → ⊥) → All (λ r. r .form ≡ largestForm → ⊥) l
-  none-largest [] h = tt
-  none-largest (r ∷ l) h = (h 0 (omega arith), none-largest l (λ i k. h (suc i) (omega arith)))
-
   within : limitOf (formIn records 0) < length (flatten records) + 4 → ⊥
   within l =
       let first = form-here 0 (omega (arith, t .some)) in
       ⊎-elim
       (λ e. omega (arith, l, limit-largest (formIn records 0) (first ∙ e), all-long rs (t .good) (t .typed), t .few, t .tasks))
-      (λ h. omega (arith, l, limit-least (formIn records 0), all-short rs (t .good) (t .typed) (none-largest rs (λ i k e. h (sym (t .forms i k) ∙ e))), t .few, t .tasks))
+      (λ h. omega (arith, l, limit-least (formIn records 0), all-short rs (t .good) (t .typed) (all-of (λ r. r .form ≡ largestForm → ⊥) blank rs (λ i k e. h (sym (t .forms i k) ∙ e))), t .few, t .tasks))
       (form-or (row 0 .form))
 
   none-wrong : {n : ℕ} → NoTable records n → ⊥

@@ -1,4 +1,4 @@
--- Whether a chain has a gap: by its flag, its first largest distance and the others, in the code's shape. Assumes nothing.
+-- Whether a chain can be said with a gap: by its flag, its first largest distance and the others, in the code's shape. Assumes nothing.
 use Prim.Native.Nat.{ℕ, _+_, _*_, _<_, _≤_}
 use native.Mathlib.Omega.{arith}
 use mathlib.Core.Path.{_≡_, ap, sym, _∙_}
@@ -15,33 +15,33 @@ use Rattle.table.specs.declared.Row.{Row}
 use Rattle.table.proofs.Forms.{known-yes}
 use Rattle.table.proofs.Largests.{largests-long, largests-at}
 use Rattle.slices.specs.Slices.{same}
-use Rattle.converting.specs.Forms.{multiples, firstLargest, hasGap}
+use Rattle.converting.specs.Forms.{multiples, firstLargest, fitsGap}
 use Rattle.converting.proofs.Multiples.{multiples-long, multiple-at}
 
 module _ (r : Row) where
-  pub has-unknown : r .flag ≡ 0 → hasGap r ≡ true
-  unfolding hasGap
-  has-unknown e = rw (eq-eqb _ _ e)
+  pub fits-unknown : r .flag ≡ 0 → fitsGap r ≡ true
+  unfolding fitsGap
+  fits-unknown e = rw (eq-eqb _ _ e)
 
   module _ (known : r .flag ≡ 0 → ⊥) where
-    pub has-wide : maxGap < firstLargest r → hasGap r ≡ false
-    unfolding hasGap
-    has-wide h = rw (ne-eqb _ _ known, lt-ltb _ _ h)
+    pub fits-wide : maxGap < firstLargest r → fitsGap r ≡ false
+    unfolding fitsGap
+    fits-wide h = rw (ne-eqb _ _ known, lt-ltb _ _ h)
 
-    pub has-even : firstLargest r ≤ maxGap → hasGap r ≡ same (largests r) (multiples (firstLargest r) (r .listed))
-    unfolding hasGap
-    has-even h = rw (ne-eqb _ _ known, le-ltb _ _ h)
+    pub fits-multiples : firstLargest r ≤ maxGap → fitsGap r ≡ same (largests r) (multiples (firstLargest r) (r .listed))
+    unfolding fitsGap
+    fits-multiples h = rw (ne-eqb _ _ known, le-ltb _ _ h)
 
 -- a row's largest distances are multiples exactly where each is
 module _ {r : Row} (good : GoodRow r) (known : r .flag ≡ 1) where
-  pub even-yes : ((j : ℕ) → j < r .listed → getD (r .largest) j 0 ≡ firstLargest r * (j + 1)) → largests r ≡ multiples (firstLargest r) (r .listed)
-  even-yes each =
+  pub multiples-yes : ((j : ℕ) → j < r .listed → getD (r .largest) j 0 ≡ firstLargest r * (j + 1)) → largests r ≡ multiples (firstLargest r) (r .listed)
+  multiples-yes each =
       let n = largests-long good known in
       ext-getD 0 (largests r) (multiples (firstLargest r) (r .listed)) (n ∙ sym (multiples-long (firstLargest r) (r .listed)))
       (λ j h. let l : j < r .listed = omega (arith, h, n) in largests-at good j ∙ each j l ∙ sym (multiple-at (firstLargest r) (r .listed) j l))
 
-  pub even-each : largests r ≡ multiples (firstLargest r) (r .listed) → (j : ℕ) → j < r .listed → getD (r .largest) j 0 ≡ firstLargest r * (j + 1)
-  even-each e j h = sym (largests-at good j) ∙ ap (λ l. getD l j 0) e ∙ multiple-at (firstLargest r) (r .listed) j h
+  pub multiples-each : largests r ≡ multiples (firstLargest r) (r .listed) → (j : ℕ) → j < r .listed → getD (r .largest) j 0 ≡ firstLargest r * (j + 1)
+  multiples-each e j h = sym (largests-at good j) ∙ ap (λ l. getD l j 0) e ∙ multiple-at (firstLargest r) (r .listed) j h
 
 -- a record that stands with flag 1 has as many largest distances as smallest, and one at least
 pub known-there : {s : List ℕ} {at : ℕ} → Stands s at → flagAt s at ≡ 1 → (knownAt s at ≡ listedAt s at) × (0 < listedAt s at) × (listedAt s at ≤ maxDistances)

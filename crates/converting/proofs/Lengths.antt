@@ -19,7 +19,7 @@ use Rattle.table.proofs.Widths.{width-most, known-most}
 use Rattle.converting.specs.Forms.{withLargest, withGap, converted}
 use Rattle.converting.specs.declared.To.{To}
 use Rattle.converting.specs.declared.To.the-variants.{Largest, Gap}
-use Rattle.converting.proofs.Walks.{rows-on, rows-end}
+use Rattle.converting.proofs.Walks.{rows-from, rows-end}
 
 -- one record, in the code's shape
 module _ (r : Row) where
@@ -49,7 +49,7 @@ module _ {t : Table} (good : GoodTable t) where
   unfolding sumOf
   rest-most to zero chain e = rw (rows-end good chain (omega arith)) (omega arith)
   rest-most to (suc left) chain e =
-      rw (rows-on good chain (omega arith))
+      rw (rows-from good chain (omega arith))
       (omega (arith, converted-most to (good .row chain (omega arith)), rest-most to left (chain + 1) (omega arith)))
 
   pub lengths-most : (to : To) → sumOf lengthOf (map (converted to) (rows t)) ≤ longestRecord * maxChains

@@ -1,8 +1,8 @@
 -- A table that can be converted: its rows, the table that they make, and what each way the code ends answers. Assumes nothing.
-use Prim.Native.Nat.{ℕ, suc, _+_, _<_, _≤_}
+use Prim.Native.Nat.{ℕ, _+_, _<_, _≤_}
 use mathlib.Core.Path.{_≡_, refl, ap, sym, subst, _∙_}
-use mathlib.Core.Bool.{Bool, true, false, not, _&&_, _||_}
-use mathlib.Core.List.{List, [], _∷_, _++_, map, flatten}
+use mathlib.Core.Bool.{true, not, _||_}
+use mathlib.Core.List.{List, _++_, map, flatten}
 use mathlib.Core.Logic.{_⊎_, ⊎-elim}
 use native.Mathlib.Omega.{arith}
 use lib.Dec.{eqb, ltb}
@@ -11,8 +11,8 @@ use lib.Seq.{getD-take, length-take-le}
 use borrow.Author.Tests.{ne-eqb, lt-ltb, le-ltb}
 use Rattle.search.specs.Choice.{_when_else_}
 use Rattle.search.specs.Lists.{sumOf, All, every}
-use Rattle.search.proofs.Choice.{when-yes, when-no, true-not-false}
-use Rattle.search.proofs.Lists.{sum-ext, sum-map}
+use Rattle.search.proofs.Choice.{when-yes, when-no}
+use Rattle.search.proofs.Lists.{all-of, every-says, all-after, sum-ext, sum-map}
 use Rattle.table.specs.Bytes.{Bytes}
 use Rattle.table.specs.Record.{gapForm, largestForm, formAt, blank, rowAt, endRecord}
 use Rattle.table.specs.Find.{rowOf, rows}
@@ -33,12 +33,13 @@ use Rattle.slices.proofs.Writes.{wrote-on, wrote-put}
 use Rattle.writing.specs.Rows.{rowBytes, tableBytes, Typed}
 use Rattle.writing.specs.Write.{writtenOf}
 use Rattle.writing.specs.declared.Written.the-variants.{Used, Refused}
+use Rattle.writing.proofs.Typed.{row-typed}
 use Rattle.writing.proofs.Promises.{table-bytes}
-use Rattle.converting.specs.Forms.{formOf, has, converted}
+use Rattle.converting.specs.Forms.{formOf, fitsForm, converted}
 use Rattle.converting.specs.Convert.{rowsIn, convertedOf, Converts}
 use Rattle.converting.specs.declared.To.{To}
 use Rattle.converting.specs.declared.To.the-variants.{Largest, Gap}
-use Rattle.converting.proofs.Typed.{row-typed, converted-typed}
+use Rattle.converting.proofs.Typed.{converted-typed}
 use Rattle.converting.proofs.Goods.{largest-good, gap-good}
 use Rattle.converting.proofs.Accepted.{Together, together-accepted, together-written, together-back}
 use Rattle.converting.proofs.Puts.{records-sum}
@@ -47,29 +48,6 @@ use Rattle.converting.proofs.Puts.{records-sum}
 pub record Given (s : List ℕ) : Type 0 where
   pub bytes : Bytes s
   pub accepted : readTable s .verdict ≡ Accepted
-
--- lists
-all-of : {A : Type 0} (P : A → Type 0) (d : A) (l : List A) → ((i : ℕ) → i < length l → P (getD l i d)) → All P l
-all-of P d [] h = tt
-all-of P d (a ∷ l) h = (h 0 (omega arith), all-of P d l (λ i k. h (suc i) (omega arith)))
-
-both-true : (a b : Bool) → (a && b) ≡ true → (a ≡ true) × (b ≡ true)
-both-true true b e = (refl, e)
-both-true false b e = absurd (true-not-false e refl)
-
-pub all-every : {A : Type 0} (p : A → Bool) (l : List A) → every p l ≡ true → All (λ a. p a ≡ true) l
-unfolding every
-all-every p [] e = tt
-all-every p (a ∷ l) e = let b = both-true (p a) (every p l) e in (b .0, all-every p l (b .1))
-
-pub every-all : {A : Type 0} (p : A → Bool) (l : List A) → All (λ a. p a ≡ true) l → every p l ≡ true
-unfolding every
-every-all p [] h = refl
-every-all p (a ∷ l) h = rw (h .0, every-all p l (h .1))
-
-pub all-after : {A : Type 0} (P : A → Type 0) (f : A → A) (l : List A) → All (λ a. P (f a)) l → All P (map f l)
-all-after P f [] h = tt
-all-after P f (a ∷ l) h = (h .0, all-after P f l (h .1))
 
 -- a table's rows: each good, of its fields' widths, and of the first one's form, which is the first mark
 module _ {s : List ℕ} (h : Given s) where
@@ -91,9 +69,9 @@ module _ {s : List ℕ} (h : Given s) where
   pub typed : (i : ℕ) → i < t .count → Typed (rowOf t i)
   typed i l = subst Typed (makes i l) (row-typed s (placeOf t i) (h .bytes) (subst GoodRow (sym (makes i l)) (good .row i l)))
 
-  pub first-form : formAt s 0 ≡ rowOf t 0 .form
+  pub first-mark : formAt s 0 ≡ rowOf t 0 .form
   unfolding rowAt
-  first-form = ap (formAt s) (place-none t) ∙ ap (λ (r : Row). r .form) (makes 0 (good .some))
+  first-mark = ap (formAt s) (place-none t) ∙ ap (λ (r : Row). r .form) (makes 0 (good .some))
 
   -- what holds of each row by its number
   pub each : (P : Row → Type 0) → ((i : ℕ) → i < t .count → P (rowOf t i)) → All P (rows t)
@@ -107,10 +85,6 @@ source Gap = largestForm
 from-source : (to : To) (f : ℕ) → (f ≡ gapForm) ⊎ (f ≡ largestForm) → (f ≡ formOf to → ⊥) → f ≡ source to
 from-source Largest f is other = ⊎-elim (λ e. e) (λ e. absurd (other e)) is
 from-source Gap f is other = ⊎-elim (λ e. absurd (other e)) (λ e. e) is
-
-not-target : (to : To) (f : ℕ) → f ≡ source to → f ≡ formOf to → ⊥
-not-target Largest f e g = omega (arith, e, g)
-not-target Gap f e g = omega (arith, e, g)
 
 -- what a conversion keeps of a row, and what it gives it
 pub form-given : (to : To) (r : Row) → converted to r .form ≡ formOf to
@@ -130,20 +104,20 @@ pub record Convertible (to : To) (r : Row) : Type 0 where
   pub good : GoodRow r
   pub typed : Typed r
   pub form : r .form ≡ source to
-  pub has : has to r ≡ true
+  pub fits : fitsForm to r ≡ true
 
 pub row-good : (to : To) {r : Row} → Convertible to r → GoodRow (converted to r)
 row-good Largest c = largest-good (c .good) (c .form)
-row-good Gap c = gap-good (c .good) (c .form) (c .has)
+row-good Gap c = gap-good (c .good) (c .form) (c .fits)
 
 -- a table that can be converted
-module _ (to : To) {s : List ℕ} (h : Given s) (other : formAt s 0 ≡ formOf to → ⊥) (have : every (has to) (rows (tableOf s)) ≡ true) where
+module _ (to : To) {s : List ℕ} (h : Given s) (other : formAt s 0 ≡ formOf to → ⊥) (fit : every (fitsForm to) (rows (tableOf s)) ≡ true) where
   pub from : (i : ℕ) → i < tableOf s .count → Convertible to (rowOf (tableOf s) i)
   from i l = record {
     good = good h .row i l;
     typed = typed h i l;
-    form = from-source to _ (good h .row i l .form) (λ e. other (first-form h ∙ sym (good h .forms i l) ∙ e));
-    has = subst (λ (r : Row). has to r ≡ true) (row-at h i l) (all-at (λ r. has to r ≡ true) (rows (tableOf s)) i blank (all-every (has to) (rows (tableOf s)) have) (omega (arith, long h)));
+    form = from-source to _ (good h .row i l .form) (λ e. other (first-mark h ∙ sym (good h .forms i l) ∙ e));
+    fits = subst (λ (r : Row). fitsForm to r ≡ true) (row-at h i l) (all-at (λ r. fitsForm to r ≡ true) (rows (tableOf s)) i blank (every-says (fitsForm to) (rows (tableOf s)) fit) (omega (arith, long h)));
   }
 
   abbrev rs : List Row
@@ -176,20 +150,20 @@ module _ (to : To) {s : List ℕ} (h : Given s) (other : formAt s 0 ≡ formOf t
   pub result : Given (tableBytes rs)
   result = record { bytes = table-bytes rs; accepted = together-accepted together }
 
-  pub result-rows : rows (tableOf (tableBytes rs)) ≡ rs
-  result-rows = together-back together
+  pub result-back : rows (tableOf (tableBytes rs)) ≡ rs
+  result-back = together-back together
 
-  pub result-form : formAt (tableBytes rs) 0 ≡ formOf to
-  result-form =
-      first-form result ∙ ap (λ (r : Row). r .form) (sym (row-at result 0 (good result .some)) ∙ ap (λ (l : List Row). getD l 0 blank) result-rows ∙ row-in 0 (good h .some))
+  pub result-mark : formAt (tableBytes rs) 0 ≡ formOf to
+  result-mark =
+      first-mark result ∙ ap (λ (r : Row). r .form) (sym (row-at result 0 (good result .some)) ∙ ap (λ (l : List Row). getD l 0 blank) result-back ∙ row-in 0 (good h .some))
       ∙ form-given to (rowOf (tableOf s) 0)
 
   -- what is answered
   pub unrefused : (room : ℕ) → convertedOf to room s ≡ writtenOf room rs
   unfolding convertedOf
   unrefused room =
-      ap (λ (v : Verdict). byVerdict Refused v (Refused 34 when eqb (formAt s 0) (formOf to) || not (every (has to) (rows (tableOf s))) else writtenOf room rs)) (h .accepted)
-      ∙ when-no _ _ (rw (ne-eqb _ _ other, have))
+      ap (λ (v : Verdict). byVerdict Refused v (Refused 34 when eqb (formAt s 0) (formOf to) || not (every (fitsForm to) (rows (tableOf s))) else writtenOf room rs)) (h .accepted)
+      ∙ when-no _ _ (rw (ne-eqb _ _ other, fit))
 
   -- the result's length, and what is left where there is room for it and where not
   result-long : length (tableBytes rs) ≡ sumOf lengthOf rs + 4
@@ -216,12 +190,12 @@ module _ (to : To) {s : List ℕ} (h : Given s) (other : formAt s 0 ≡ formOf t
       }
 
 -- 34, of an accepted table
-pub refused-34 : (to : To) (s buffer : List ℕ) → readTable s .verdict ≡ Accepted → (eqb (formAt s 0) (formOf to) || not (every (has to) (rows (tableOf s)))) ≡ true
+pub refused-34 : (to : To) (s buffer : List ℕ) → readTable s .verdict ≡ Accepted → (eqb (formAt s 0) (formOf to) || not (every (fitsForm to) (rows (tableOf s)))) ≡ true
     → Converts to s buffer (Refused 34) buffer
 unfolding convertedOf
 refused-34 to s buffer a e = record {
   answers =
-      sym (ap (λ (v : Verdict). byVerdict Refused v (Refused 34 when eqb (formAt s 0) (formOf to) || not (every (has to) (rows (tableOf s))) else writtenOf (length buffer) (rowsIn to s))) a ∙ when-yes _ _ e);
+      sym (ap (λ (v : Verdict). byVerdict Refused v (Refused 34 when eqb (formAt s 0) (formOf to) || not (every (fitsForm to) (rows (tableOf s))) else writtenOf (length buffer) (rowsIn to s))) a ∙ when-yes _ _ e);
   leaves = sym (when-no _ _ refl);
 }
 
@@ -230,6 +204,6 @@ pub refused-table : (to : To) (s buffer : List ℕ) {n place : ℕ} → readTabl
 unfolding convertedOf
 refused-table to s buffer {n} a some = record {
   answers =
-      sym (ap (λ (v : Verdict). byVerdict Refused v (Refused 34 when eqb (formAt s 0) (formOf to) || not (every (has to) (rows (tableOf s))) else writtenOf (length buffer) (rowsIn to s))) a);
+      sym (ap (λ (v : Verdict). byVerdict Refused v (Refused 34 when eqb (formAt s 0) (formOf to) || not (every (fitsForm to) (rows (tableOf s))) else writtenOf (length buffer) (rowsIn to s))) a);
   leaves = sym (when-no _ _ (ne-eqb n 0 (λ z. omega (arith, z, some))));
 }

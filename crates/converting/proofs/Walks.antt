@@ -13,8 +13,8 @@ use Rattle.table.specs.declared.Table.{Table}
 
 -- those from `chain` on
 module _ {t : Table} (good : GoodTable t) where
-  pub rows-on : (chain : ℕ) → chain < t .count → drop chain (rows t) ≡ rowOf t chain ∷ drop (chain + 1) (rows t)
-  rows-on chain h =
+  pub rows-from : (chain : ℕ) → chain < t .count → drop chain (rows t) ≡ rowOf t chain ∷ drop (chain + 1) (rows t)
+  rows-from chain h =
       rw (add-one, ← getD-take (t .count) (t .row) chain blank h)
       (drop-cons (rows t) chain blank (omega (arith, length-take (t .count) (t .row), good .few, good .size)))
 

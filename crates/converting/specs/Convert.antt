@@ -14,18 +14,19 @@ use Rattle.table.specs.declared.Row.{Row}
 use Rattle.writing.specs.Write.{writtenOf, bufferAfter}
 use Rattle.writing.specs.declared.Written.{Written}
 use Rattle.writing.specs.declared.Written.the-variants.{Refused}
-use Rattle.converting.specs.Forms.{formOf, has, converted}
+use Rattle.converting.specs.Forms.{formOf, fitsForm, converted}
 use Rattle.converting.specs.declared.To.{To}
 
 -- the rows of the table, each in the form asked
 abbrev pub rowsIn : To → List ℕ → List Row
 rowsIn to s = map (converted to) (rows (tableOf s))
 
--- the table's own number; 34 where it has that form already, or some chain has it not; else these rows are written, where there is room
+-- the table's own number; 34 where it has that form already, or some chain cannot be said in it; else these rows are written, where there
+-- is room
 unfoldable pub convertedOf : To → ℕ → List ℕ → Written
 convertedOf to room s =
     byVerdict Refused (readTable s .verdict)
-    (Refused 34 when eqb (formAt s 0) (formOf to) || not (every (has to) (rows (tableOf s))) else
+    (Refused 34 when eqb (formAt s 0) (formOf to) || not (every (fitsForm to) (rows (tableOf s))) else
     writtenOf room (rowsIn to s))
 
 -- what a conversion does

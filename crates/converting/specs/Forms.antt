@@ -46,18 +46,19 @@ firstLargest r = getD (r .largest) 0 0
 abbrev pub withGap : Row → Row
 withGap r = inForm r gapForm 0 (firstLargest r) (replicate maxDistances 0)
 
--- a chain has that one exactly where its flag is 0, or its list is of that shape with a gap of at most 10,000,000
-unfoldable pub hasGap : Row → Bool
-hasGap r = eqb (r .flag) 0 || not (ltb maxGap (firstLargest r)) && same (largests r) (multiples (firstLargest r) (r .listed))
+-- a chain can be said with a gap, 0 where none is known, exactly where its flag is 0 or its list is of that shape with a gap of at most
+-- 10,000,000
+unfoldable pub fitsGap : Row → Bool
+fitsGap r = eqb (r .flag) 0 || not (ltb maxGap (firstLargest r)) && same (largests r) (multiples (firstLargest r) (r .listed))
 
--- either: the form's mark, the chains that have it, and a chain in it
+-- either: the form's mark, the chains that can be said in it, and a chain in it
 abbrev pub formOf : To → ℕ
 formOf Largest = largestForm
 formOf Gap = gapForm
 
-abbrev pub has : To → Row → Bool
-has Largest r = true
-has Gap r = hasGap r
+abbrev pub fitsForm : To → Row → Bool
+fitsForm Largest r = true
+fitsForm Gap r = fitsGap r
 
 abbrev pub converted : To → Row → Row
 converted Largest r = withLargest r

@@ -7,8 +7,8 @@ mod forms;
 mod put;
 mod shape;
 
-use put::convert;
-pub use shape::has_gap;
+pub use put::convert;
+pub use shape::fits_gap;
 use writing::Written;
 
 // The form asked.

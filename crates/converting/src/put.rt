@@ -1,7 +1,7 @@
 // A converted table put into a lent buffer, and whether it is.
 use crate::To;
 use crate::forms::converted;
-use crate::shape::all_have;
+use crate::shape::all_fit;
 use crate::shape::records_length;
 use table::Row;
 use table::Verdict;
@@ -61,7 +61,7 @@ fn put_table(s: &[u8], out: &mut [u8], to: To) -> Written
     if form_at(s, 0) == form_of(to) {
         return Written::Refused(34);
     }
-    if !all_have(s, to) {
+    if !all_fit(s, to) {
         return Written::Refused(34);
     }
     let n = records_length(s, to) + 4;

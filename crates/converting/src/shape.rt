@@ -1,4 +1,4 @@
-// Whether every chain of a table has the form asked, and how long the table is in it.
+// Whether every chain of a table can be said in the form asked, and how long the table is in it.
 use crate::To;
 use table::Row;
 use table::Table;
@@ -19,10 +19,10 @@ ghost use Rattle.table.specs.Read.{tableOf};
 ghost use Rattle.table.specs.Place.{lengthOf};
 ghost use Rattle.table.specs.code.Taken.{Taken, Stands};
 ghost use Rattle.slices.specs.Slices.{same};
-ghost use Rattle.converting.specs.Forms.{multiples, firstLargest, hasGap, has as hasForm, converted};
+ghost use Rattle.converting.specs.Forms.{multiples, firstLargest, fitsGap, fitsForm, converted};
 
 // Whether the largest distances of the record at `at` are the multiples of the first of them.
-fn even(s: &[u8], at: usize) -> bool
+fn are_multiples(s: &[u8], at: usize) -> bool
     requires { ⌜ Stands (now s) at × (rowAt (now s) at .flag ≡ 1) ⌝ }
     ensures { λ r. ⌜ r ≡ same (largests (rowAt (now (s .entry)) at)) (multiples (firstLargest (rowAt (now (s .entry)) at)) (rowAt (now (s .entry)) at .listed)) ⌝ }
 {
@@ -38,10 +38,10 @@ fn even(s: &[u8], at: usize) -> bool
     true
 }
 
-// Whether the chain at `at` has a gap.
-pub fn has_gap(s: &[u8], at: usize) -> bool
+// Whether the chain at `at` can be said with a gap, 0 where none is known.
+pub fn fits_gap(s: &[u8], at: usize) -> bool
     requires { ⌜ Stands (now s) at ⌝ }
-    ensures { λ r. ⌜ r ≡ hasGap (rowAt (now (s .entry)) at) ⌝ }
+    ensures { λ r. ⌜ r ≡ fitsGap (rowAt (now (s .entry)) at) ⌝ }
 {
     if flag_at(s, at) == 0 {
         return true;
@@ -49,30 +49,30 @@ pub fn has_gap(s: &[u8], at: usize) -> bool
     if Table::GAP < largest_at(s, at, 0) {
         return false;
     }
-    even(s, at)
+    are_multiples(s, at)
 }
 
-// Whether the chain at `at` has the form asked.
-fn has(s: &[u8], at: usize, to: To) -> bool
+// Whether the chain at `at` can be said in the form asked.
+fn fits_form(s: &[u8], at: usize, to: To) -> bool
     requires { ⌜ Stands (now s) at ⌝ }
-    ensures { λ r. ⌜ r ≡ hasForm to (rowAt (now (s .entry)) at) ⌝ }
+    ensures { λ r. ⌜ r ≡ fitsForm to (rowAt (now (s .entry)) at) ⌝ }
 {
     match to {
         To::Largest => true,
-        To::Gap => has_gap(s, at),
+        To::Gap => fits_gap(s, at),
     }
 }
 
-// Whether every chain has it.
-pub fn all_have(s: &[u8], to: To) -> bool
+// Whether every chain can.
+pub fn all_fit(s: &[u8], to: To) -> bool
     requires { ⌜ Taken (now s) ⌝ }
-    ensures { λ r. ⌜ r ≡ every (hasForm to) (rows (tableOf (now (s .entry)))) ⌝ }
+    ensures { λ r. ⌜ r ≡ every (fitsForm to) (rows (tableOf (now (s .entry)))) ⌝ }
 {
     let chains = count(s);
     let mut at: usize = 0;
     let mut chain: usize = 0;
     while chain < chains {
-        if !has(s, at, to) {
+        if !fits_form(s, at, to) {
             return false;
         }
         at = at + record_length(s, at);

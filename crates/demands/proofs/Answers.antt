@@ -58,7 +58,7 @@ use Rattle.writing.specs.declared.Written.{Written}
 use Rattle.writing.specs.declared.Written.the-variants.{Used as Table, Refused as NoWrite}
 use Rattle.writing.specs.declared.Filled.{Filled}
 use Rattle.writing.specs.declared.Filled.the-variants.{Chains, Refused as NoFill}
-use Rattle.converting.specs.Forms.{formOf, has}
+use Rattle.converting.specs.Forms.{formOf, fitsForm}
 use Rattle.converting.specs.Convert.{rowsIn, convertedOf}
 use Rattle.converting.specs.declared.To.{To}
 use Rattle.converting.proofs.Results.{Given, unrefused, written}
@@ -248,7 +248,7 @@ convert-one to s bytes room = by (readTable s .verdict) refl
     One a = OneAnswer ConvertRefusal 1 (write.numberOf a) (write.valuesOf a)
 
     wrong : Bool
-    wrong = eqb (formAt s 0) (formOf to) || not (every (has to) (rows (tableOf s)))
+    wrong = eqb (formAt s 0) (formOf to) || not (every (fitsForm to) (rows (tableOf s)))
 
     by : (v : Verdict) → readTable s .verdict ≡ v → One (byVerdict NoWrite v (NoWrite 34 when wrong else write.writtenOf room (rowsIn to s)))
     by Accepted e = when-cases One wrong (λ f. refuses ConvertRefusal 1 34 (lit≤ tt) (inr (inl refl)))

@@ -26,8 +26,8 @@ use Rattle.windows.specs.Latency.{boundOf, latencyOf}
 use Rattle.windows.specs.declared.Answer.the-variants.{Refused}
 use Rattle.windows.proofs.Answers as latency
 use Rattle.misses.specs.Overloads.{overloads}
-use Rattle.misses.specs.Bad.{Test, byWindows}
-use Rattle.misses.specs.Misses.{testedBeside, testedAt, testedOf, missesOf}
+use Rattle.misses.specs.Bad.{Test}
+use Rattle.misses.specs.Misses.{testedBeside, testedAt, testedOf}
 use Rattle.misses.specs.declared.Answer.the-variants.{Refused as Unanswered}
 use Rattle.misses.proofs.Answers as misses
 use Rattle.saving.proofs.Verdicts.{read-accepted}

@@ -5,16 +5,12 @@ use mathlib.Core.Bool.{Bool, true, false, _&&_}
 use mathlib.Core.List.{List, [], _∷_, map}
 use mathlib.Core.Logic.{⊎-elim}
 use native.Mathlib.Omega.{arith}
-use native.Mathlib.Decide.{ℕ-discrete}
 use native.Mathlib.Nat.{mul-comm, mul-assoc, add-mul, div-add-mod', mod-lt}
 use lib.Dec.{eqb}
-use lib.ListN.{length, getD, take}
-use lib.Seq.{take-append-seam}
 use borrow.Author.Tests.{eq-eqb, ne-eqb}
 use Rattle.search.specs.Choice.{_when_else_, byNumber}
-use Rattle.search.proofs.Choice.{when-yes, when-no}
-use Rattle.table.specs.Limits.{maxDistances}
-use Rattle.table.specs.Record.{gapForm, largestForm, known, knownOf, largests, spaced, pad}
+use Rattle.search.proofs.Choice.{when-yes, when-no, lt-or-le}
+use Rattle.table.specs.Record.{gapForm}
 use Rattle.table.specs.code.Good.{GoodRow}
 use Rattle.table.specs.declared.Row.{Row}
 use Rattle.table.proofs.Lists.{length-spaced, spaced-at}
@@ -28,10 +24,11 @@ use Rattle.windows.specs.declared.Answer.{Answer as Bound}
 use Rattle.windows.specs.declared.Answer.the-variants.{Figures, Refused as Unbounded}
 use Rattle.misses.specs.Overloads.{Overload, overloads, piecesOf}
 use Rattle.misses.specs.Bad.{Test, byWindows, bad}
-use Rattle.misses.specs.Sieve.{bySieve, called}
+use Rattle.misses.specs.Sieve.{bySieve}
 use Rattle.misses.specs.Misses.{earlyOf, badOf, roomOf, packingFigure, missedOf, byFigures, byBound, testedBeside}
 use Rattle.misses.specs.declared.Answer.the-variants.{Refused}
-use Rattle.converting.specs.Forms.{multiples, withLargest, withGap, converted}
+use Rattle.converting.specs.Forms.{multiples, withLargest, converted}
+use Rattle.converting.proofs.Goods.{largests-all}
 use Rattle.converting.specs.declared.To.{To}
 use Rattle.converting.specs.declared.To.the-variants.{Largest, Gap}
 
@@ -63,10 +60,10 @@ overloads-kept Largest b (a ∷ l) = rw (overloads-kept Largest b l)
 overloads-kept Gap b (a ∷ l) = rw (overloads-kept Gap b l)
 
 -- the multiples of a gap go on as multiples of it
-multiple-at : (g n j : ℕ) → j ≤ n → asListed (multiples g n) j ≡ j * g
+multiple-listed : (g n j : ℕ) → j ≤ n → asListed (multiples g n) j ≡ j * g
 unfolding asListed
-multiple-at g n zero h = omega arith
-multiple-at g n (suc j) h = spaced-at (λ m. m) g n j g h ∙ omega (arith, mul-comm g j)
+multiple-listed g n zero h = omega arith
+multiple-listed g n (suc j) h = spaced-at (λ m. m) g n j g h ∙ omega (arith, mul-comm g j)
 
 δ-multiples : (g n k : ℕ) → 0 < n → δ (multiples g n) k ≡ (k - 1) * g
 unfolding δ
@@ -76,7 +73,7 @@ unfolding δ
     let e : m / n * n + m % n ≡ m = div-add-mod' m n in
     let u : m % n < n = mod-lt m h in
     let one : suc m - 1 ≡ m = omega arith in
-    rw (l, multiple-at g n n (omega arith), multiple-at g n (m % n) (omega (arith, u)), one)
+    rw (l, multiple-listed g n n (omega arith), multiple-listed g n (m % n) (omega (arith, u)), one)
     (ap (λ x. x + m % n * g) (sym (mul-assoc (m / n) n g)) ∙ sym (add-mul (m / n * n) (m % n) g) ∙ ap (λ x. x * g) e)
 
 -- a chain with a gap has the same largest distance by its multiples, and it is known alike
@@ -84,19 +81,14 @@ module _ {r : Row} (good : GoodRow r) (form : r .form ≡ gapForm) where
   plain : r .flag ≡ 1 → ⊥
   plain e = omega (arith, e, good .flag-form form)
 
-  listed : (r .gap ≡ 0 → ⊥) → largests (withLargest r) ≡ multiples (r .gap) (r .listed)
-  unfolding known _when_else_
-  listed h = rw (ne-eqb (r .gap) 0 h) (ap (λ m. take m (pad maxDistances (multiples (r .gap) (r .listed)))) (sym (length-spaced (λ (x : ℕ). x) (r .gap) (r .listed) (r .gap)))
-      ∙ take-append-seam (multiples (r .gap) (r .listed)) _)
-
   pub largest-kept : (k : ℕ) → largest (withLargest r) k ≡ largest r k
   unfolding _when_else_
-  largest-kept k = elim (ℕ-discrete (r .gap) 0) [
-    | yes e ↦ largest-by-gap (withLargest r) k (λ f. omega (arith, f, when-yes {A = ℕ} 0 1 (eq-eqb (r .gap) 0 e))) ∙ ap (λ g. (k - 1) * g) (sym e) ∙ sym (largest-by-gap r k plain)
-    | no h ↦
-        largest-by-list (withLargest r) k (when-no {A = ℕ} 0 1 (ne-eqb (r .gap) 0 h)) ∙ ap (λ l. δ l k) (listed h)
-        ∙ δ-multiples (r .gap) (r .listed) k (omega (arith, good .listed, good .list .some)) ∙ sym (largest-by-gap r k plain)
-  ]
+  largest-kept k = ⊎-elim
+      (λ h. largest-by-list (withLargest r) k (when-no {A = ℕ} 0 1 (ne-eqb (r .gap) 0 (λ z. omega (arith, z, h)))) ∙ ap (λ l. δ l k) (largests-all good h)
+      ∙ δ-multiples (r .gap) (r .listed) k (omega (arith, good .listed, good .list .some)) ∙ sym (largest-by-gap r k plain))
+      (λ h. let e : r .gap ≡ 0 = omega (arith, h) in
+      largest-by-gap (withLargest r) k (λ f. omega (arith, f, when-yes {A = ℕ} 0 1 (eq-eqb (r .gap) 0 e))) ∙ ap (λ g. (k - 1) * g) (sym e) ∙ sym (largest-by-gap r k plain))
+      (lt-or-le 0 (r .gap))
 
   pub unknown-kept : unknown (withLargest r) ≡ unknown r
   unfolding unknown _when_else_

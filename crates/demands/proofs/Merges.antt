@@ -9,6 +9,7 @@ use lib.ListN.{length, take, drop}
 use lib.Seq.{take-at, drop-at}
 use borrow.Author.Tests.{eq-eqb}
 use Rattle.search.proofs.Choice.{when-yes, true-not-false, lt-or-le}
+use Rattle.slices.specs.Stored.{Mixed}
 use Rattle.slices.proofs.Sound.{NoTable}
 use Rattle.merging.specs.Versions.{Versions, three, swapped, stateOf}
 use Rattle.merging.specs.Rule.{takenOf, conflictOf, conflictAbove}
@@ -23,12 +24,12 @@ use Rattle.merging.proofs.Rules.{by-alike}
 use Rattle.merging.proofs.Outcomes.{used-says, conflict-says, room-says, result-says, used-given, conflict-given, room-given, result-given}
 use Rattle.merging.proofs.Merges.{taken-swapped}
 use Rattle.merging.proofs.Merges as laws
-use Rattle.merging.proofs.Tables.{refused-for, result-bytes, result-state, emptied-refused}
+use Rattle.merging.proofs.Tables.{refused-for, result-bytes, result-form, result-state, mixed-result, emptied-refused}
 use Rattle.merging.proofs.Promises.{differ-conflict, conflict-differ, found-conflict, found-least, swapped-conflicts, swapped-length, swapped-accepted, swapped-rows, swapped-refused, staying-first, staying-swapped, given-accepted, given-length, first-unchanged, second-unchanged, none-differ, no-conflict, zero-alike}
-use Rattle.merging.proofs.Equals.{equal-result}
+use Rattle.merging.proofs.Equals.{same-result}
 use Rattle.merging.proofs.Within.{used-length}
 use Rattle.demands.specs.Chains.{IsTable}
-use Rattle.demands.specs.Merges.{AllTables, InConflict, Smallest, MergedInto, NoEditLost, SwappedCopies, UnchangedCopies, MergeOfCopies}
+use Rattle.demands.specs.Merges.{AllTables, InConflict, Smallest, MergedInto, FirstMixed, NoEditLost, SwappedCopies, UnchangedCopies, MergeOfCopies}
 use Rattle.demands.proofs.Others.{reordered}
 
 module _ {v : Versions} (e : AllTables v) where
@@ -126,6 +127,9 @@ edit-kept = record {
     λ h. answer e above ∙ ap Id (unfound e above h),
   );
   numbers = λ {v} e room h. number (refused-for v (known e) (result-says room v (all e) h .2));
+  mixed = λ {v} e room h. forms-only (refused-for v (known e) (result-says room v (all e) h .2));
+  one-form = λ {v} {room} m. result-form v (known (m .tables)) (used-says room v (all (m .tables)) (m .answered) .2);
+  mixed-first = λ {v} e none room h {i} f. refused-first e none room h i f;
 }
   where
     number : {rs : List (List ℕ)} {n : ℕ} → NoTable rs n → (n ≡ 1) ⊎ (n ≡ 3) ⊎ (n ≡ 9) ⊎ (n ≡ 11)
@@ -134,6 +138,19 @@ edit-kept = record {
     number (NoTable.tasks f i o h) = inr (inr (inl f))
     number (NoTable.chains f o h) = inr (inr (inr f))
     number (NoTable.none f h) = inr (inr (inr f))
+
+    forms-only : {rs : List (List ℕ)} → NoTable rs 3 → (i : ℕ) × Mixed rs i
+    forms-only (NoTable.bytes f h) = absurd (omega (arith, f))
+    forms-only (NoTable.forms f i h) = (i, h)
+    forms-only (NoTable.tasks f i o h) = absurd (omega (arith, f))
+    forms-only (NoTable.chains f o h) = absurd (omega (arith, f))
+    forms-only (NoTable.none f h) = absurd (omega (arith, f))
+
+    refused-first : {v : Versions} (e : AllTables v) → ((id : ℕ) → InConflict v id → ⊥) → (room : ℕ) → length (resultOf v) ≤ room → (i : ℕ) → FirstMixed v i
+        → (place : ℕ) × (mergedOf room v ≡ Result 3 place)
+    refused-first {v} e none room h i f =
+        let r = mixed-result v (known e) i (f .mixed) (f .short) (f .few) (f .tasks) in
+        (r .0, result-given room v (all e) (unfound e 0 (λ id g. none id)) h (r .1))
 
     lost : {v : Versions} (e : AllTables v) → ((id : ℕ) → InConflict v id → ⊥) → ((id : ℕ) → takenOf v id ≡ []) → (room : ℕ) → 4 ≤ room → (place : ℕ) × (mergedOf room v ≡ Result 11 place)
     lost {v} e none missing room h =
@@ -191,12 +208,13 @@ copy-unchanged = record {
   second = λ {v} e same h. copy-given e (e .first)
       (λ id. second-unchanged (stateOf (v .ancestor) id) (stateOf (v .first) id) (stateOf (v .second) id) (same id))
       (λ id. none-differ (stateOf (v .ancestor) id) (stateOf (v .first) id) (stateOf (v .second) id) (inr (same id))) h;
-  both = λ {s} t h. (
-    copy-given {v = three s s s} (record { ancestor = t; first = t; second = t }) t
-        (λ id. first-unchanged (stateOf s id) (stateOf s id) (stateOf s id) refl)
-        (λ id. none-differ (stateOf s id) (stateOf s id) (stateOf s id) (inl refl)) h .0,
-    equal-result s (t .bytes) (t .accepted),
-  );
+  both = λ {s} t h.
+      let v = three s s s in
+      let own : (id : ℕ) → takenOf v id ≡ stateOf s id = λ id. first-unchanged (stateOf s id) (stateOf s id) (stateOf s id) refl in
+      record {
+        answered = copy-given {v = v} (record { ancestor = t; first = t; second = t }) t own (λ id. none-differ (stateOf s id) (stateOf s id) (stateOf s id) (inl refl)) h .0;
+        result = same-result s (t .bytes) (t .accepted) v refl refl refl own;
+      };
 }
 
 pub merge-of-copies : MergeOfCopies

@@ -9,33 +9,31 @@ use lib.Dec.{ltb}
 use lib.Seq.{take-at, drop-at}
 use borrow.Author.Tests.{le-ltb, ltb-true, ltb-false, lt-ltb}
 use Rattle.search.specs.Choice.{_when_else_}
-use Rattle.search.specs.Lists.{All}
 use Rattle.search.proofs.Choice.{when-yes, when-no, when-cases}
 use Rattle.table.specs.Limits.{maxChains}
 use Rattle.table.specs.Record.{formAt}
 use Rattle.table.specs.Bytes.{word, bytesOf}
 use Rattle.table.specs.Fault.{markOf, endFault}
-use Rattle.table.specs.Find.{rowOf, findOf, rows, used}
-use Rattle.table.specs.Place.{lengthOf, placeOf}
+use Rattle.table.specs.Find.{rows, used}
 use Rattle.table.specs.Read.{empty, unless, start, byVerdict, records, limitOf, readTable, tableOf}
 use Rattle.table.specs.declared.Reading.{Reading}
 use Rattle.table.specs.declared.Row.{Row}
 use Rattle.table.specs.declared.Verdict.{Verdict}
 use Rattle.table.specs.declared.Verdict.the-variants.{Accepted, Refused as Faulty}
+use Rattle.table.proofs.Accepted.{accepted-short}
 use Rattle.slices.specs.Locate.{recordIn, locatedOf}
 use Rattle.slices.specs.Stored.{recordOf}
 use Rattle.slices.specs.declared.Located.{Located}
 use Rattle.slices.specs.declared.Located.the-variants.{Record, Refused as Unlocated}
-use Rattle.writing.specs.Rows.{tableBytes, cleared, Typed}
-use Rattle.writing.specs.Write.{verdictOn, RowsRefusal, writtenOf, Writes}
+use Rattle.writing.specs.Rows.{tableBytes, cleared}
+use Rattle.writing.specs.Write.{verdictOn, writtenOf}
 use Rattle.writing.specs.declared.Written.{Written}
 use Rattle.writing.specs.declared.Written.the-variants.{Used, Refused}
-use Rattle.merging.proofs.Tables.{accepted-short}
 use Rattle.writing.proofs.Promises as laws
 use Rattle.writing.proofs.Refusals.{rows-refusal}
 use Rattle.writing.proofs.Again.{table-again}
 use Rattle.demands.specs.Chains.{IsTable, Has, recordBytes}
-use Rattle.demands.specs.Rows.{WrittenInto, RefusedFor, RowsAndTables}
+use Rattle.demands.specs.Rows.{RefusedFor, RowsAndTables}
 
 -- The answers of a write
 

@@ -1,24 +1,19 @@
 -- After a save that changes only another chain's deadline, gap or largest distances, no other chain's answers have moved. Assumes nothing.
-use Prim.Native.Nat.{ℕ, _+_, _*_, _≤_}
+use Prim.Native.Nat.{ℕ}
 use mathlib.Core.Path.{_≡_, ap, sym, _∙_}
 use mathlib.Core.List.{List}
-use mathlib.Core.Logic.{inl, inr}
-use native.Mathlib.Omega.{arith}
 use lib.Dec.{eqb}
 use lib.ListN.{getD}
 use lib.Seq.{getD-take}
 use Rattle.search.specs.Lists.{Paired}
 use Rattle.search.proofs.Pairing.{paired-set}
-use Rattle.table.specs.Limits.{maxDistances, maxTasks}
-use Rattle.table.specs.Bytes.{word}
-use Rattle.table.specs.Record.{idAt, listedAt, tasksAt, priorityAt, costAt, distancesAt, prioritiesAt, costsAt, pad, rowAt}
+use Rattle.table.specs.Record.{idAt, rowAt}
 use Rattle.table.specs.Record.{blank}
 use Rattle.table.specs.Find.{rows}
 use Rattle.table.specs.declared.Reading.{Reading}
 use Rattle.saving.specs.Save.{seenOf}
 use Rattle.table.specs.Read.{tableOf}
 use Rattle.saving.specs.Later.{State, stored, Edit, after}
-use Rattle.slices.proofs.Moved.{SameBytes, spaced-moved, word-moved}
 use Rattle.saving.proofs.Verdicts.{read-accepted}
 use Rattle.slices.proofs.Parts.{rowIn}
 use Rattle.slices.proofs.Records.{record-row}
@@ -27,7 +22,7 @@ use Rattle.saving.proofs.After.{all-passed}
 use Rattle.saving.proofs.Promises.{OneReplaced, reads-back}
 use Rattle.demands.specs.Chains.{IsTable}
 use Rattle.demands.specs.Saves.{AcceptedEdit}
-use Rattle.demands.specs.Others.{Unmoved, SameWork, DeadlineOrLargest}
+use Rattle.demands.specs.Others.{Unmoved, DeadlineOrLargest}
 use Rattle.demands.proofs.Chains.{table-read}
 use Rattle.demands.proofs.Others.{Beside, beside-own, work-agrees, paired-unmoved}
 

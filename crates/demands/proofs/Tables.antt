@@ -1,7 +1,7 @@
 -- The tables of the starred cases and the witnesses as they are read: their bytes are bytes, and their rows are these. Assumes nothing.
 use Prim.Native.Nat.{ℕ, zero, suc}
 use mathlib.Core.Path.{_≡_, refl, ap}
-use mathlib.Core.Bool.{Bool, true, false, _&&_}
+use mathlib.Core.Bool.{Bool, true, _&&_}
 use mathlib.Core.List.{List, [], _∷_, map}
 use native.Mathlib.Omega.{arith}
 use lib.Dec.{ltb}
@@ -9,6 +9,7 @@ use lib.ListN.{length, replicate}
 use borrow.Author.Tests.{ltb-true}
 use Rattle.search.specs.Choice.{_when_else_}
 use Rattle.search.specs.Find.{first}
+use Rattle.search.proofs.Choice.{both-true}
 use Rattle.table.specs.Limits.{maxDistances, maxTasks}
 use Rattle.table.specs.Bytes.{word, Bytes}
 use Rattle.table.specs.Record.{gapForm, gapAt, flagAt, gapWidth, known, spaced, pad, rowAt, blank}
@@ -49,16 +50,8 @@ small (a ∷ l) = ltb a 256 && small l
 small-bytes : (l : List ℕ) → small l ≡ true → Bytes l
 unfolding small
 small-bytes [] e k = omega arith
-small-bytes (a ∷ l) e zero = ltb-true a 256 (left (ltb a 256) (small l) e)
-  where
-    left : (x y : Bool) → (x && y) ≡ true → x ≡ true
-    left true y e = refl
-    left false y e = e
-small-bytes (a ∷ l) e (suc k) = small-bytes l (right (ltb a 256) (small l) e) k
-  where
-    right : (x y : Bool) → (x && y) ≡ true → y ≡ true
-    right true y e = e
-    right false y e = absurd (let z : _≡_ {A = ℕ} 0 1 = cc in omega arith)
+small-bytes (a ∷ l) e zero = ltb-true a 256 (both-true (ltb a 256) (small l) e .0)
+small-bytes (a ∷ l) e (suc k) = small-bytes l (both-true (ltb a 256) (small l) e .1) k
 
 -- the bytes are read as the table
 pub record Reads (s : List ℕ) (t : Table) : Type 0 where

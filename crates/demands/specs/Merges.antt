@@ -5,9 +5,14 @@ use mathlib.Core.Path.{_≡_}
 use mathlib.Core.List.{List, [], _++_}
 use mathlib.Core.Logic.{_⊎_}
 use lib.ListN.{length, take, drop}
+use Rattle.search.specs.Lists.{sumOf}
+use Rattle.table.specs.Limits.{maxChains, maxAllTasks}
+use Rattle.table.specs.Record.{tasksAt}
+use Rattle.table.specs.Read.{limitOf}
+use Rattle.slices.specs.Stored.{formIn, OneForm, Mixed}
 use Rattle.merging.specs.Versions.{Versions, three, swapped, stateOf}
 use Rattle.merging.specs.Rule.{takenOf}
-use Rattle.merging.specs.Merge.{staying, resultOf, mergedOf, Merges, foundOf, chosenOf}
+use Rattle.merging.specs.Merge.{takenRecords, staying, resultOf, mergedOf, Merges, foundOf, chosenOf}
 use Rattle.merging.specs.declared.Merged.the-variants.{Used, Conflict, NoRoom, Result}
 use Rattle.merging.specs.declared.Found.the-variants.{Id}
 use Rattle.demands.specs.Chains.{IsTable}
@@ -38,6 +43,19 @@ pub record MergedInto (room : ℕ) (v : Versions) (n : ℕ) : Type 0 where
   pub tables : AllTables v
   pub answered : mergedOf room v ≡ Used n
 
+-- the merge gives these bytes
+pub record Gives (room : ℕ) (v : Versions) (s : List ℕ) : Type 0 where
+  pub answered : mergedOf room v ≡ Used (length s)
+  pub result : resultOf v ≡ s
+
+-- the result's records are of mixed forms, record i the first of the other, and neither the result's length nor a field before that record
+-- is at fault
+pub record FirstMixed (v : Versions) (i : ℕ) : Type 0 where
+  pub mixed : Mixed (takenRecords v) i
+  pub short : length (resultOf v) ≤ limitOf (formIn (takenRecords v) 0)
+  pub few : i ≤ maxChains
+  pub tasks : sumOf (λ r. tasksAt r 0) (take i (takenRecords v)) ≤ maxAllTasks
+
 pub record NoEditLost : Type 0 where
   -- the result of an accepted merge is an accepted table, as long as is answered, which fits
   pub table : {v : Versions} {room n : ℕ} → MergedInto room v n → IsTable (resultOf v) × (n ≡ length (resultOf v)) × (n ≤ room)
@@ -61,8 +79,14 @@ pub record NoEditLost : Type 0 where
   pub none : {v : Versions} → AllTables v → (above : ℕ) → Exactly (foundOf v above ≡ Id 0) ((id : ℕ) → above < id → InConflict v id → ⊥)
   -- a result that loses every chain is refused with 11
   pub emptied : {v : Versions} → AllTables v → ((id : ℕ) → InConflict v id → ⊥) → ((id : ℕ) → takenOf v id ≡ []) → (room : ℕ) → 4 ≤ room → (place : ℕ) × (mergedOf room v ≡ Result 11 place)
-  -- of a table's numbers a result can only meet 1, 3 (its records have not one form; 02, request 7), 9 and 11
+  -- of a table's numbers a result can only meet 1, 3, 9 and 11
   pub numbers : {v : Versions} → AllTables v → (room : ℕ) {n place : ℕ} → mergedOf room v ≡ Result n place → (n ≡ 1) ⊎ (n ≡ 3) ⊎ (n ≡ 9) ⊎ (n ≡ 11)
+  -- 3 is given only where its records are of mixed forms (02, request 7); those of an accepted result have one
+  pub mixed : {v : Versions} → AllTables v → (room : ℕ) {place : ℕ} → mergedOf room v ≡ Result 3 place → (i : ℕ) × Mixed (takenRecords v) i
+  pub one-form : {v : Versions} {room n : ℕ} → MergedInto room v n → OneForm (takenRecords v) (length (takenRecords v))
+  -- and a result of mixed forms is 3, unless its length or an earlier field is at fault first
+  pub mixed-first : {v : Versions} → AllTables v → ((id : ℕ) → InConflict v id → ⊥) → (room : ℕ) → length (resultOf v) ≤ room → {i : ℕ} → FirstMixed v i
+      → (place : ℕ) × (mergedOf room v ≡ Result 3 place)
 
 pub record SwappedCopies : Type 0 where
   -- the same conflicts, and the same length
@@ -88,7 +112,7 @@ pub record UnchangedCopies : Type 0 where
   pub second : {v : Versions} → AllTables v → ((id : ℕ) → stateOf (v .second) id ≡ stateOf (v .ancestor) id) → {room : ℕ} → length (v .first) ≤ room
       → (mergedOf room v ≡ Used (length (v .first))) × ((id : ℕ) → stateOf (resultOf v) id ≡ stateOf (v .first) id)
   -- three equal tables give the same bytes
-  pub both : {s : List ℕ} → IsTable s → {room : ℕ} → length s ≤ room → (mergedOf room (three s s s) ≡ Used (length s)) × (resultOf (three s s s) ≡ s)
+  pub both : {s : List ℕ} → IsTable s → {room : ℕ} → length s ≤ room → Gives room (three s s s) s
 
 -- all of it
 pub record MergeOfCopies : Type 0 where

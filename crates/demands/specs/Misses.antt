@@ -1,5 +1,5 @@
 -- Demand 2 for the miss query, and for the sieve: what an answer says of a chain b beside the other chains l, for a run of k activations.
-use Prim.Native.Nat.{ℕ, _+_, _*_, _-_, _^_, _≤_, _<_, min}
+use Prim.Native.Nat.{ℕ, _+_, _*_, _^_, _≤_, _<_, min}
 use mathlib.Core.Path.{_≡_}
 use mathlib.Core.Bool.{Bool, true}
 use mathlib.Core.List.{List, [], map}

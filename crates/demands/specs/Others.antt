@@ -1,9 +1,8 @@
 -- Demand 3: what a chain is answered hangs on its own record and on what it sees of the other chains, and on nothing else of them.
-use Prim.Native.Nat.{ℕ, _*_, _<_, _≤_}
+use Prim.Native.Nat.{ℕ, _*_, _≤_}
 use mathlib.Core.Path.{_≡_}
 use mathlib.Core.List.{List, [], _∷_, _++_, map, flatten, List·Permᴰ}
-use mathlib.Core.Logic.{_⊎_}
-use lib.ListN.{length, getD, take, drop}
+use lib.ListN.{take, drop}
 use Rattle.search.specs.Lists.{All, Paired}
 use Rattle.table.specs.Find.{rows}
 use Rattle.table.specs.declared.Row.{Row}

@@ -1,36 +1,24 @@
--- Three equal tables give the same bytes. Assumes nothing.
-use Prim.Native.Nat.{ℕ, _+_, _-_, _<_}
-use native.Mathlib.Omega.{arith}
+-- A copy whose states are all taken, and whose ids stand in the ancestor's order, is the result, byte for byte. Assumes nothing.
+use Prim.Native.Nat.{ℕ}
 use mathlib.Core.Path.{_≡_, refl, ap, sym, _∙_}
 use mathlib.Core.List.{List, [], _∷_, _++_, map, flatten, append-nil}
-use mathlib.Core.Bool.{Bool, true, false, not, _||_}
-use mathlib.Core.Logic.{⊎-elim}
+use mathlib.Core.Bool.{Bool, true, not, _||_}
 use lib.Dec.{eqb}
-use lib.ListN.{length, getD, drop, length-drop}
-use lib.Seq.{ext-getD, getD-drop}
-use borrow.Author.Tests.{eqb-true, eq-eqb}
-use Rattle.search.specs.Choice.{_when_else_}
+use lib.ListN.{length, drop}
+use borrow.Author.Tests.{eq-eqb}
 use Rattle.search.specs.Lists.{some, keep, All}
-use Rattle.search.proofs.Choice.{when-yes, when-no, lt-or-le}
-use Rattle.table.specs.Bytes.{word, bytesOf, Bytes}
-use Rattle.table.specs.Fault.{markOf}
+use Rattle.search.proofs.Choice.{when-yes, when-no}
+use Rattle.table.specs.Bytes.{Bytes}
 use Rattle.table.specs.Place.{placeOf}
 use Rattle.table.specs.Read.{readTable, tableOf}
-use Rattle.table.specs.declared.Mark.{Mark}
-use Rattle.table.specs.declared.Mark.the-variants.{Chain, Task, End, Unknown}
 use Rattle.table.specs.declared.Verdict.the-variants.{Accepted}
 use Rattle.table.proofs.Firsts.{or-right}
-use Rattle.table.proofs.Words.{word-same}
-use Rattle.table.proofs.Accepted.{taken}
-use Rattle.slices.proofs.Bytes.{bytes-append}
 use Rattle.slices.proofs.Records.{length-records}
 use Rattle.slices.proofs.Ends.{end-stored}
-use Rattle.slices.proofs.Sameness.{same-yes}
-use Rattle.merging.specs.Versions.{three, stateOf, idsOf}
+use Rattle.merging.specs.Versions.{Versions, stateOf, idsOf}
 use Rattle.merging.specs.Rule.{takenOf, among, joined, order}
 use Rattle.table.specs.Record.{endRecord}
 use Rattle.merging.specs.Merge.{isRecord, takenRecords, resultOf}
-use Rattle.merging.proofs.Rules.{by-alike}
 use Rattle.merging.proofs.Picks.{idIn, pick, pick-all}
 use Rattle.merging.proofs.Copies.{recordsIn, in-parts, state-picked, ids-borne, records-alone, all-records}
 use Rattle.merging.proofs.Promises.{map-alike}
@@ -65,19 +53,22 @@ module _ (s : List ℕ) (bytes : Bytes s) (verdict : readTable s .verdict ≡ Ac
   end-is : endRecord (length rs) ≡ drop end s
   end-is = ap endRecord count-is ∙ end-stored s bytes verdict
 
-  -- so nothing is changed
-  pub equal-records : takenRecords (three s s s) ≡ rs
-  unfolding takenRecords order
-  equal-records =
-      let v = three s s s in
-      let ids : joined (joined (idsOf s) (idsOf s)) (idsOf s) ≡ idsOf s = ap (λ (l : List ℕ). joined l (idsOf s)) (joined-same (idsOf s)) ∙ joined-same (idsOf s) in
-      let own : (id : ℕ) → takenOf v id ≡ pick id rs = λ id. by-alike (stateOf s id) (stateOf s id) (stateOf s id) _ _ _ (same-yes _ _ refl) ∙ state-picked s bytes verdict id in
-      ap (λ (l : List ℕ). keep isRecord (map (takenOf v) l)) (ids ∙ sym (ids-borne s bytes verdict))
-      ∙ ap (keep isRecord) (map-alike (takenOf v) (λ id. pick id rs) own (map idIn rs) ∙ pick-all rs (records-alone s bytes verdict))
-      ∙ keep-every rs (all-records s bytes verdict)
+  -- where every state that is taken is this table's, and all three have its ids in its order, the result is this table
+  module _ (v : Versions) (of-ancestor : idsOf (v .ancestor) ≡ idsOf s) (of-first : idsOf (v .first) ≡ idsOf s) (of-second : idsOf (v .second) ≡ idsOf s)
+      (gives : (id : ℕ) → takenOf v id ≡ stateOf s id) where
+    in-order : order v ≡ idsOf s
+    unfolding order
+    in-order = rw (of-ancestor, of-first, of-second) (ap (λ (l : List ℕ). joined l (idsOf s)) (joined-same (idsOf s)) ∙ joined-same (idsOf s))
 
-  pub equal-result : resultOf (three s s s) ≡ s
-  unfolding resultOf
-  equal-result =
-      ap (λ (l : List (List ℕ)). flatten l ++ endRecord (length l)) equal-records
-      ∙ ap (λ (l : List ℕ). flatten rs ++ l) end-is ∙ sym (in-parts s bytes verdict .bytes)
+    same-records : takenRecords v ≡ rs
+    unfolding takenRecords
+    same-records =
+        ap (λ (l : List ℕ). keep isRecord (map (takenOf v) l)) (in-order ∙ sym (ids-borne s bytes verdict))
+        ∙ ap (keep isRecord) (map-alike (takenOf v) (λ id. pick id rs) (λ id. gives id ∙ state-picked s bytes verdict id) (map idIn rs) ∙ pick-all rs (records-alone s bytes verdict))
+        ∙ keep-every rs (all-records s bytes verdict)
+
+    pub same-result : resultOf v ≡ s
+    unfolding resultOf
+    same-result =
+        ap (λ (l : List (List ℕ)). flatten l ++ endRecord (length l)) same-records
+        ∙ ap (λ (l : List ℕ). flatten rs ++ l) end-is ∙ sym (in-parts s bytes verdict .bytes)

@@ -2,7 +2,7 @@
 -- nothing.
 use Prim.Native.Nat.{ℕ, _≤_}
 use native.Mathlib.Omega.{arith}
-use mathlib.Core.Path.{_≡_, refl, ap, ap₂, sym, subst, _∙_}
+use mathlib.Core.Path.{_≡_, refl, ap, sym, subst, _∙_}
 use mathlib.Core.List.{List, [], _∷_, map, List·Permᴰ, List·Permᴰ·nil, List·Permᴰ·cons, List·Permᴰ·swap, List·Permᴰ·trans, Permᴰ·refl, Permᴰ·symm}
 use mathlib.Core.Bool.{Bool, true, false, not, _||_}
 use lib.Dec.{eqb}
@@ -12,6 +12,7 @@ use Rattle.search.specs.Choice.{_when_else_}
 use Rattle.search.specs.Lists.{some, keep, All}
 use Rattle.search.proofs.Choice.{when-yes, when-no, when-cases}
 use Rattle.search.proofs.Keeping.{keep-map, all-keep}
+use Rattle.search.proofs.Lists.{map-back}
 use Rattle.search.proofs.Pairing.{all-each}
 use Rattle.table.specs.Record.{idAt}
 use Rattle.table.proofs.Firsts.{none-or}
@@ -210,10 +211,6 @@ unfolding some
 apart n [] h = tt
 apart n (r ∷ rs) h = let g = none-or (eqb (idIn r) n) (among (map idIn rs) n) h in (eqb-false _ _ (g .0), apart n rs (g .1))
 
-own : (f : ℕ → List ℕ) (rs : List (List ℕ)) → All (λ r. f (idIn r) ≡ r) rs → map f (map idIn rs) ≡ rs
-own f [] h = refl
-own f (r ∷ rs) h = ap₂ _∷_ (h .0) (own f rs (h .1))
-
 picked : (rs : List (List ℕ)) → Alone (map idIn rs) → All (λ r. pick (idIn r) rs ≡ r) rs
 unfolding Alone
 picked [] d = tt
@@ -224,4 +221,4 @@ picked (r ∷ rs) d = (pick-here (idIn r) r rs refl, later rs (apart (idIn r) rs
     later (q ∷ qs) a b = (pick-on (idIn q) r rs (λ e. a .0 (sym e)) ∙ b .0, later qs (a .1) (b .1))
 
 pub pick-all : (rs : List (List ℕ)) → Alone (map idIn rs) → map (λ id. pick id rs) (map idIn rs) ≡ rs
-pick-all rs d = own (λ id. pick id rs) rs (picked rs d)
+pick-all rs d = map-back (λ id. pick id rs) idIn rs (picked rs d)

@@ -1,5 +1,5 @@
 -- What is promised of a merge: its conflicts, the copies swapped, an unchanged copy, three equal tables. Assumes nothing.
-use Prim.Native.Nat.{ℕ, _+_, _<_, _≤_}
+use Prim.Native.Nat.{ℕ, _<_, _≤_}
 use native.Mathlib.Omega.{arith}
 use mathlib.Core.Path.{_≡_, refl, ap, ap₂, sym, subst, _∙_}
 use mathlib.Core.List.{List, [], _∷_, _++_, map, flatten, append-assoc, map-append, List·Permᴰ, Permᴰ·map}

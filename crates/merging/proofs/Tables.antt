@@ -3,15 +3,13 @@ use Prim.Native.Nat.{ℕ, zero, suc, _+_, _<_, _≤_}
 use native.Mathlib.Omega.{arith}
 use mathlib.Core.Path.{_≡_, refl, ap, sym, subst, _∙_}
 use mathlib.Core.List.{List, [], _∷_, map, flatten, List·Permᴰ}
-use mathlib.Core.Logic.{⊎-elim}
 use mathlib.Core.Bool.{true, not}
-use lib.Dec.{eqb}
 use lib.ListN.{length, getD, take, drop, length-append, length-map}
 use lib.Seq.{ext-getD}
-use borrow.Author.Tests.{ltb-true, lt-ltb}
+use borrow.Author.Tests.{ltb-true}
 use Rattle.search.specs.Choice.{_when_else_}
 use Rattle.search.specs.Lists.{sumOf, All, keep}
-use Rattle.search.proofs.Choice.{when-cases, lt-or-le}
+use Rattle.search.proofs.Choice.{when-cases}
 use Rattle.search.proofs.Keeping.{keep-length}
 use Rattle.search.proofs.Lists.{all-map, perm-sum, perm-length, perm-all, sum-map}
 use Rattle.table.specs.Limits.{maxChains, maxAllTasks}
@@ -23,20 +21,18 @@ use Rattle.table.specs.Read.{limitOf, readTable, tableOf}
 use Rattle.table.specs.Place.{lengthOf, placeOf}
 use Rattle.table.specs.code.Good.{GoodTable}
 use Rattle.table.specs.declared.Row.{Row}
-use Rattle.table.specs.declared.Reading.{Reading}
 use Rattle.table.specs.declared.Table.{Table}
 use Rattle.table.specs.declared.Mark.the-variants.{End}
 use Rattle.table.specs.declared.Verdict.{Verdict}
 use Rattle.table.specs.declared.Verdict.the-variants.{Accepted, Refused}
-use Rattle.table.proofs.Firsts.{or-right, not-accepted}
-use Rattle.table.proofs.Steps.{read-long}
-use Rattle.table.proofs.Accepted.{taken}
+use Rattle.table.proofs.Accepted.{taken, accepted-short}
+use Rattle.table.proofs.Widths.{limit-least}
 use Rattle.slices.specs.Stored.{recordOf, formIn, OneForm, Mixed}
 use Rattle.slices.proofs.Bytes.{bytes-append, bytes-take, bytes-drop, bytes-flatten}
 use Rattle.slices.proofs.Parts.{Parts, rowIn, all-at, map-at}
 use Rattle.slices.proofs.Parsed.{parts-rows}
 use Rattle.slices.proofs.Records.{recordsFrom, length-records, records-at, record-form, parts-count, parts-record, parts-form}
-use Rattle.slices.proofs.Sound.{Sound, record-sound, tasksIn, NoTable, tasks-first, limit-least, no-table, mixed-refused}
+use Rattle.slices.proofs.Sound.{Sound, record-sound, tasksIn, NoTable, tasks-first, no-table, mixed-refused}
 use Rattle.merging.specs.Versions.{Versions, stateOf, idsOf}
 use Rattle.merging.specs.Rule.{takenOf, among, joined, order}
 use Rattle.merging.specs.Merge.{isRecord, takenRecords, resultOf}
@@ -87,12 +83,6 @@ joined-length l r = omega (arith, length-append l (keep (λ n. not (among l n)) 
 end-mark : (n : ℕ) → markOf (word 2 (endRecord n) 0) ≡ End
 unfolding markOf _when_else_
 end-mark n = ap markOf (end-mark-word n)
-
--- an accepted table is within the limit by its first mark
-pub accepted-short : (s : List ℕ) → readTable s .verdict ≡ Accepted → length s ≤ limitOf (word 2 s 0)
-accepted-short s e =
-    ⊎-elim (λ h. absurd (not-accepted (sym (ap (λ (r : Reading). r .verdict) (read-long s (or-right (eqb (length s) 0) _ (lt-ltb _ _ h)))) ∙ e))) (λ h. h)
-    (lt-or-le (limitOf (word 2 s 0)) (length s))
 
 module _ (v : Versions) (e : Edited v) where
   taken-of : (P : List ℕ → Type 0)

@@ -1,10 +1,12 @@
 -- Laws of sums, maxima and tests over a list: bounds, an end, and that no order of the elements moves them. Assumes nothing.
-use Prim.Native.Nat.{ℕ, suc, max, _+_, _*_, _≤_}
+use Prim.Native.Nat.{ℕ, suc, max, _+_, _*_, _<_, _≤_}
 use mathlib.Core.Path.{_≡_, refl, ap, ap₂, subst, _∙_}
+use mathlib.Core.Bool.{Bool, true}
 use mathlib.Core.List.{List, [], _∷_, _++_, map, List·Permᴰ, List·Permᴰ·nil, List·Permᴰ·cons, List·Permᴰ·swap, List·Permᴰ·trans, Permᴰ·map}
 use native.Mathlib.Omega.{arith}
-use lib.ListN.{length}
-use Rattle.search.specs.Lists.{sumOf, mostOf, All, Paired}
+use lib.ListN.{length, getD}
+use Rattle.search.specs.Lists.{sumOf, mostOf, every, All, Paired}
+use Rattle.search.proofs.Choice.{both-true}
 
 module _ {A : Type 0} where
   pub sum-append : (f : A → ℕ) (l r : List A) → sumOf f (l ++ r) ≡ sumOf f l + sumOf f r
@@ -29,6 +31,22 @@ module _ {A : Type 0} where
   pub all-append : (P : A → Type 0) (l r : List A) → All P l → All P r → All P (l ++ r)
   all-append P [] r x y = y
   all-append P (a ∷ l) r x y = (x .0, all-append P l r (x .1) y)
+
+  -- what holds of each by its number
+  pub all-of : (P : A → Type 0) (d : A) (l : List A) → ((i : ℕ) → i < length l → P (getD l i d)) → All P l
+  all-of P d [] h = tt
+  all-of P d (a ∷ l) h = (h 0 (omega arith), all-of P d l (λ i k. h (suc i) (omega arith)))
+
+  -- every one passes a test exactly where each does
+  pub every-says : (p : A → Bool) (l : List A) → every p l ≡ true → All (λ a. p a ≡ true) l
+  unfolding every
+  every-says p [] e = tt
+  every-says p (a ∷ l) e = let b = both-true (p a) (every p l) e in (b .0, every-says p l (b .1))
+
+  pub every-given : (p : A → Bool) (l : List A) → All (λ a. p a ≡ true) l → every p l ≡ true
+  unfolding every
+  every-given p [] h = refl
+  every-given p (a ∷ l) h = rw (h .0, every-given p l (h .1))
 
   -- what is no less, element by element, sums to no less
   pub sum-mono : (f g : A → ℕ) (l : List A) → All (λ a. f a ≤ g a) l → sumOf f l ≤ sumOf g l
@@ -68,7 +86,15 @@ module _ {A : Type 0} where
   perm-all P (List·Permᴰ·swap e g) h = (subst P g (h .1 .0), (subst P e (h .0), h .1 .1))
   perm-all P (List·Permᴰ·trans p q) h = perm-all P q (perm-all P p h)
 
--- of what the elements give
+-- of what the elements give, and of what gives them back
+pub all-after : {A B : Type 0} (P : B → Type 0) (f : A → B) (l : List A) → All (λ a. P (f a)) l → All P (map f l)
+all-after P f [] h = tt
+all-after P f (a ∷ l) h = (h .0, all-after P f l (h .1))
+
+pub map-back : {A B : Type 0} (f : B → A) (g : A → B) (l : List A) → All (λ a. f (g a) ≡ a) l → map f (map g l) ≡ l
+map-back f g [] h = refl
+map-back f g (a ∷ l) h = ap₂ _∷_ (h .0) (map-back f g l (h .1))
+
 pub sum-map : {A B : Type 0} (f : B → ℕ) (g : A → B) (l : List A) → sumOf f (map g l) ≡ sumOf (λ a. f (g a)) l
 unfolding sumOf
 sum-map f g [] = refl

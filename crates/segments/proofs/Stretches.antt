@@ -10,7 +10,6 @@ use Rattle.search.specs.Lists.{sumOf, All, some}
 use Rattle.search.proofs.Lists.{all-append}
 use Rattle.segments.specs.Tasks.{Task, below, before}
 use Rattle.segments.specs.Segments.{_on_, stretches, around, nonempty, segments, cuts, parts, cutSegments}
-use Rattle.segments.proofs.Steps.{task}
 use Rattle.segments.proofs.Lists.{flatten-on, flatten-append, Solid, solid-on, full-flatten, around-all, around-map}
 
 module _ (p : Task → Bool) where

@@ -1,7 +1,7 @@
 -- The segment query over a stored table (01, 'Numbers given back' and 'Segments against chain b').
 use Prim.Native.Nat.{ℕ, _+_, _*_, _-_, _≤_}
 use mathlib.Core.Path.{_≡_}
-use mathlib.Core.List.{List, [], _∷_, _++_, map, flatten}
+use mathlib.Core.List.{List, [], _∷_, map, flatten}
 use mathlib.Core.Bool.{not, _||_}
 use lib.ListN.{length, getD, take, drop}
 use lib.Dec.{eqb}

@@ -2,7 +2,7 @@
 use Prim.Native.Nat.{ℕ, _+_}
 use native.Mathlib.Omega.{arith}
 use mathlib.Core.Path.{_≡_, ap, sym, _∙_}
-use mathlib.Core.List.{List, _++_}
+use mathlib.Core.List.{List}
 use lib.ListN.{length, take, drop, length-drop}
 use lib.Seq.{take-add, take-all, drop-drop}
 use Rattle.table.specs.Bytes.{word, bytesOf, Bytes}
@@ -10,7 +10,7 @@ use Rattle.table.specs.Record.{endRecord}
 use Rattle.table.specs.Place.{placeOf}
 use Rattle.table.specs.Read.{readTable, tableOf}
 use Rattle.table.specs.declared.Verdict.the-variants.{Accepted}
-use Rattle.table.proofs.Marks.{markNumber, mark-number}
+use Rattle.table.proofs.Marks.{mark-number}
 use Rattle.table.proofs.Words.{word-back}
 use Rattle.table.proofs.Accepted.{taken}
 

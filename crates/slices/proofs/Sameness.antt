@@ -2,10 +2,10 @@
 use Prim.Native.Nat.{ℕ}
 use mathlib.Core.Path.{_≡_, refl, ap₂}
 use mathlib.Core.List.{List, [], _∷_}
-use mathlib.Core.Bool.{Bool, true, false, _&&_}
+use mathlib.Core.Bool.{Bool, true, false}
 use borrow.Author.Tests.{eq-eqb, eqb-true}
 use lib.Dec.{eqb}
-use Rattle.search.proofs.Choice.{true-not-false}
+use Rattle.search.proofs.Choice.{true-not-false, both-true}
 use Rattle.slices.specs.Slices.{same}
 
 pub same-refl : (a : List ℕ) → same a a ≡ true
@@ -13,16 +13,12 @@ unfolding same
 same-refl [] = refl
 same-refl (x ∷ a) = rw (eq-eqb x x refl) (same-refl a)
 
-both : (b c : Bool) → (b && c) ≡ true → (b ≡ true) × (c ≡ true)
-both true c e = (refl, e)
-both false c e = absurd (true-not-false e refl)
-
 pub same-true : (a b : List ℕ) → same a b ≡ true → a ≡ b
 unfolding same
 same-true [] [] e = refl
 same-true [] (y ∷ b) e = absurd (true-not-false e refl)
 same-true (x ∷ a) [] e = absurd (true-not-false e refl)
-same-true (x ∷ a) (y ∷ b) e = let f = both (eqb x y) (same a b) e in ap₂ _∷_ (eqb-true x y (f .0)) (same-true a b (f .1))
+same-true (x ∷ a) (y ∷ b) e = let f = both-true (eqb x y) (same a b) e in ap₂ _∷_ (eqb-true x y (f .0)) (same-true a b (f .1))
 
 is-false : (t : Bool) → (t ≡ true → ⊥) → t ≡ false
 is-false true h = absurd (h refl)

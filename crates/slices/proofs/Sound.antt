@@ -8,14 +8,14 @@ use mathlib.Core.Bool.{true}
 use mathlib.Core.Logic.{⊎-elim}
 use borrow.Author.Tests.{ltb-true}
 use lib.ListN.{length, getD, take, drop, length-append, length-drop, take-append-drop}
-use lib.Dec.{eqb, ltb}
+use lib.Dec.{ltb}
 use lib.Seq.{getD-drop, drop-drop, drop-at, drop-cons, drop-length, take-suc, take-take}
 use Rattle.search.specs.Lists.{sumOf, All}
-use Rattle.search.proofs.Choice.{when-cases, lt-or-le}
+use Rattle.search.proofs.Choice.{lt-or-le}
 use Rattle.search.proofs.Lists.{sum-append}
-use Rattle.table.specs.Limits.{maxChains, maxGapBytes, maxDeadline, maxDistances, maxDistance, maxLargest, maxTasks, maxAllTasks, maxCost}
+use Rattle.table.specs.Limits.{maxChains, maxDeadline, maxDistances, maxDistance, maxLargest, maxTasks, maxAllTasks, maxCost}
 use Rattle.table.specs.Bytes.{word, Bytes}
-use Rattle.table.specs.Record.{largestForm, formAt, idAt, gapAt, listedAt, tasksAt, listPlace, firstTask, lengthAt, distancesAt, largestsAt, costAt, countAt, rowAt}
+use Rattle.table.specs.Record.{formAt, idAt, gapAt, listedAt, tasksAt, listPlace, firstTask, lengthAt, distancesAt, largestsAt, costAt, countAt, rowAt}
 use Rattle.table.specs.Fault.{outside, markOf}
 use Rattle.table.specs.Place.{placeOf}
 use Rattle.table.specs.Read.{accepted, limitOf, readTable, tableOf}
@@ -29,6 +29,7 @@ use Rattle.table.specs.declared.Verdict.{Verdict}
 use Rattle.table.specs.declared.Verdict.the-variants.{Accepted, Refused}
 use Rattle.table.proofs.Fields.{blames}
 use Rattle.table.proofs.Firsts.{or-cases}
+use Rattle.table.proofs.Widths.{limit-least}
 use Rattle.table.proofs.Lists.{length-spaced}
 use Rattle.table.proofs.Goods.{distances-read, largests-read}
 use Rattle.table.proofs.Stands.{priority-at, cost-at}
@@ -87,11 +88,6 @@ not-both e f = let z : _≡_ {A = ℕ} 0 1 = cc in omega arith
 -- what lies within the limits is not outside them
 not-outside : (low high x : ℕ) → low ≤ x → x ≤ high → outside low high x ≡ true → ⊥
 not-outside low high x l h e = ⊎-elim (λ f. omega (arith, ltb-true x low f)) (λ f. omega (arith, ltb-true high x f)) (or-cases (ltb x low) (ltb high x) e)
-
--- every table may have some bytes
-pub limit-least : (mark : ℕ) → maxGapBytes ≤ limitOf mark
-unfolding limitOf
-limit-least mark = when-cases (λ n. maxGapBytes ≤ n) (eqb mark largestForm) (λ e. omega arith) (λ e. omega arith)
 
 -- a good row's lists, as the bytes have them
 module _ (s : List ℕ) (at : ℕ) (g : GoodRow (rowAt s at)) where

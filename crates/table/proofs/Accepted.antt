@@ -5,13 +5,14 @@ use native.Mathlib.Numerals.{add-one}
 use mathlib.Core.Path.{_≡_, refl, ap, sym, _∙_}
 use mathlib.Core.List.{List}
 use mathlib.Core.Bool.{false, not, _||_}
+use mathlib.Core.Logic.{⊎-elim}
 use borrow.Author.Count.{below-more}
-use borrow.Author.Tests.{ltb-false, eqb-false, eqb-true, not-false}
+use borrow.Author.Tests.{ltb-false, lt-ltb, eqb-false, eqb-true, not-false}
 use lib.ListN.{length, take, set, length-set, length-replicate, getD-replicate}
 use lib.Dec.{eqb, ltb}
 use lib.Seq.{getD-set-same, getD-set-other, take-set-le, take-suc-set}
 use Rattle.search.specs.Lists.{sumOf}
-use Rattle.search.proofs.Choice.{when-cases}
+use Rattle.search.proofs.Choice.{when-cases, lt-or-le}
 use Rattle.search.proofs.Find.{first-miss}
 use Rattle.search.proofs.Lists.{sum-append}
 use Rattle.table.specs.Limits.{maxChains, maxAllTasks}
@@ -30,10 +31,11 @@ use Rattle.table.specs.declared.Mark.{Mark}
 use Rattle.table.specs.declared.Mark.the-variants.{Chain, Task, End, Unknown}
 use Rattle.table.specs.declared.Verdict.{Verdict}
 use Rattle.table.specs.declared.Verdict.the-variants.{Accepted, Refused}
-use Rattle.table.proofs.Firsts.{not-accepted, when-none}
+use Rattle.table.proofs.Firsts.{or-right, not-accepted, when-none}
 use Rattle.table.proofs.Faultless.{chain-right}
 use Rattle.table.proofs.Goods.{row-good}
 use Rattle.table.proofs.Standing.{place-none}
+use Rattle.table.proofs.Steps.{read-long}
 
 -- what the rows read so far are, where the next record starts at `at`
 record RowsKept (s : List ℕ) (at : ℕ) (t : Table) : Type 0 where
@@ -207,3 +209,9 @@ sound s bytes = when-cases (GoodReading s) (eqb (length s) 0 || ltb (limitOf (wo
 pub taken : (s : List ℕ) → Bytes s → readTable s .verdict ≡ Accepted → Taken s
 unfolding GoodReading
 taken s bytes a = let x = sound s bytes a in record { good = x .0; holds = x .1 }
+
+-- an accepted table is within the limit by its first mark
+pub accepted-short : (s : List ℕ) → readTable s .verdict ≡ Accepted → length s ≤ limitOf (word 2 s 0)
+accepted-short s e =
+    ⊎-elim (λ h. absurd (not-accepted (sym (ap (λ (r : Reading). r .verdict) (read-long s (or-right (eqb (length s) 0) _ (lt-ltb _ _ h)))) ∙ e))) (λ h. h)
+    (lt-or-le (limitOf (word 2 s 0)) (length s))

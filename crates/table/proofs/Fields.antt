@@ -4,14 +4,14 @@ use native.Mathlib.Omega.{arith}
 use native.Mathlib.Numerals.{add-one}
 use mathlib.Core.Path.{_≡_, refl, ap, sym, subst, _∙_}
 use mathlib.Core.List.{List, [], _∷_}
-use mathlib.Core.Bool.{Bool, true, false, not, _&&_, _||_}
-use mathlib.Core.Logic.{_⊎_, inl, inr, ⊎-elim}
+use mathlib.Core.Bool.{true, false, not, _&&_, _||_}
+use mathlib.Core.Logic.{inl, inr, ⊎-elim}
 use borrow.Author.Count.{below-more}
 use borrow.Author.Tests.{ltb-true, ltb-false, eqb-true, eqb-false, not-true, not-false}
 use lib.ListN.{length, getD, length-set, length-replicate}
 use lib.Dec.{eqb, ltb, lit≤}
 use lib.Seq.{getD-set-same, getD-set-other}
-use Rattle.search.proofs.Choice.{when-cases, true-not-false, lt-or-le}
+use Rattle.search.proofs.Choice.{when-cases, true-not-false, both-true, lt-or-le}
 use Rattle.search.proofs.Find.{first-hit}
 use Rattle.table.specs.Limits.{maxChains, maxBytes, maxTasks, maxAllTasks, maxDistance, maxLargest}
 use Rattle.table.specs.Bytes.{word}
@@ -80,10 +80,6 @@ short-at gap n (d ∷ ds) e = ⊎-elim (λ h. (0, omega arith, here (ltb-true (g
 
     later : (j : ℕ) × (j < length ds) × (gap * (j + (n + 1)) < getD ds j 0) → (j : ℕ) × (j < suc (length ds)) × (gap * (j + n) < getD (d ∷ ds) j 0)
     later x = let f : x .0 + (n + 1) ≡ suc (x .0) + n = omega arith in (suc (x .0), omega (arith, x .1), rw (← f) (x .2))
-
-both : (a b : Bool) → (a && b) ≡ true → (a ≡ true) × (b ≡ true)
-both true b e = (refl, e)
-both false b e = absurd (true-not-false e refl)
 
 -- one mark more
 chain-marks : (s : List ℕ) (n : ℕ) (t : Table) → Walked s n t → ChainMark s (recordStart s n) → Chains s (suc n)
@@ -169,7 +165,7 @@ module _ (s : List ℕ) (n : ℕ) (t : Table) (w : Walked s n t) (room : n < max
     gap-points : Rises ds → 0 < getD ds (listedAt s at - 1) 0 → Points s (gapFault (gapAt s at) ds (gapPlace at))
     unfolding gapFault
     gap-points r some = when-cases (Points s) (not (eqb (gapAt s at) 0) && gapShort (gapAt s at) 1 ds)
-        (λ e. let b = both (not (eqb (gapAt s at) 0)) (gapShort (gapAt s at) 1 ds) e in
+        (λ e. let b = both-true (not (eqb (gapAt s at) 0)) (gapShort (gapAt s at) 1 ds) e in
         let j = short-at (gapAt s at) 1 ds (b .1) in
         Blames.atSmallGap n (j .0) l r some (not-zero _ (not-true _ (b .0))) (omega (arith, j .1, long)) (j .2)) (λ e. tt)
 

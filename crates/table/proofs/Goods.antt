@@ -26,7 +26,7 @@ use Rattle.table.proofs.Marks.{chain-form}
 use Rattle.table.proofs.Faultless.{inside, not-zero, ChainRight, chain-right}
 
 -- the 0s past a count change nothing that is read
-zeros : (n i : ℕ) → _≡_ {A = ℕ} (getD (replicate n 0) i 0) 0
+pub zeros : (n i : ℕ) → _≡_ {A = ℕ} (getD (replicate n 0) i 0) 0
 zeros zero i = refl
 zeros (suc n) zero = refl
 zeros (suc n) (suc i) = zeros n i

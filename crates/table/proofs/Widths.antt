@@ -9,7 +9,7 @@ use lib.ListN.{length}
 use lib.Dec.{eqb, ltb}
 use borrow.Author.Tests.{eq-eqb, ne-eqb, lt-ltb}
 use Rattle.search.proofs.Choice.{when-cases, when-yes, when-no}
-use Rattle.table.specs.Limits.{maxBytes}
+use Rattle.table.specs.Limits.{maxBytes, maxGapBytes}
 use Rattle.table.specs.Record.{gapForm, largestForm, formAt, gapAt, flagAt, gapWidth, known}
 use Rattle.table.specs.Read.{limitOf}
 
@@ -30,7 +30,15 @@ pub flag-lacks : (s : List ℕ) (at : ℕ) → formAt s at ≡ gapForm → flagA
 unfolding flagAt
 flag-lacks s at e = when-no _ _ (ne-eqb (formAt s at) largestForm (λ h. omega (arith, e, h)))
 
--- no limit is above the greater one
+-- how many bytes a table may have: those of `CG`, and the least and the most
+pub limit-largest : (mark : ℕ) → mark ≡ largestForm → limitOf mark ≡ maxBytes
+unfolding limitOf
+limit-largest mark e = when-yes maxBytes maxGapBytes (eq-eqb mark largestForm e)
+
+pub limit-least : (mark : ℕ) → maxGapBytes ≤ limitOf mark
+unfolding limitOf
+limit-least mark = when-cases (λ n. maxGapBytes ≤ n) (eqb mark largestForm) (λ e. omega arith) (λ e. omega arith)
+
 pub limit-most : (mark : ℕ) → limitOf mark ≤ maxBytes
 unfolding limitOf
 limit-most mark = when-cases (λ n. n ≤ maxBytes) (eqb mark largestForm) (λ e. omega arith) (λ e. omega arith)

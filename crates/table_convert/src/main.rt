@@ -2,9 +2,8 @@
 // second argument, a table with largest distances gets gaps. The result alone goes to standard output; where there is none, standard
 // error has why.
 use converting::To;
-use converting::has_gap;
-use converting::to_gap;
-use converting::to_largest;
+use converting::convert;
+use converting::fits_gap;
 use input::Input;
 use input::take_file;
 use libc::STDERR_FILENO;
@@ -21,7 +20,6 @@ use verdict_text::put_refused;
 use verdict_text::put_sentence;
 use writing::Written;
 ghost use Rattle.table.specs.code.Taken.{Taken};
-ghost use Rattle.converting.specs.Convert.{Converts};
 
 // The form asked.
 fn asked() -> To {
@@ -29,15 +27,6 @@ fn asked() -> To {
         To::Gap
     } else {
         To::Largest
-    }
-}
-
-fn convert(s: &[u8], to: To, out: &mut [u8]) -> Written
-    ensures { λ r. ⌜ Converts to (now (s .entry)) (now (out .entry)) r (now (out .exit)) ⌝ }
-{
-    match to {
-        To::Largest => to_largest(s, out),
-        To::Gap => to_gap(s, out),
     }
 }
 
@@ -54,15 +43,15 @@ fn put_result(result: &[u8]) -> bool {
     is_written
 }
 
-// The id of the first chain that has no gap; 0, which none bears, where each has one.
-fn first_without(s: &[u8]) -> u32
+// The id of the first chain that cannot be said with a gap; 0, which none bears, where each can.
+fn first_unfit(s: &[u8]) -> u32
     requires { ⌜ Taken (now s) ⌝ }
 {
     let chains = count(s);
     let mut chain: usize = 0;
     while chain < chains {
         let at = place(s, chain);
-        if !has_gap(s, at) {
+        if !fits_gap(s, at) {
             return u32_from_u16(id_at(s, at));
         }
         chain += 1;
@@ -70,8 +59,8 @@ fn first_without(s: &[u8]) -> u32
     0
 }
 
-// That the chain with the id has no gap; where there is none, that the table has gaps already.
-fn put_without(id: u32) -> bool {
+// That the chain with the id cannot be said with a gap; where there is none, that the table has gaps already.
+fn put_unfit(id: u32) -> bool {
     if id == 0 {
         return put(STDERR_FILENO, b"the table already has the form CH");
     }
@@ -89,7 +78,7 @@ fn put_reason(s: &[u8], to: To) -> bool
 {
     match to {
         To::Largest => put(STDERR_FILENO, b"the table already has the form CG"),
-        To::Gap => put_without(first_without(s)),
+        To::Gap => put_unfit(first_unfit(s)),
     }
 }
 
@@ -110,7 +99,7 @@ fn put_why(s: &[u8], to: To) -> bool {
 
 fn put_converted(s: &[u8], to: To) -> bool {
     let mut out = [0u8; Table::BYTES];
-    match convert(s, to, &mut out) {
+    match convert(s, &mut out, to) {
         Written::Used(n) => {
             let used = n as usize;
             put_result(&out[..used])

@@ -9,12 +9,11 @@ use borrow.Author.Tests.{eqb-true, eqb-false, eq-eqb, ne-eqb}
 use lib.Dec.{eqb}
 use lib.ListN.{length}
 use Rattle.search.specs.Choice.{_when_else_}
-use Rattle.search.proofs.Choice.{when-yes, when-no, when-cases}
-use Rattle.table.specs.Limits.{maxDistances, maxBytes, maxGapBytes}
+use Rattle.search.proofs.Choice.{when-yes, when-no, when-cases, true-or-false}
+use Rattle.table.specs.Limits.{maxDistances}
 use Rattle.table.specs.Bytes.{bytesOf, Bytes}
 use Rattle.table.specs.Record.{gapForm, largestForm, gapWidth, known, recordLength}
 use Rattle.table.specs.Fault.{markOf}
-use Rattle.table.specs.Read.{limitOf}
 use Rattle.table.specs.declared.Mark.the-variants.{Chain}
 use Rattle.table.proofs.Firsts.{or-left, or-right, or-cases}
 use Rattle.table.proofs.Forms.{wide, narrow, known-lacks}
@@ -22,11 +21,6 @@ use Rattle.table.proofs.Marks.{chain-form}
 use Rattle.table.proofs.Widths.{known-most}
 use Rattle.table.proofs.Words.{length-bytes, bytes-of}
 use Rattle.writing.specs.Rows.{isForm, formMark, gapOf, flagOf, gapBytes}
-
--- a test holds, or it does not
-pub true-or-false : (b : Bool) → (b ≡ true) ⊎ (b ≡ false)
-true-or-false true = inl refl
-true-or-false false = inr refl
 
 -- `CG`, or another form
 pub form-or : (form : ℕ) → (form ≡ largestForm) ⊎ (form ≡ largestForm → ⊥)
@@ -106,9 +100,3 @@ module _ (form : ℕ) where
 
     pub any-record : recordLength form flag listed tasks ≤ 77 + 8 * tasks
     any-record = ⊎-elim (λ e. omega (arith, narrow form e, known-most form flag listed)) (λ h. omega (arith, gap-record h)) (form-or form)
-
--- How long a table may be
-
-pub limit-largest : (mark : ℕ) → mark ≡ largestForm → limitOf mark ≡ maxBytes
-unfolding limitOf
-limit-largest mark e = when-yes maxBytes maxGapBytes (eq-eqb mark largestForm e)

@@ -20,6 +20,7 @@ use Rattle.table.specs.Read.{empty, plus}
 use Rattle.table.specs.declared.Row.{Row}
 use Rattle.table.specs.declared.Table.{Table}
 use Rattle.table.proofs.Firsts.{or-left, or-right, or-none}
+use Rattle.table.proofs.Goods.{zeros}
 use Rattle.writing.specs.code.Tally.{bears}
 use Rattle.writing.proofs.Lefts.{take-more}
 
@@ -109,11 +110,6 @@ holds-none = record {
   tasks = refl;
 }
   where
-    zeros : (n i : ℕ) → _≡_ {A = ℕ} (getD (replicate n 0) i 0) 0
-    zeros zero i = refl
-    zeros (suc n) zero = refl
-    zeros (suc n) (suc i) = zeros n i
-
     bears-zeros : (n id : ℕ) → (id ≡ 0 → ⊥) → bears (replicate n 0) id ≡ false
     bears-zeros n id h = sym (bears-take (replicate n 0) 0 id h (λ i l. zeros n i)) ∙ bears-none id
 

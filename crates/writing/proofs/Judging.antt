@@ -11,7 +11,7 @@ use lib.ListN.{length, take, drop, length-append, length-drop}
 use lib.Seq.{drop-drop, drop-at, take-nil}
 use Rattle.search.specs.Choice.{_when_else_, byNumber}
 use Rattle.search.specs.Lists.{All}
-use Rattle.search.proofs.Choice.{when-yes, when-no, true-not-false, lt-or-le}
+use Rattle.search.proofs.Choice.{when-yes, when-no, true-not-false, true-or-false, lt-or-le}
 use Rattle.table.specs.Limits.{maxChains, maxDistances, maxTasks}
 use Rattle.table.specs.Bytes.{word}
 use Rattle.table.specs.Record.{formAt, countPlace, afterEnd, endRecord, lengthAt, rowAt}
@@ -30,7 +30,7 @@ use Rattle.writing.specs.Write.{verdictOn}
 use Rattle.writing.specs.code.Tally.{noForm, formWrong, firstNumber, rowNumber, unjudged, faulted, counted, judgedWith, judgedAll, mostJudged, JudgedRows}
 use Rattle.writing.specs.code.Put.{judgedNumber}
 use Rattle.writing.specs.declared.judged.Tally.{Tally}
-use Rattle.writing.proofs.Forms.{true-or-false, mark-own, mark-none, form-chain}
+use Rattle.writing.proofs.Forms.{mark-own, mark-none, form-chain}
 use Rattle.writing.proofs.Numbers.{row-counts, is-some, form-first, form-later, form-on, form-is}
 use Rattle.writing.proofs.Ids.{Holds, held-wrong, holds-none, holds-more}
 use Rattle.writing.proofs.Pieces.{row-length}

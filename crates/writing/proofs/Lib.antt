@@ -1,4 +1,5 @@
 pub mod Fit
+pub mod Typed
 pub mod Ids
 pub mod Lefts
 pub mod Forms

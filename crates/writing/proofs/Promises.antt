@@ -1,5 +1,5 @@
 -- What is promised of a write: its rows are read back, and the rows of a table give its bytes again. Assumes nothing.
-use Prim.Native.Nat.{ℕ, zero, suc, min, _+_, _-_, _<_, _≤_}
+use Prim.Native.Nat.{ℕ, zero, suc, min, _+_, _<_, _≤_}
 use native.Mathlib.Omega.{arith}
 use mathlib.Core.Path.{_≡_, refl, ap, sym, subst, _∙_}
 use mathlib.Core.List.{List, [], _∷_, _++_, map, flatten, append-assoc, append-nil}
@@ -9,7 +9,7 @@ use borrow.Author.Tests.{le-ltb, ne-eqb}
 use lib.ListN.{length, getD, take, length-map}
 use lib.Seq.{getD-take}
 use Rattle.search.specs.Lists.{All}
-use Rattle.search.proofs.Choice.{lt-or-le}
+use Rattle.search.proofs.Choice.{true-or-false, lt-or-le}
 use Rattle.table.specs.Limits.{maxChains, maxBytes, maxDistances, maxTasks}
 use Rattle.table.specs.Bytes.{bytesOf, Bytes}
 use Rattle.table.specs.Record.{largestForm, formAt, endRecord, pad, knownOf}
@@ -21,19 +21,19 @@ use Rattle.table.specs.declared.Reading.{Reading}
 use Rattle.table.specs.declared.Verdict.{Verdict}
 use Rattle.table.specs.declared.Verdict.the-variants.{Accepted}
 use Rattle.table.proofs.Firsts.{or-none}
+use Rattle.table.proofs.Widths.{limit-largest, limit-least}
 use Rattle.table.proofs.Words.{bytes-of, end-length}
 use Rattle.table.proofs.Goods.{pad-at}
 use Rattle.table.proofs.Steps.{read-on}
 use Rattle.slices.proofs.Bytes.{bytes-append, bytes-flatten}
 use Rattle.slices.proofs.Parts.{Whole, rowIn, all-take}
 use Rattle.slices.proofs.Parsed.{parts-rows}
-use Rattle.slices.proofs.Sound.{limit-least}
 use Rattle.table.specs.Record.{taskRecord}
 use Rattle.writing.specs.Rows.{isForm, formMark, gapBytes, countByte, headBytes, distanceBytes, taskBytes, pieces, listBytes, tasksBytes, rowBytes, tableBytes, cleared, Typed}
 use Rattle.writing.specs.Write as write
 use Rattle.writing.specs.code.Tally.{formWrong, rowNumber, unjudged, judgedWith, judgedAll, Small, JudgedWith, mostJudged, JudgedRows}
 use Rattle.writing.specs.declared.judged.Tally.{Tally}
-use Rattle.writing.proofs.Forms.{true-or-false, form-or, mark-own, form-chain, are-bytes, lacks-none, known-flag, limit-largest}
+use Rattle.writing.proofs.Forms.{form-or, mark-own, form-chain, are-bytes, lacks-none, known-flag}
 use Rattle.writing.proofs.Numbers.{number-none, with-before, with-other, with-many, with-fault, with-none}
 use Rattle.writing.proofs.Pieces.{row-length}
 use Rattle.writing.proofs.Fields.{Stored, mark-stored, stored}

@@ -15,9 +15,12 @@ ghost use Rattle.table.specs.Read.{numberOf};
 ghost use Rattle.writing.specs.Rows.{gapOf};
 ghost use Rattle.writing.specs.code.Tally.{formWrong, bears as bearsOf, listNumber, largestNumber, tasksNumber, listsNumber, rowNumber, unjudged as unjudgedOf, faulted as faultedOf, counted as countedOf, Small, CountedRoom, JudgedWith, mostJudged};
 
+// A form that no row has.
+const NO_FORM: u32 = 65_536;
+
 // What is known of the rows so far: the number of the first fault, 0 for none; of the good rows before it, their form, how many they are,
-// their tasks in all, the length of their records, and their ids, the newest first. Before the first row the form is 65,536, which no row
-// has, so that for all others one test tells that theirs is right.
+// their tasks in all, the length of their records, and their ids, the newest first. Before the first row the form is `NO_FORM`, so that
+// for all others one test tells that theirs is right.
 pub struct Tally {
     pub number: u32,
     pub form: u32,
@@ -34,7 +37,7 @@ fn form_wrong(before: u32, form: u16) -> bool
     if u32_from_u16(form) == before {
         return false;
     }
-    if before != 65_536 {
+    if before != NO_FORM {
         return true;
     }
     form != Row::GAP_FORM && form != Row::LARGEST_FORM
@@ -267,7 +270,7 @@ pub fn unjudged() -> Tally
 {
     Tally {
         number: 0,
-        form: 65_536,
+        form: NO_FORM,
         count: 0,
         tasks: 0,
         bytes: 0,

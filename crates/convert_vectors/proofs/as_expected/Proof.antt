@@ -4,17 +4,6 @@ use lib.Seq.{length-take-le}
 use borrow.Author.Needs.{needs}
 use Rattle.convert_vectors.proofs.as_expected.Statement.{statement}
 use Rattle.convert_vectors.proofs.as_expected.Tie as tie
-use borrow.Author.Needs.{needs}
-use Rattle.convert_vectors.proofs.as_expected.Statement.{statement}
-use Rattle.convert_vectors.proofs.as_expected.Tie as tie
-use Rattle.convert_vectors.proofs.as_expected.Reads as reads
-use Rattle.convert_vectors.proofs.as_expected.Lts as lts
-use Rattle.cases.proofs.filled.Reads as filled-reads
-use Rattle.cases.proofs.scribbled.Reads as scribbled-reads
-use Rattle.convert_vectors.proofs.leaves_as_expected.Reads as leaves-as-expected-reads
-use Rattle.io.proofs.read_full.Reads as read-full-reads
-use Rattle.table.proofs.u16_at.Reads as u16-at-reads
-use Rattle.table.proofs.u32_at.Reads as u32-at-reads
 
 slice-aggregate-read-full : tie.Need-slice-aggregate-read-full
 slice-aggregate-read-full c = search needs

@@ -1,7 +1,7 @@
 -- The ids in order are the first of the array.
 use mathlib.Core.Path.{ap, sym, _∙_}
 use lib.Seq.{length-take-le}
-use Rattle.merging.specs.Rule.{order, conflictAbove, least}
+use Rattle.merging.specs.Rule.{conflictAbove, least}
 use borrow.Author.Needs.{needs}
 use Rattle.merging.proofs.conflict_above.Statement.{statement}
 use Rattle.merging.proofs.conflict_above.Tie as tie

@@ -8,7 +8,7 @@ use Rattle.table_convert.proofs.Within.{used-within}
 use Rattle.table_convert.proofs.put_converted.Statement.{statement}
 use Rattle.table_convert.proofs.put_converted.Tie as tie
 
-within : (c : tie.After-known-told) → c .before .n .given .0 .0 ≤ length (c .before .before .before .before .convert .last .1 .1 .0)
+within : (c : tie.After-known-told) → c .before .n .given .0 .0 ≤ length (c .before .before .before .before .convert .last .1 .0)
 within c = used-within (c .before .before .before .before .convert .ensures) (c .before .n .given .0 .0) (c .before .n .given .1)
 
 slice-aggregate-convert : tie.Need-slice-aggregate-convert

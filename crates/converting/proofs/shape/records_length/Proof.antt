@@ -13,7 +13,7 @@ use Rattle.table.specs.code.Taken.{Stands}
 use Rattle.table.proofs.Standing.{place-none}
 use Rattle.table.proofs.Stands.{row-there, stands, place-next}
 use Rattle.converting.specs.Forms.{converted}
-use Rattle.converting.proofs.Walks.{rows-on, rows-end}
+use Rattle.converting.proofs.Walks.{rows-from, rows-end}
 use Rattle.converting.proofs.Lengths.{lengths-most}
 use Rattle.converting.proofs.shape.records_length.Statement.{statement}
 use Rattle.converting.proofs.shape.records_length.Tie as tie
@@ -45,7 +45,7 @@ on c =
     let s = c .before .before .before .before .before in
     let l = c .before .before .loop in
     let h = within (c .before) in
-    ap (λ rs. sumOf lengthOf (map (converted (s .args .to)) rs)) (rows-on (s .pre .good) (l .chain) h)
+    ap (λ rs. sumOf lengthOf (map (converted (s .args .to)) rs)) (rows-from (s .pre .good) (l .chain) h)
     ∙ ap (λ n. n + left s (l .chain + 1)) (ap (λ r. lengthOf (converted (s .args .to) r)) (sym (row-there (s .pre) (l .inv .1) h)) ∙ sym (c .length-in .ensures))
 
 count-requires : tie.Need-count-requires Inv-loop μ-loop

@@ -1,5 +1,4 @@
 -- The id is put at `end` where it is not among the first n, which stay.
-use Prim.Native.Nat.{_+_}
 use mathlib.Core.Path.{refl, ap, sym, _∙_}
 use mathlib.Core.List.{[], _∷_, _++_, append-nil}
 use mathlib.Core.Bool.{not}

@@ -1,5 +1,5 @@
 -- Each refusal answers the query, in the documents' order (`Judging`).
-use Prim.Native.Nat.{_+_, _*_, _-_, _≤_}
+use Prim.Native.Nat.{_+_, _*_, _≤_}
 use mathlib.Core.Path.{_≡_, ap, ap₂, _∙_}
 use mathlib.Core.Bool.{false}
 use native.Mathlib.Omega.{arith}

@@ -1,4 +1,4 @@
--- At the loop's head all chains have it exactly where those from `chain` on do; its record starts at `at`.
+-- At the loop's head all chains fit exactly where those from `chain` on do; its record starts at `at`.
 use Prim.Native.Nat.{ℕ, _+_, _-_, _≤_, _<_}
 use native.Mathlib.Omega.{arith}
 use mathlib.Core.Path.{_≡_, refl, ap, sym, _∙_}
@@ -13,14 +13,14 @@ use Rattle.table.specs.Read.{tableOf}
 use Rattle.table.specs.code.Taken.{Stands}
 use Rattle.table.proofs.Standing.{place-none}
 use Rattle.table.proofs.Stands.{row-there, stands, place-next}
-use Rattle.converting.specs.Forms.{has}
-use Rattle.converting.proofs.Walks.{rows-on, rows-end}
-use Rattle.converting.proofs.shape.all_have.Statement.{statement}
-use Rattle.converting.proofs.shape.all_have.Tie as tie
+use Rattle.converting.specs.Forms.{fitsForm}
+use Rattle.converting.proofs.Walks.{rows-from, rows-end}
+use Rattle.converting.proofs.shape.all_fit.Statement.{statement}
+use Rattle.converting.proofs.shape.all_fit.Tie as tie
 
 abbrev Inv-loop : tie.InvT-loop
 Inv-loop s to chains at₀ chain₀ at chain =
-    (chain ≤ tableOf s .count) × (at ≡ placeOf (tableOf s) chain) × (every (has to) (drop chain (rows (tableOf s))) ≡ every (has to) (rows (tableOf s)))
+    (chain ≤ tableOf s .count) × (at ≡ placeOf (tableOf s) chain) × (every (fitsForm to) (drop chain (rows (tableOf s))) ≡ every (fitsForm to) (rows (tableOf s)))
 
 abbrev μ-loop : tie.MeasureT-loop
 μ-loop s to chains at₀ chain₀ at chain = tableOf s .count - chain
@@ -32,26 +32,26 @@ within c = omega (arith, c .before .before .count .ensures, c .loop-test .taken)
 there : (c : tie.In-loop Inv-loop μ-loop) → Stands (now (c .before .before .before .before .args .s)) (c .before .loop .at)
 there c = stands (c .before .before .before .before .pre) (c .before .loop .inv .1) (within c)
 
--- whether those from it on have it: this one, and those after it
-module _ (c : tie.After-has Inv-loop μ-loop) where
+-- whether those from it on fit: this one, and those after it
+module _ (c : tie.After-fits-form Inv-loop μ-loop) where
   abbrev start : tie.Start Inv-loop μ-loop
   start = c .before .before .before .before .before
 
   abbrev left : ℕ → Bool
-  left chain = every (has (start .args .to)) (drop chain (rows (tableOf (now (start .args .s)))))
+  left chain = every (fitsForm (start .args .to)) (drop chain (rows (tableOf (now (start .args .s)))))
 
-  on : left (c .before .before .loop .chain) ≡ (c .has .result && left (c .before .before .loop .chain + 1))
+  on : left (c .before .before .loop .chain) ≡ (c .fits-form .result && left (c .before .before .loop .chain + 1))
   unfolding every
   on =
       let l = c .before .before .loop in
       let h = within (c .before) in
-      ap (every (has (start .args .to))) (rows-on (start .pre .good) (l .chain) h)
-      ∙ ap (λ b. b && left (l .chain + 1)) (ap (has (start .args .to)) (sym (row-there (start .pre) (l .inv .1) h)) ∙ sym (c .has .ensures))
+      ap (every (fitsForm (start .args .to))) (rows-from (start .pre .good) (l .chain) h)
+      ∙ ap (λ b. b && left (l .chain + 1)) (ap (fitsForm (start .args .to)) (sym (row-there (start .pre) (l .inv .1) h)) ∙ sym (c .fits-form .ensures))
 
-  on-no : c .has .result ≡ false → left (c .before .before .loop .chain) ≡ false
+  on-no : c .fits-form .result ≡ false → left (c .before .before .loop .chain) ≡ false
   on-no e = on ∙ ap (λ b. b && left (c .before .before .loop .chain + 1)) e
 
-  on-yes : c .has .result ≡ true → left (c .before .before .loop .chain) ≡ left (c .before .before .loop .chain + 1)
+  on-yes : c .fits-form .result ≡ true → left (c .before .before .loop .chain) ≡ left (c .before .before .loop .chain + 1)
   on-yes e = on ∙ ap (λ b. b && left (c .before .before .loop .chain + 1)) e
 
 count-requires : tie.Need-count-requires Inv-loop μ-loop
@@ -60,8 +60,8 @@ count-requires c κs = c .before .pre
 loop-holds : tie.Need-loop-holds Inv-loop μ-loop
 loop-holds c = (omega arith, place-none (tableOf (now (c .before .before .args .s))), refl)
 
-has-requires : tie.Need-has-requires Inv-loop μ-loop
-has-requires c κs = there c
+fits-form-requires : tie.Need-fits-form-requires Inv-loop μ-loop
+fits-form-requires c κs = there c
 
 returns : tie.Need-returns Inv-loop μ-loop
 returns c = sym (on-no (c .before) (not-true _ (c .if1 .taken))) ∙ c .before .before .before .loop .inv .2
@@ -93,17 +93,17 @@ unfolding every
 returns-2 c =
     let s = c .before .before .before .before in
     let l = c .before .loop in
-    sym (ap (every (has (s .args .to))) (rows-end (s .pre .good) (l .chain) (omega (arith, c .before .before .count .ensures, c .loop-test .left)))) ∙ l .inv .2
+    sym (ap (every (fitsForm (s .args .to))) (rows-end (s .pre .good) (l .chain) (omega (arith, c .before .before .count .ensures, c .loop-test .left)))) ∙ l .inv .2
 
-pub all-have-spec : {M : Type 1} → statement M
-all-have-spec =
+pub all-fit-spec : {M : Type 1} → statement M
+all-fit-spec =
     tie.close
     (tie.spec
     Inv-loop
     μ-loop
     count-requires
     loop-holds
-    has-requires
+    fits-form-requires
     returns
     record-length-requires
     add-at

@@ -5,9 +5,9 @@ use denote.Ref.{now}
 use borrow.Author.Needs.{needs}
 use Rattle.table.specs.Record.{flagAt, rowAt}
 use Rattle.table.specs.declared.Row.{Row}
-use Rattle.converting.proofs.Gaps.{has-unknown, has-wide, has-even, known-there}
-use Rattle.converting.proofs.shape.has_gap.Statement.{statement}
-use Rattle.converting.proofs.shape.has_gap.Tie as tie
+use Rattle.converting.proofs.Gaps.{fits-unknown, fits-wide, fits-multiples, known-there}
+use Rattle.converting.proofs.shape.fits_gap.Statement.{statement}
+use Rattle.converting.proofs.shape.fits_gap.Tie as tie
 
 -- the row of the record
 abbrev row : tie.Start → Row
@@ -23,7 +23,7 @@ flag-at-requires c κs = search needs
 
 returns : tie.Need-returns
 unfolding rowAt
-returns c = sym (has-unknown (row (c .before .before .before)) (sym (c .before .flag-at .ensures) ∙ c .if1 .taken))
+returns c = sym (fits-unknown (row (c .before .before .before)) (sym (c .before .flag-at .ensures) ∙ c .if1 .taken))
 
 largest-at-requires : tie.Need-largest-at-requires
 unfolding rowAt
@@ -33,19 +33,19 @@ largest-at-requires c κs =
 
 returns-2 : tie.Need-returns-2
 unfolding rowAt
-returns-2 c = sym (has-wide (row (c .before .before .before .before .before)) (λ z. c .before .before .if1 .left (c .before .before .before .flag-at .ensures ∙ z)) (omega (arith, c .before .largest-at .ensures, c .if2 .taken)))
+returns-2 c = sym (fits-wide (row (c .before .before .before .before .before)) (λ z. c .before .before .if1 .left (c .before .before .before .flag-at .ensures ∙ z)) (omega (arith, c .before .largest-at .ensures, c .if2 .taken)))
 
-even-requires : tie.Need-even-requires
-even-requires c κs =
+are-multiples-requires : tie.Need-are-multiples-requires
+are-multiples-requires c κs =
     let s = c .before .before .before .before .before in
     (s .pre, known s (λ z. c .before .before .if1 .left (c .before .before .before .flag-at .ensures ∙ z)))
 
 returns-3 : tie.Need-returns-3
 unfolding rowAt
 returns-3 c =
-    c .even .ensures ∙ sym (has-even (row (c .before .before .before .before .before .before)) (λ z. c .before .before .before .if1 .left (c .before .before .before .before .flag-at .ensures ∙ z)) (omega (arith, c .before .before .largest-at .ensures, c .before .if2 .left)))
+    c .are-multiples .ensures ∙ sym (fits-multiples (row (c .before .before .before .before .before .before)) (λ z. c .before .before .before .if1 .left (c .before .before .before .before .flag-at .ensures ∙ z)) (omega (arith, c .before .before .largest-at .ensures, c .before .if2 .left)))
 
-pub has-gap-spec : {M : Type 1} → statement M
-has-gap-spec =
+pub fits-gap-spec : {M : Type 1} → statement M
+fits-gap-spec =
     tie.close
-    (tie.spec flag-at-requires returns largest-at-requires returns-2 even-requires returns-3)
+    (tie.spec flag-at-requires returns largest-at-requires returns-2 are-multiples-requires returns-3)

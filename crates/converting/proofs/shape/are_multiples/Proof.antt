@@ -12,9 +12,9 @@ use Rattle.table.specs.declared.Row.{Row}
 use Rattle.table.proofs.Largests.{largests-at}
 use Rattle.slices.proofs.Sameness.{same-yes, same-no}
 use Rattle.converting.specs.Forms.{multiples, firstLargest}
-use Rattle.converting.proofs.Gaps.{even-yes, even-each, known-there}
-use Rattle.converting.proofs.shape.even.Statement.{statement}
-use Rattle.converting.proofs.shape.even.Tie as tie
+use Rattle.converting.proofs.Gaps.{multiples-yes, multiples-each, known-there}
+use Rattle.converting.proofs.shape.are_multiples.Statement.{statement}
+use Rattle.converting.proofs.shape.are_multiples.Tie as tie
 
 abbrev Inv-loop : tie.InvT-loop
 Inv-loop s at listed gap i₀ i = (i ≤ listed) × ((j : ℕ) → j < i → getD (rowAt s at .largest) j 0 ≡ firstLargest (rowAt s at) * (j + 1))
@@ -70,7 +70,7 @@ returns c =
     let l = c .before .before .before .loop in
     let h : l .i < row a .listed = omega (arith, c .before .before .before .before .before .listed-at .ensures .0, c .before .before .loop-test .taken) in
     sym (same-no (largests (row a)) (multiples (firstLargest (row a)) (row a .listed))
-    (λ e. c .if1 .taken (c .before .largest-at2 .ensures ∙ even-each (a .pre .0 .good) (a .pre .1) e (l .i) h ∙ ap (λ g. g * (l .i + 1)) (sym (c .before .before .before .before .largest-at .ensures)))))
+    (λ e. c .if1 .taken (c .before .largest-at2 .ensures ∙ multiples-each (a .pre .0 .good) (a .pre .1) e (l .i) h ∙ ap (λ g. g * (l .i + 1)) (sym (c .before .before .before .before .largest-at .ensures)))))
 
 add-i : tie.Need-add-i Inv-loop μ-loop
 add-i c = omega (arith, below (c .before .before))
@@ -90,10 +90,10 @@ unfolding rowAt
 returns-2 c =
     let a = c .before .before .before .before .before in
     sym (same-yes (largests (row a)) (multiples (firstLargest (row a)) (row a .listed))
-    (even-yes (a .pre .0 .good) (a .pre .1) (λ j h. c .before .loop .inv .1 j (omega (arith, h, c .before .before .before .listed-at .ensures .0, c .loop-test .left)))))
+    (multiples-yes (a .pre .0 .good) (a .pre .1) (λ j h. c .before .loop .inv .1 j (omega (arith, h, c .before .before .before .listed-at .ensures .0, c .loop-test .left)))))
 
-pub even-spec : {M : Type 1} → statement M
-even-spec =
+pub are-multiples-spec : {M : Type 1} → statement M
+are-multiples-spec =
     tie.close
     (tie.spec
     Inv-loop

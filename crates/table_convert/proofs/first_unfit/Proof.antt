@@ -5,8 +5,8 @@ use Rattle.table.proofs.Stands.{stands}
 use denote.Ref.{now}
 use Rattle.table.specs.code.Taken.{Stands}
 use borrow.Author.Needs.{needs}
-use Rattle.table_convert.proofs.first_without.Statement.{statement}
-use Rattle.table_convert.proofs.first_without.Tie as tie
+use Rattle.table_convert.proofs.first_unfit.Statement.{statement}
+use Rattle.table_convert.proofs.first_unfit.Tie as tie
 
 abbrev Inv-loop : tie.InvT-loop
 Inv-loop s chains chain₀ chain = Unit
@@ -26,8 +26,8 @@ loop-holds c = tt
 place-requires : tie.Need-place-requires Inv-loop μ-loop
 place-requires c κs = search needs
 
-has-gap-requires : tie.Need-has-gap-requires Inv-loop μ-loop
-has-gap-requires c κs = standing c
+fits-gap-requires : tie.Need-fits-gap-requires Inv-loop μ-loop
+fits-gap-requires c κs = standing c
 
 id-at-requires : tie.Need-id-at-requires Inv-loop μ-loop
 id-at-requires c κs = omega (arith, standing (c .before .before) .there)
@@ -50,8 +50,8 @@ loop-again c = tt
 returns-2 : tie.Need-returns-2 Inv-loop μ-loop
 returns-2 c = search needs
 
-pub first-without-spec : {M : Type 1} → statement M
-first-without-spec =
+pub first-unfit-spec : {M : Type 1} → statement M
+first-unfit-spec =
     tie.close
     (tie.spec
     Inv-loop
@@ -59,7 +59,7 @@ first-without-spec =
     count-requires
     loop-holds
     place-requires
-    has-gap-requires
+    fits-gap-requires
     id-at-requires
     u32-from-u16-requires
     returns
