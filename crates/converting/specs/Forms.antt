@@ -46,7 +46,7 @@ firstLargest r = getD (r .largest) 0 0
 abbrev pub withGap : Row → Row
 withGap r = inForm r gapForm 0 (firstLargest r) (replicate maxDistances 0)
 
--- a chain has that one exactly where its flag is 0, or its list is of that shape with a gap of at most 10,000,000
+-- a chain has the form with a gap exactly where its flag is 0, or its list is of that shape with a gap of at most 10,000,000
 unfoldable pub hasGap : Row → Bool
 hasGap r = eqb (r .flag) 0 || not (ltb maxGap (firstLargest r)) && same (largests r) (multiples (firstLargest r) (r .listed))
 
