@@ -17,7 +17,7 @@
  * Stack: a call takes less than MISHTODRAN_STACK_BYTES. This is measured, not proved.
  *
  * Duration: every call ends; how soon is measured, not proved. On an x86-64 machine of 2 GHz, a check, a segment, a
- * record or a save takes about a microsecond at most, a read, a write, a conversion, a merge or its conflicts a few,
+ * record, a save or a conversion takes about a microsecond at most, a read, a write, a merge or its conflicts a few,
  * and any call on an ordinary table less than a millisecond. The slowest tables that we know have chains that take
  * nearly all of the time, so that a window is climbed to in millions of steps: there a latency, misses or their bound
  * by mishtodran_misses_at_most take some tenths of a second, and a report, which asks for latency and misses of every
@@ -293,9 +293,9 @@ uint32_t mishtodran_segment(const uint8_t *table, size_t table_len, uint32_t id,
  * of answer, the new used length. The old record is given as it was last seen, whole, so that a change made meanwhile
  * is never lost. Bytes between a shorter end and the former end become 0; bytes past both ends stay. A new record of
  * the other form is taken where it is the only one of its table, which then has that form and its limit.
- * Refuses with 27, then the table's number, 22, 23 where the new record is not as long as its own mark, counts and flag
- * say or bears another id, 24, the result's number; the buffer then stays as it was, and mishtodran_check of its used
- * bytes says whether a table's number was the table's own. */
+ * Refuses with 27, then the table's number, 22, 23 where the new record has no chain record's mark, is not as long as
+ * its own mark, counts and flag say, or bears another id, 24, the result's number; the buffer then stays as it was, and
+ * mishtodran_check of its used bytes says whether a table's number was the table's own. */
 uint32_t mishtodran_save(uint8_t *buffer, size_t buffer_len, uint64_t used,
                          const uint8_t *old_record, size_t old_len,
                          const uint8_t *new_record, size_t new_len,
@@ -354,16 +354,17 @@ uint32_t mishtodran_record(const uint8_t *table, size_t table_len, uint32_t id,
 
 /* A table of "CH" records as one of "CG" records, in a buffer of its own: 4 bytes of answer, the length of the result,
  * which stands at the start of the buffer; bytes past it stay. A gap other than 0 becomes flag 1 and 1, 2, 3, .. times
- * the gap, as many as there are distances; gap 0 becomes flag 0. Every figure and refusal of every chain stays.
- * MISHTODRAN_MOST_TABLE_BYTES of buffer hold every result.
+ * the gap, as many as there are distances; gap 0 becomes flag 0. Every latency and miss figure and refusal of every
+ * chain stays; where a record or a segment stands may change. MISHTODRAN_MOST_TABLE_BYTES of buffer hold every
+ * result.
  * Refuses with 27, then a table's number, then 34 where the table has "CG" records already, then 24. */
 uint32_t mishtodran_to_largest(const uint8_t *table, size_t table_len,
                                uint8_t *buffer, size_t buffer_len,
                                uint8_t *answer, size_t answer_len);
 
 /* And back: a table of "CG" records as one of "CH" records, 4 bytes of answer, the length of the result, as above.
- * Every figure and refusal stays, and what mishtodran_to_largest has made becomes the bytes that it was made of.
- * MISHTODRAN_MOST_GAP_TABLE_BYTES of buffer hold every result.
+ * Every latency and miss figure and refusal stays, and what mishtodran_to_largest has made becomes the bytes that it
+ * was made of. MISHTODRAN_MOST_GAP_TABLE_BYTES of buffer hold every result.
  * Refuses with 27, then a table's number; 34 where the table has "CH" records already, or some chain has largest
  * distances that are not 1, 2, 3, .. times a gap of at most 10,000,000; then 24. */
 uint32_t mishtodran_to_gap(const uint8_t *table, size_t table_len,

@@ -76,7 +76,7 @@ def rows_of(table):
 
 def record_of(one):
     """The bytes of a row. A count that no byte holds is outside its range, and so is the greatest byte, at which the reader ends
-    before it looks at any place. A form that is neither becomes a mark that no reader knows, `EN` too: it ends no table here."""
+    before it looks at any place. A form that is neither, `EN` too, which ends no table here, becomes `??`: any unknown mark does."""
     mark = one.form.to_bytes(MARK, "little")
     if mark not in FORMS:
         return b"??"

@@ -9,8 +9,8 @@ use Rattle.table.specs.Record.{gapForm}
 use Rattle.table.specs.declared.Row.{Row}
 use Rattle.arrivals.specs.Arrivals.{δ, η, largest}
 
--- δ(1) = 0, and the listed distances are δ(2), δ(3), ..; with L listed, δ(1 + iL + j) = i·δ(L + 1) + δ(1 + j), 0 ≤ j < L; η(0) = 0, and for
--- t > 0 η(t) is the greatest n with δ(n) < t
+-- δ(1) = 0, and the listed distances are δ(2), δ(3), ..; with L listed, δ(1 + iL + j) = i·δ(L + 1) + δ(1 + j), 0 ≤ j < L;
+-- η(0) = 0, and for t > 0 η(t) is the greatest n with δ(n) < t
 pub record ArrivalRules (ds : List ℕ) : Type 0 where
   pub alone : δ ds 1 ≡ 0
   pub listed : (j : ℕ) → j < length ds → δ ds (j + 2) ≡ getD ds j 0

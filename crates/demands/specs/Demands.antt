@@ -1,5 +1,5 @@
--- What the customer demands: each demand is one record, its fields his sentences in his order and what his requests add, over definitions that stand in the files
--- imported here. proofs/Demands.antt closes each record by one theorem, `demand-1`, `demand-2`, `demand-3`.
+-- What the customer demands: each demand is one record, its fields his sentences in his order and what his requests add, over definitions
+-- that stand in the files imported here. proofs/Demands.antt closes each record by one theorem, `demand-1`, `demand-2`, `demand-3`.
 use Prim.Native.Nat.{ℕ, _≤_, _<_}
 use mathlib.Core.Path.{_≡_}
 use mathlib.Core.List.{List}

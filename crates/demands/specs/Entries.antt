@@ -34,7 +34,8 @@ abbrev pub Between : ℕ → ℕ → ℕ → Type 0
 Between low high n = (low ≤ n) × (n ≤ high)
 
 -- the numbers that each query, a save and a merge can be refused with, a table's own among them, then those of rows written and read, of
--- the record's place, of a conversion, of a report and of the check, which has none; what asks for conflicts is refused with a table's own only; a C entry can also be refused with 27
+-- the record's place, of a conversion, of a report and of the check, which has none; what asks for conflicts is refused with a table's own
+-- only; a C entry can also be refused with 27
 abbrev pub LatencyRefusal : ℕ → Type 0
 LatencyRefusal n = TableRefusal n ⊎ (n ≡ 12) ⊎ Between 16 17 n
 

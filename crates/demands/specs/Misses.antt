@@ -68,7 +68,8 @@ module _ (b : Row) (l : List Row) where
     pub window : Solution (withCost without (setCost (members pieces m)) q) t
     pub late : δ (distances b) q + b .deadline < t
 
-  -- one that the sieve calls bad (02, request 6): with the set's costs added once, for some q ≤ K the demand at t = δ(q) + deadline is above t
+  -- one that the sieve calls bad (02, request 6): with the set's costs added once, for some q ≤ K the demand at t = δ(q) + deadline is
+  -- above t
   pub record IsCalled (close m : ℕ) : Type 0 where
     pub combination : Combination pieces m
     pub q : ℕ

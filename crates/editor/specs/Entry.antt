@@ -1,6 +1,7 @@
 -- The entries of the C editor (01, 'The C editor and the report'): what each returns, and what it leaves in the buffers it is lent.
--- 01 has latency, misses, segment and save, 02 the check (request 1), the write (request 2), the merge and its conflicts (request 4), the misses
--- by the plain engine and by the sieve (request 6), the two conversions (request 7); reading into rows, where a record stands, the report as an entry, and the version, are ours.
+-- 01 has latency, misses, segment and save, 02 the check (request 1), the write (request 2), the merge and its conflicts (request 4), the
+-- misses by the plain engine and by the sieve (request 6), the two conversions (request 7); reading into rows, where a record stands, the
+-- report as an entry, and the version, are ours.
 use Prim.Native.Nat.{ℕ, zero, suc, _*_, _-_}
 use mathlib.Core.Path.{_≡_}
 use mathlib.Core.List.{List, [], _∷_, _++_, map}

@@ -39,7 +39,7 @@ piecesFrom n (o ∷ os) = map (piece n) (o .actives) ++ piecesFrom (n + 1) os
 abbrev pub piecesOf : List Overload → List Piece
 piecesOf os = piecesFrom 0 os
 
--- the capacity of each of them, where t is (k − 1) times b's gap + latency: η_a(t) + 1
+-- the capacity of each of them, where t is b's largest distance of k activations + latency: η_a(t) + 1
 unfoldable pub capacitiesOf : ℕ → List Overload → List ℕ
 capacitiesOf t [] = []
 capacitiesOf t (o ∷ os) = map (λ a. η (o .list) t + 1) (o .actives) ++ capacitiesOf t os

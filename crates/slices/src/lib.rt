@@ -33,8 +33,8 @@ fn same_eight(a: &[u8], b: &[u8], i: usize) -> bool
     u64_at(a, i) == u64_at(b, i)
 }
 
-// How far the two agree for certain: eight bytes at a time, and four at last, since a record's length is a multiple of four, or in `CG` one
-// above one.
+// How far the two agree for certain: eight bytes at a time, and four at last, since a record's length is a multiple of four, or, in `CG`,
+// one more than that.
 fn agree(a: &[u8], b: &[u8]) -> usize
     requires { ⌜ length (now a) ≡ length (now b) ⌝ }
     ensures { λ r. ⌜ (r ≤ length (now (a .entry))) × ((j : ℕ) → j < r → getD (now (a .entry)) j 0 ≡ getD (now (b .entry)) j 0) ⌝ }

@@ -1,5 +1,5 @@
--- The verdict on a record (01, 'Stored table' and 'Numbers given back'; 02, request 7): accepted, or its first fault, as the number and the offset of the
--- first byte of the field at fault; where bytes are missing, that is the table's length (02, request 1).
+-- The verdict on a record (01, 'Stored table' and 'Numbers given back'; 02, request 7): accepted, or its first fault, as the number and
+-- the offset of the first byte of the field at fault; where bytes are missing, that is the table's length (02, request 1).
 use Prim.Native.Nat.{ℕ, zero, suc, max, _+_, _*_, _-_}
 use mathlib.Core.List.{List, [], _∷_}
 use mathlib.Core.Bool.{Bool, false, not, _&&_, _||_}
@@ -95,7 +95,8 @@ listFault s at =
     Refused 2 (length s) when ltb (length s) (largestPlace s at) else
     distancesFault (gapAt s at) (distancesAt s at) (listPlace s at) (gapPlace at)
 
--- of the largest distances from `at` on, the first that falls below the one before it or the smallest for its count, or exceeds the limit
+-- of the largest distances from `at` on, the first that falls below the one before it or the smallest for its count, or exceeds the limit;
+-- as many smallest stand beside them
 unfoldable pub shortFault : ℕ → List ℕ → List ℕ → ℕ → Verdict
 shortFault before ds [] at = Accepted
 shortFault before [] (l ∷ ls) at = Accepted

@@ -1,5 +1,5 @@
--- Where a refusal points (02, requests 1 and 7): for each number the field whose first byte stands at the place, and what is wrong with it. Every
--- refusal of `readTable` is proved to be one of these (proofs/Fields.antt).
+-- Where a refusal points (02, requests 1 and 7): for each number the field whose first byte stands at the place, and what is wrong with it.
+-- Every refusal of `readTable` is proved to be one of these (proofs/Fields.antt).
 use Prim.Native.Nat.{ℕ, zero, suc, max, _+_, _*_, _-_, _<_, _≤_}
 use mathlib.Core.Path.{_≡_}
 use mathlib.Core.List.{List}

@@ -1,4 +1,5 @@
--- The limits of document 01, 'What the analyzer covers', each stated once; `Table::limits` ties the code's constants to them.
+-- The limits of document 01, 'What the analyzer covers', and document 02, request 7, each stated once; `Table::limits` ties the code's
+-- constants to them.
 use Prim.Native.Nat.{ℕ}
 use Rattle.table.specs.declared.Limits.{Limits}
 
@@ -62,7 +63,7 @@ maxOverloads = 6
 abbrev pub maxCapacity : ℕ
 maxCapacity = 40
 
--- bytes of a table of either form (02, request 7), and of one whose records hold a gap
+-- bytes of a table that begins with `CG`, and of any other (02, request 7)
 abbrev pub maxBytes : ℕ
 maxBytes = 1748
 

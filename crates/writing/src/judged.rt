@@ -216,8 +216,8 @@ fn lists_number(row: Row) -> u32
     tasks_number(&priority, &cost, row.tasks)
 }
 
-// The number of a row's first fault but that of its form, after those judged. The tests stand one after the other, each with its return: handed on, a number
-// would be chosen and tested again.
+// The number of a row's first fault but that of its form, after those judged. The tests stand one after the other, each with its return:
+// handed on, a number would be chosen and tested again.
 fn row_number(judged: Tally, row: Row) -> u32
     requires { ⌜ Small judged ⌝ }
     ensures { λ r. ⌜ r ≡ rowNumber judged row ⌝ }
