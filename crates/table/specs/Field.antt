@@ -22,11 +22,12 @@ unfoldable pub tasksBefore : List ℕ → ℕ → ℕ
 tasksBefore s zero = 0
 tasksBefore s (suc n) = tasksBefore s n + tasksAt s (recordStart s n)
 
--- the first n records bear a chain's mark, and that of the first
+-- a chain's mark, and that of the first record
 pub record ChainMark (s : List ℕ) (at : ℕ) : Type 0 where
   pub chain : markOf (word 2 s at) ≡ Chain
   pub form : formAt s at ≡ formAt s 0
 
+-- the first n records bear it
 abbrev pub Chains : List ℕ → ℕ → Type 0
 Chains s n = (m : ℕ) → m < n → ChainMark s (recordStart s m)
 

@@ -54,9 +54,8 @@ pub use wide::u32_from_u16;
 pub use wide::u64_from_u8;
 pub use wide::u64_from_u32;
 
-// A chain as it is stored, its form by the mark: `listed` distances and `tasks` tasks, and with flag 1 as many largest distances. Places
-// past a count, and what the form lacks, are 0 in a row that was read; in one that a caller lends anything may stand there. C callers lend
-// rows too, so the layout is C's.
+// A chain as it is stored. Places past a count, and what its form lacks, are 0 in a row that was read; in one that a caller lends anything
+// may stand there. C callers lend rows too, so the layout is C's.
 #[repr(C)]
 pub struct Row {
     pub form: u16,

@@ -1,6 +1,5 @@
 // The judgement of a stored table: from the first byte on, and the first fault decides.
 use crate::Mark;
-use crate::Row;
 use crate::Table;
 use crate::Verdict;
 use crate::before::Before;
@@ -9,6 +8,7 @@ use crate::fault::chain_fault;
 use crate::fault::end_fault;
 use crate::fault::mark_of;
 use crate::record::form_at;
+use crate::record::has_flag;
 use crate::record::id_at;
 use crate::record::tasks_part;
 ghost use mathlib.Core.Path.{_≡_};
@@ -22,7 +22,7 @@ pub fn limit(s: &[u8]) -> usize
     if s.len() < 2 {
         return Table::GAP_BYTES;
     }
-    if form_at(s, 0) == Row::LARGEST_FORM {
+    if has_flag(form_at(s, 0)) {
         return Table::BYTES;
     }
     Table::GAP_BYTES
@@ -57,20 +57,12 @@ pub fn judge(s: &[u8]) -> Verdict
                         before.tasks = before.tasks + tasks.count;
                         at = at + (tasks.from + 8 * tasks.count);
                     }
-                    Verdict::Refused(_, _) => {
-                        return chain;
-                    }
+                    Verdict::Refused(_, _) => return chain,
                 }
             }
-            Mark::End => {
-                return end_fault(s, at, before.count);
-            }
-            Mark::Task => {
-                return Verdict::Refused(3, at);
-            }
-            Mark::Unknown => {
-                return Verdict::Refused(3, at);
-            }
+            Mark::End => return end_fault(s, at, before.count),
+            Mark::Task => return Verdict::Refused(3, at),
+            Mark::Unknown => return Verdict::Refused(3, at),
         }
     }
     Verdict::Refused(2, s.len())

@@ -1,7 +1,23 @@
 // What is wrong, for each number that a table, a merge or a conversion is refused with: the sentences of include/mishtodran.h.
 use crate::output::put;
 
-// Any other number has none.
+// What is wrong with a result. Any other number has no sentence.
+fn put_result_sentence(to: i32, number: u32) -> bool {
+    match number {
+        24 => put(
+            to,
+            b"the result, or the report's text, is longer than its buffer",
+        ),
+        32 => put(to, b"some id is changed differently on both sides"),
+        34 => put(
+            to,
+            b"some chain has no such form, or the table already has it",
+        ),
+        _ => true,
+    }
+}
+
+// What is wrong with a table, or with a result.
 pub fn put_sentence(to: i32, number: u32) -> bool {
     match number {
         1 => put(
@@ -29,23 +45,14 @@ pub fn put_sentence(to: i32, number: u32) -> bool {
             to,
             b"a 17th chain, no chain, a wrong end count, or bytes after the end",
         ),
-        24 => put(
-            to,
-            b"the result, or the report's text, is longer than its buffer",
-        ),
         28 => put(to, b"a list length is not 1 to 8"),
         29 => put(to, b"a distance falls or exceeds 10,000,000"),
         30 => put(to, b"the last distance is 0"),
         31 => put(to, b"a gap other than 0 is too small for the distances"),
-        32 => put(to, b"some id is changed differently on both sides"),
         33 => put(
             to,
             b"a flag is above 1, or a largest distance falls, is too large or too small",
         ),
-        34 => put(
-            to,
-            b"some chain has no such form, or the table already has it",
-        ),
-        _ => true,
+        _ => put_result_sentence(to, number),
     }
 }

@@ -191,15 +191,17 @@ fn shorts_come_back(a: &[u16], n: usize, b: &[u16]) -> bool {
     true
 }
 
-// The gap and the flag of a row, 0 where its form has none, and how many largest distances it has.
+// The gap of a row, 0 where its form has none.
 fn gap_back(form: u16, gap: u32) -> u32 {
     if form == Row::LARGEST_FORM { 0 } else { gap }
 }
 
+// Its flag, likewise.
 fn flag_back(form: u16, flag: u8) -> u8 {
     if form == Row::GAP_FORM { 0 } else { flag }
 }
 
+// How many largest distances it has.
 fn known_back(form: u16, flag: u8, listed: usize) -> usize {
     if flag_back(form, flag) == 0 {
         0

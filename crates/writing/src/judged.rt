@@ -15,12 +15,11 @@ ghost use Rattle.table.specs.Read.{numberOf};
 ghost use Rattle.writing.specs.Rows.{gapOf};
 ghost use Rattle.writing.specs.code.Tally.{formWrong, bears as bearsOf, listNumber, largestNumber, tasksNumber, listsNumber, rowNumber, unjudged as unjudgedOf, faulted as faultedOf, counted as countedOf, Small, CountedRoom, JudgedWith, mostJudged};
 
-// A form that no row has.
+// A form that no row has: it stands for that of the rows before the first, so that one test tells whether a later one's is right.
 const NO_FORM: u32 = 65_536;
 
 // What is known of the rows so far: the number of the first fault, 0 for none; of the good rows before it, their form, how many they are,
-// their tasks in all, the length of their records, and their ids, the newest first. Before the first row the form is `NO_FORM`, so that
-// for all others one test tells that theirs is right.
+// their tasks in all, the length of their records, and their ids, the newest first.
 pub struct Tally {
     pub number: u32,
     pub form: u32,
