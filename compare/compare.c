@@ -124,7 +124,7 @@ static const char *const merge_name[] = {"accepted, the first copy converted",
                                          "1, both forms in the result"};
 
 /* What a write comes to where it is the form that decides. */
-enum { LONG_WRITTEN, NO_FIRST_FORM, NO_FORM, ANOTHER_FORM, FORM_OF_17TH, WRITE_GROUNDS };
+enum { LONG_WRITTEN, NEITHER_FIRST, NEITHER_FORM, ANOTHER_FORM, FORM_OF_17TH, WRITE_GROUNDS };
 static const char *const write_name[] = {"accepted, over 1,284 bytes",
                                          "3, no form, the first row",
                                          "3, no form, a later row",
@@ -1260,11 +1260,11 @@ static unsigned write_ground(const struct made_rows *made, uint32_t returned)
     while (at < made->count && made->row[at].form == made->row[0].form)
         at++;
     if (at == made->count)
-        return NO_FIRST_FORM;
+        return NEITHER_FIRST;
     uint16_t form = made->row[at].form;
     if (at == 16)
         return FORM_OF_17TH;
-    return form == MISHTODRAN_GAP_FORM || form == MISHTODRAN_LARGEST_FORM ? ANOTHER_FORM : NO_FORM;
+    return form == MISHTODRAN_GAP_FORM || form == MISHTODRAN_LARGEST_FORM ? ANOTHER_FORM : NEITHER_FORM;
 }
 
 /* Writes with both, and gives back what they return. Both must do what the rows' bytes say. */

@@ -1412,10 +1412,10 @@ static void spoil_stored_list(struct source *source, struct generated *table, co
 
 static void spoil_task(struct source *source, uint8_t *task, unsigned step)
 {
-    static const char *const marks[] = {"CH", "EN", "XK", "TX"};
+    static const char *const marks[] = {"CH", "CG", "EN", "XK", "TX"};
     switch (step) {
     case TASK_MARK:
-        put_mark(task, marks[draw(source, 0, 3)]);
+        put_mark(task, marks[draw(source, 0, 4)]);
         break;
     case PRIORITY:
         put(task + 2, 0, 2);
