@@ -1,14 +1,14 @@
 -- How long a record is in the other form, and all of them. Assumes nothing.
 use Prim.Native.Nat.{ℕ, zero, suc, _+_, _*_, _≤_}
 use native.Mathlib.Omega.{arith}
-use mathlib.Core.Path.{_≡_}
+use mathlib.Core.Path.{_≡_, refl}
 use mathlib.Core.List.{map}
 use lib.ListN.{drop}
 use borrow.Author.Tests.{eq-eqb, ne-eqb}
 use Rattle.search.specs.Choice.{_when_else_}
 use Rattle.search.specs.Lists.{sumOf}
 use Rattle.table.specs.Limits.{maxChains}
-use Rattle.table.specs.Record.{gapForm, largestForm, headLength, known}
+use Rattle.table.specs.Record.{gapForm, largestForm, headLength, known, knownOf}
 use Rattle.table.specs.Find.{rows}
 use Rattle.table.specs.Place.{lengthOf}
 use Rattle.table.specs.code.Good.{GoodRow, GoodTable}
@@ -20,6 +20,20 @@ use Rattle.converting.specs.Forms.{withLargest, withGap, converted}
 use Rattle.converting.specs.declared.To.{To}
 use Rattle.converting.specs.declared.To.the-variants.{Largest, Gap}
 use Rattle.converting.proofs.Walks.{rows-from, rows-end}
+
+-- how many largest distances there are in the other form
+module _ (r : Row) where
+  pub none-with-gap : knownOf (withGap r) ≡ 0
+  unfolding known _when_else_
+  none-with-gap = refl
+
+  pub none-unknown : r .gap ≡ 0 → knownOf (withLargest r) ≡ 0
+  unfolding known _when_else_
+  none-unknown e = rw (eq-eqb _ _ e)
+
+  pub all-known : (r .gap ≡ 0 → ⊥) → knownOf (withLargest r) ≡ r .listed
+  unfolding known _when_else_
+  all-known h = rw (ne-eqb _ _ h)
 
 -- one record, in the code's shape
 module _ (r : Row) where

@@ -5,5 +5,6 @@ pub mod Lengths
 pub mod Goods
 pub mod Typed
 pub mod Accepted
+pub mod Copied
 pub mod Puts
 pub mod Results

@@ -17,13 +17,12 @@ use Rattle.table.specs.declared.Row.{Row}
 use Rattle.slices.specs.code.Wrote.{Wrote}
 use Rattle.slices.proofs.Parts.{map-at}
 use Rattle.writing.specs.Rows.{rowBytes}
-use Rattle.writing.specs.code.Put.{RowRoom, rowRecords}
+use Rattle.writing.specs.code.Put.{rowRecords}
 use Rattle.writing.proofs.Pieces.{row-length}
 use Rattle.writing.proofs.Loops.{records-more, records-split}
 use Rattle.converting.specs.Forms.{converted}
 use Rattle.converting.specs.Convert.{rowsIn}
 use Rattle.converting.specs.declared.To.{To}
-use Rattle.converting.specs.declared.To.the-variants.{Largest, Gap}
 
 -- records are as long as their rows say
 pub records-sum : (l : List Row) → length (flatten (map rowBytes l)) ≡ sumOf lengthOf l
@@ -31,14 +30,9 @@ unfolding flatten sumOf
 records-sum [] = refl
 records-sum (r ∷ l) = omega (arith, length-append (rowBytes r) (flatten (map rowBytes l)), row-length r, records-sum l)
 
--- what a conversion keeps of a row's counts
-module _ {r : Row} (good : GoodRow r) where
-  pub small-enough : (r .gap ≤ maxGap) × (r .listed ≤ maxDistances)
-  small-enough = (good .gap-max, omega (arith, good .listed, good .list .few))
-
-  converted-room : (to : To) (buffer : List ℕ) (at : ℕ) → at + length (rowBytes (converted to r)) ≤ length buffer → RowRoom (converted to r) buffer at
-  converted-room Largest buffer at h = record { form = refl; some = omega (arith, good .listed, good .list .some); listed = small-enough .1; tasks = good .tasks .few; room = h }
-  converted-room Gap buffer at h = record { form = refl; some = omega (arith, good .listed, good .list .some); listed = small-enough .1; tasks = good .tasks .few; room = h }
+-- a good row's gap and list length
+pub small-enough : {r : Row} → GoodRow r → (r .gap ≤ maxGap) × (r .listed ≤ maxDistances)
+small-enough good = (good .gap-max, omega (arith, good .listed, good .list .few))
 
 -- the rows of an accepted table, converted
 module _ (to : To) {s : List ℕ} (t : Taken s) where
@@ -56,10 +50,10 @@ module _ (to : To) {s : List ℕ} (t : Taken s) where
     row-in = map-at (converted to) (rows (tableOf s)) chain blank blank (omega (arith, long)) ∙ ap (converted to) (getD-take (tableOf s .count) (tableOf s .row) chain blank h)
 
     -- the next has room where all have
-    pub room-in : (buffer zs : List ℕ) (at : ℕ) → sumOf lengthOf rs ≤ length buffer → Wrote buffer 0 (rowRecords rs chain) zs at → RowRoom (converted to (rowOf (tableOf s) chain)) zs at
+    pub room-in : (buffer zs : List ℕ) (at : ℕ) → sumOf lengthOf rs ≤ length buffer → Wrote buffer 0 (rowRecords rs chain) zs at → at + lengthOf (converted to (rowOf (tableOf s) chain)) ≤ length zs
     room-in buffer zs at l w =
         let one : chain < length rs = omega (arith, count-in) in
         let more = ap length (records-split rs (chain + 1)) ∙ length-append (rowRecords rs (chain + 1)) _ in
         let next = ap length (records-more rs chain one) ∙ length-append (rowRecords rs chain) (rowBytes (getD rs chain blank)) in
         let same = ap (λ (r : Row). length (rowBytes r)) row-in in
-        converted-room (t .good .row chain h) to zs at (omega (arith, l, records-sum rs, more, next, same, w .ends, w .long))
+        omega (arith, l, records-sum rs, more, next, same, row-length (converted to (rowOf (tableOf s) chain)), w .ends, w .long)

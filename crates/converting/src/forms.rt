@@ -1,15 +1,57 @@
-// A row in the other form.
+// What a chain has in the form asked.
 use crate::To;
 use table::Row;
 use table::Table;
+use table::gap_at;
+use table::known_at;
+use table::largest_at;
 ghost use mathlib.Core.Path.{_≡_};
 ghost use Prim.Native.Nat.{_≤_};
 ghost use Rattle.table.specs.Limits.{maxDistances, maxGap};
-ghost use Rattle.table.specs.Record.{pad};
-ghost use Rattle.converting.specs.Forms.{multiples as multiplesOf, withLargest, withGap, converted as convertedRow};
+ghost use Rattle.table.specs.Record.{pad, rowAt};
+ghost use Rattle.table.specs.code.Taken.{Stands};
+ghost use Rattle.converting.specs.Forms.{multiples as multiplesOf, formOf, converted};
+
+// The form's mark.
+pub fn form_of(to: To) -> u16
+    ensures { λ r. ⌜ r ≡ formOf to ⌝ }
+{
+    match to {
+        To::Largest => Row::LARGEST_FORM,
+        To::Gap => Row::GAP_FORM,
+    }
+}
+
+// The flag of the chain at `at`.
+pub fn flag_in(s: &[u8], at: usize, to: To) -> u8
+    requires { ⌜ Stands (now s) at ⌝ }
+    ensures { λ r. ⌜ r ≡ converted to (rowAt (now (s .entry)) at) .flag ⌝ }
+{
+    match to {
+        To::Largest => { if gap_at(s, at) == 0 { 0 } else { 1 } }
+        To::Gap => 0,
+    }
+}
+
+// Its gap: the first largest distance, 0 where none is known.
+pub fn gap_in(s: &[u8], at: usize, to: To) -> u32
+    requires { ⌜ Stands (now s) at ⌝ }
+    ensures { λ r. ⌜ r ≡ converted to (rowAt (now (s .entry)) at) .gap ⌝ }
+{
+    match to {
+        To::Largest => 0,
+        To::Gap => {
+            if known_at(s, at) == 0 {
+                0
+            } else {
+                largest_at(s, at, 0)
+            }
+        }
+    }
+}
 
 // The first n multiples of a gap, and 0 past them.
-fn multiples(gap: u32, n: usize) -> [u32; Table::DISTANCES]
+pub fn multiples(gap: u32, n: usize) -> [u32; Table::DISTANCES]
     requires { ⌜ (gap ≤ maxGap) × (n ≤ maxDistances) ⌝ }
     ensures { λ r. ⌜ r ≡ pad maxDistances (multiplesOf gap n) ⌝ }
 {
@@ -22,39 +64,4 @@ fn multiples(gap: u32, n: usize) -> [u32; Table::DISTANCES]
         i += 1;
     }
     list
-}
-
-fn with_largest(row: Row) -> Row
-    requires { ⌜ (row .gap ≤ maxGap) × (row .listed ≤ maxDistances) ⌝ }
-    ensures { λ r. ⌜ r ≡ withLargest row ⌝ }
-{
-    let largest = multiples(row.gap, row.listed);
-    let mut with = row;
-    with.form = Row::LARGEST_FORM;
-    with.flag = if row.gap == 0 { 0 } else { 1 };
-    with.gap = 0;
-    with.largest = largest;
-    with
-}
-
-fn with_gap(row: Row) -> Row
-    ensures { λ r. ⌜ r ≡ withGap row ⌝ }
-{
-    let largest = row.largest;
-    let mut with = row;
-    with.form = Row::GAP_FORM;
-    with.flag = 0;
-    with.gap = largest[0];
-    with.largest = [0u32; Table::DISTANCES];
-    with
-}
-
-pub fn converted(row: Row, to: To) -> Row
-    requires { ⌜ (row .gap ≤ maxGap) × (row .listed ≤ maxDistances) ⌝ }
-    ensures { λ r. ⌜ r ≡ convertedRow to row ⌝ }
-{
-    match to {
-        To::Largest => with_largest(row),
-        To::Gap => with_gap(row),
-    }
 }

@@ -1,10 +1,11 @@
-// A table in the other form (document 02, request 7): each chain is read as a row, converted, and put as a record of that form. All is
-// judged before the first byte is put.
+// A table in the other form (document 02, request 7): what both forms have of a chain is copied, the rest put in
+// the form asked. All is judged before the first byte is put.
 ghost use Rattle.converting.specs.Convert.{Converts};
 ghost use Rattle.converting.specs.declared.To.the-variants.{Largest, Gap};
 
 mod forms;
 mod put;
+mod record;
 mod shape;
 
 pub use put::convert;

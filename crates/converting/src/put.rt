@@ -1,17 +1,15 @@
 // A converted table put into a lent buffer, and whether it is.
 use crate::To;
-use crate::forms::converted;
+use crate::forms::form_of;
+use crate::record::put_record;
 use crate::shape::all_fit;
 use crate::shape::records_length;
-use table::Row;
 use table::Verdict;
 use table::count;
 use table::form_at;
 use table::record_length;
-use table::row_at;
 use writing::Written;
 use writing::put_end;
-use writing::put_row;
 ghost use mathlib.Core.Path.{_≡_};
 ghost use mathlib.Core.List.{map, flatten};
 ghost use Prim.Native.Nat.{_≤_};
@@ -23,18 +21,7 @@ ghost use Rattle.table.specs.Read.{readTable};
 ghost use Rattle.table.specs.declared.Verdict.the-variants.{Accepted};
 ghost use Rattle.slices.specs.code.Wrote.{Wrote};
 ghost use Rattle.writing.specs.Rows.{rowBytes};
-ghost use Rattle.converting.specs.Forms.{formOf};
 ghost use Rattle.converting.specs.Convert.{rowsIn, Converts};
-
-// The form's mark.
-fn form_of(to: To) -> u16
-    ensures { λ r. ⌜ r ≡ formOf to ⌝ }
-{
-    match to {
-        To::Largest => Row::LARGEST_FORM,
-        To::Gap => Row::GAP_FORM,
-    }
-}
 
 // The records of all chains, in the form asked; answers where they end.
 fn put_records(s: &[u8], out: &mut [u8], to: To) -> usize
@@ -46,7 +33,7 @@ fn put_records(s: &[u8], out: &mut [u8], to: To) -> usize
     let mut at: usize = 0;
     let mut chain: usize = 0;
     while chain < chains {
-        next = put_row(out, next, converted(row_at(s, at), to));
+        next = put_record(s, at, to, out, next);
         at = at + record_length(s, at);
         chain += 1;
     }

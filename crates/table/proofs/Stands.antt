@@ -49,7 +49,7 @@ module _ (s : List ℕ) (at : ℕ) where
 
 -- its list, read from where it starts
 module _ (s : List ℕ) (at : ℕ) {list : ℕ} (e : list ≡ listPlace s at) where
-  listed-from : listedFrom s list ≡ listedAt s at
+  pub listed-from : listedFrom s list ≡ listedAt s at
   listed-from = ap (λ i. getD s i 0) (listed-before s list at e)
 
   pub distances-from : distances (rowAt s at) ≡ distancesFrom s list

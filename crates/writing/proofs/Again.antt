@@ -46,13 +46,13 @@ pieces-again s f w p (suc n) h =
 
 module _ (s : List ℕ) (bytes : Bytes s) where
   -- a number's bytes, and one byte's
-  number : (n p : ℕ) → p + n ≤ length s → bytesOf n (word n s p) ≡ take n (drop p s)
+  pub number : (n p : ℕ) → p + n ≤ length s → bytesOf n (word n s p) ≡ take n (drop p s)
   number n p h = word-back n s p bytes h
 
-  byte : (p : ℕ) → p + 1 ≤ length s → bytesOf 1 (getD s p 0) ≡ take 1 (drop p s)
+  pub byte : (p : ℕ) → p + 1 ≤ length s → bytesOf 1 (getD s p 0) ≡ take 1 (drop p s)
   byte p h = ap (bytesOf 1) (sym (one-byte s p)) ∙ number 1 p h
 
-  count : (p : ℕ) → p + 1 ≤ length s → countByte (getD s p 0) ≡ take 1 (drop p s)
+  pub count : (p : ℕ) → p + 1 ≤ length s → countByte (getD s p 0) ≡ take 1 (drop p s)
   count p h = let e : min (getD s p 0) 255 ≡ getD s p 0 = omega (arith, bytes p) in ap (bytesOf 1) e ∙ byte p h
 
   -- the gap, or the flag in its place
@@ -93,7 +93,7 @@ module _ (s : List ℕ) (bytes : Bytes s) where
         (sym (take-next s at (10 + width + 1) 1
         ∙ rw (last, take-next s at (10 + width) 1, take-next s at 10 width, take-next s at 6 4, take-next s at 5 1, take-next s at 4 1, take-next s at 2 2)))
 
-    list-again : listBytes (r .list) (listedAt s at) ≡ take (4 * listedAt s at) (drop (listPlace s at) s)
+    pub list-again : listBytes (r .list) (listedAt s at) ≡ take (4 * listedAt s at) (drop (listPlace s at) s)
     list-again = pieces-again s (distanceBytes (r .list)) 4 (listPlace s at) (listedAt s at)
         (λ j h. ap (bytesOf 4) (list-at s at j h) ∙ number 4 (listPlace s at + 4 * j) (omega (arith, there, h)))
 
@@ -106,7 +106,7 @@ module _ (s : List ℕ) (bytes : Bytes s) where
         let q = firstTask s at + 8 * i in
         rw (priority-at s at i h, cost-at s at i h) (sym (task-there s q bytes (omega (arith, there, h)) (marks i h)))
 
-    tasks-again : tasksBytes (r .priority) (r .cost) (tasksAt s at) ≡ take (8 * tasksAt s at) (drop (firstTask s at) s)
+    pub tasks-again : tasksBytes (r .priority) (r .cost) (tasksAt s at) ≡ take (8 * tasksAt s at) (drop (firstTask s at) s)
     tasks-again = pieces-again s (taskBytes (r .priority) (r .cost)) 8 (firstTask s at) (tasksAt s at) task-again
 
     -- its row's bytes are its own

@@ -23,7 +23,7 @@ ghost use Rattle.search.specs.Choice.{_when_else_};
 ghost use Rattle.writing.specs.code.Put.{distanceOf, writeAnswer, rowsPut, RowRoom, EndRoom, Ends};
 
 // The gap, or the flag in its place.
-fn put_gap(out: &mut [u8], at: usize, form: u16, flag: u8, gap: u32) -> usize
+pub fn put_gap(out: &mut [u8], at: usize, form: u16, flag: u8, gap: u32) -> usize
     requires { ⌜ at + gapWidth form ≤ length (now out) ⌝ }
     ensures { λ r. ⌜ Wrote (now (out .entry)) at (gapBytes form flag gap) (now (out .exit)) r ⌝ }
 {
@@ -86,7 +86,7 @@ fn put_distance(
 
 // The first n distances. The loop goes over all places, so that it is unrolled; it would be a copy of memory otherwise, slow for so few.
 // The last is put by its number, which keeps the list in one place instead of eight registers.
-fn put_list(out: &mut [u8], at: usize, list: &[u32; Table::DISTANCES], n: usize) -> usize
+pub fn put_list(out: &mut [u8], at: usize, list: &[u32; Table::DISTANCES], n: usize) -> usize
     requires { ⌜ (1 ≤ n) × (n ≤ maxDistances) × (at + 4 * n ≤ length (now out)) ⌝ }
     ensures { λ r. ⌜ Wrote (now (out .entry)) at (listBytes (now (list .entry)) n) (now (out .exit)) r ⌝ }
 {
