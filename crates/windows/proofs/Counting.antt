@@ -1,4 +1,4 @@
--- Counts of arrivals while t grows: none falls. Assumes nothing.
+-- By which list a chain's own arrivals are counted; counts of arrivals while t grows: none falls. Assumes nothing.
 use Prim.Native.Nat.{ℕ, _+_, _≤_, _<_}
 use mathlib.Core.Path.{_≡_, refl, sym, subst, _∙_}
 use mathlib.Core.List.{List}
@@ -11,9 +11,19 @@ use Rattle.search.proofs.Choice.{lt-or-le}
 use Rattle.table.specs.Limits.{maxChains}
 use Rattle.arrivals.specs.Arrivals.{η}
 use Rattle.table.specs.code.Good.{GoodDistances}
+use Rattle.table.specs.code.Listed.{distancesFrom, Lists}
+use Rattle.table.proofs.Stands.{distances-from, lists}
 use Rattle.arrivals.proofs.Counts.{η-mono}
-use Rattle.windows.specs.code.Load.{Load, heldAt, Sound}
+use Rattle.windows.specs.code.Load.{Load, heldAt, ownOf, Sound}
 use Rattle.windows.specs.code.Climb.{Behind, Counted}
+
+-- the chain's own list, where it starts
+module _ (l : Load) (ok : Sound l) where
+  pub own-list : ownOf l ≡ distancesFrom (l .bytes) (l .list)
+  own-list = distances-from (l .bytes) (l .at) (ok .placed)
+
+  pub own-lists : Lists (l .bytes) (l .list)
+  own-lists = lists (l .bytes) (l .at) (ok .placed) (ok .stands)
 
 module _ {s held : List ℕ} where
   -- the chain i is counted too

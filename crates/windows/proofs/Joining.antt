@@ -10,7 +10,7 @@ use lib.Seq.{getD-set-same, getD-set-other}
 use Rattle.search.specs.Lists.{sumOf}
 use Rattle.search.proofs.Lists.{sum-append}
 use Rattle.table.specs.Limits.{maxChains}
-use Rattle.table.specs.Record.{rowAt}
+use Rattle.table.specs.Record.{listPlace, rowAt}
 use Rattle.table.specs.declared.Row.{Row}
 use Rattle.table.specs.code.Listed.{distancesFrom, Lists}
 use Rattle.table.specs.code.Taken.{Stands}
@@ -28,11 +28,12 @@ use Rattle.windows.proofs.Bounds.{held-on}
 -- the chain at `at` alone: nothing is held
 pub alone-loads : (s : List ℕ) (at : ℕ) → Stands s at → (held : List ℕ) → length held ≡ 2 * maxChains
     → Loads (rowAt s at) []
-    (record { bytes = s; at = at; cost = chainCost (rowAt s at); part = countedPart (rowAt s at); once = 0; count = 0; held = held })
+    (record { bytes = s; at = at; list = listPlace s at; cost = chainCost (rowAt s at); part = countedPart (rowAt s at); once = 0; count = 0; held = held })
 unfolding demandIn demandOf heldOf sumOf
 alone-loads s at here held long = record {
   sound = record {
     stands = here;
+    placed = refl;
     some = omega (arith, part-less (rowAt s at) (here .good));
     cheap = chain-max (rowAt s at) (here .good);
     part = omega (arith, part-less (rowAt s at) (here .good));
@@ -55,6 +56,7 @@ module _ (l : Load) (cost : ℕ) where
   pub dearer-sound : Sound l → l .once + cost ≤ onceLimit → Sound (dearer l cost)
   dearer-sound ok h = record {
     stands = ok .stands;
+    placed = ok .placed;
     some = ok .some;
     cheap = ok .cheap;
     part = ok .part;
@@ -130,6 +132,7 @@ joined l x place =
     record {
       bytes = l .bytes;
       at = l .at;
+      list = l .list;
       cost = l .cost;
       part = l .part;
       once = l .once + x .once;
@@ -153,6 +156,7 @@ module _ (l : Load) (v : View) (x : Term) (place : ℕ) (ok : Sound l) (few : l 
   held-joined = record {
     sound = record {
       stands = ok .stands;
+      placed = ok .placed;
       some = ok .some;
       cheap = ok .cheap;
       part = ok .part;

@@ -3,7 +3,6 @@ use crate::Own;
 use crate::Window;
 use arrivals::eta_from;
 use table::Table;
-use table::list_place;
 ghost use mathlib.Core.Path.{_≡_};
 ghost use Prim.Native.Nat.{_-_, _≤_};
 ghost use lib.Dec.{eqb};
@@ -67,11 +66,10 @@ pub fn climb(
     requires { ⌜ Climbs (loadOf (now s) own (now held)) q start (now counts) ⌝ }
     ensures { λ r. ⌜ Climbed (loadOf (now (s .entry)) own (now (held .entry))) q r (now (counts .exit)) ⌝ }
 {
-    let list = list_place(s, own.at);
     let fixed = q * own.cost + own.once;
     let mut t = start;
     while t <= Table::HORIZON {
-        let mine = own_count(s, list, own.part, t, counts[Table::CHAINS]);
+        let mine = own_count(s, own.list, own.part, t, counts[Table::CHAINS]);
         counts[Table::CHAINS] = mine;
         let more = past(mine, q) * own.part;
         let d = fixed + more + held_sum(s, held, own.count, t, counts);

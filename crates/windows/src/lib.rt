@@ -56,10 +56,11 @@ struct Span {
     to: usize,
 }
 
-// A chain's own part of its demand: where its record stands, its cost, its own first part (0 if it is synchronous), what the others
+// A chain's own part of its demand: where its record stands and where its list of distances starts, its cost, its own first part (0 if it is synchronous), what the others
 // add once, and how many of them are held in an array beside it, because their η counts.
 pub struct Own {
     pub at: usize,
+    pub list: usize,
     pub cost: u64,
     pub part: u64,
     pub once: u64,

@@ -75,6 +75,7 @@ fn alone(s: &[u8], at: usize, floor: u32) -> Own
 {
     Own {
         at,
+        list: list_place(s, at),
         cost: chain_cost(s, at) as u64,
         part: part(s, at, floor),
         once: 0,

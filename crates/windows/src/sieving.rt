@@ -6,7 +6,6 @@ use arrivals::delta;
 use arrivals::eta_from;
 use table::Table;
 use table::deadline_at;
-use table::list_place;
 ghost use mathlib.Core.Path.{_≡_};
 ghost use Prim.Native.Nat.{_≤_, min};
 ghost use Rattle.table.specs.Limits.{maxActivations};
@@ -32,7 +31,7 @@ fn demand(s: &[u8], own: Own, held: &[u64; Own::HELD], q: u64, t: u64) -> u64
     requires { ⌜ Sound (loadOf (now s) own (now held)) × (q ≤ maxActivations) × (t ≤ latest) ⌝ }
     ensures { λ r. ⌜ r ≡ demandIn (loadOf (now (s .entry)) own (now (held .entry))) q t ⌝ }
 {
-    let more = past(eta_from(s, list_place(s, own.at), t, 0), q) * own.part;
+    let more = past(eta_from(s, own.list, t, 0), q) * own.part;
     let fixed = q * own.cost + own.once;
     fixed + more + held_at(s, held, own.count, t)
 }
@@ -50,14 +49,12 @@ pub fn least_called(s: &[u8], own: Own, held: &[u64; Own::HELD], close: u32, mos
     requires { ⌜ Starts (loadOf (now s) own (now held)) close ⌝ }
     ensures { λ r. ⌜ CalledFrom (loadOf (now (s .entry)) own (now (held .entry))) close most r ⌝ }
 {
-    let at = own.at;
-    let list = list_place(s, at);
-    let deadline = deadline_at(s, at);
+    let deadline = deadline_at(s, own.at);
     let mut least = most;
     let mut done: u32 = 0;
     while done < close {
         let q = done as u64 + 1;
-        let start = delta(s, list, q);
+        let start = delta(s, own.list, q);
         let t = start + (deadline as u64);
         least = smaller(least, past(t + 1, demand(s, own, held, q, t)));
         done += 1;

@@ -4,7 +4,6 @@ use crate::Window;
 use crate::climbing::climb;
 use arrivals::delta;
 use table::deadline_at;
-use table::list_place;
 ghost use mathlib.Core.Path.{_≡_};
 ghost use Prim.Native.Nat.{_≤_};
 ghost use Rattle.table.specs.Limits.{maxActivations};
@@ -15,9 +14,7 @@ pub fn any_over(s: &[u8], own: Own, held: &[u64; Own::HELD], close: u32) -> bool
     requires { ⌜ Sound (loadOf (now s) own (now held)) × (close ≤ maxActivations) ⌝ }
     ensures { λ r. ⌜ r ≡ overIn (loadOf (now (s .entry)) own (now (held .entry))) close ⌝ }
 {
-    let at = own.at;
-    let list = list_place(s, at);
-    let deadline = deadline_at(s, at);
+    let deadline = deadline_at(s, own.at);
     let mut counts = [0u64; Own::COUNTS];
     let mut start: u64 = 1;
     let mut done: u32 = 0;
@@ -27,7 +24,7 @@ pub fn any_over(s: &[u8], own: Own, held: &[u64; Own::HELD], close: u32) -> bool
         let Window::At(t) = w else {
             return true;
         };
-        if delta(s, list, q) + (deadline as u64) < t {
+        if delta(s, own.list, q) + (deadline as u64) < t {
             return true;
         }
         start = t;

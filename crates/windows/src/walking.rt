@@ -7,7 +7,6 @@ use crate::climbing::climb;
 use arrivals::delta;
 use table::Table;
 use table::deadline_at;
-use table::list_place;
 ghost use mathlib.Core.Path.{_≡_};
 ghost use Prim.Native.Nat.{max, _≤_};
 ghost use Rattle.table.specs.Limits.{horizon, maxDeadline};
@@ -50,9 +49,7 @@ pub fn walk(s: &[u8], own: Own, held: &[u64; Own::HELD]) -> Windows
     requires { ⌜ Sound (loadOf (now s) own (now held)) ⌝ }
     ensures { λ r. ⌜ r ≡ windowsIn (loadOf (now (s .entry)) own (now (held .entry))) ⌝ }
 {
-    let at = own.at;
-    let list = list_place(s, at);
-    let deadline = deadline_at(s, at);
+    let deadline = deadline_at(s, own.at);
     let mut counts = [0u64; Own::COUNTS];
     let mut done: u32 = 0;
     let mut start: u64 = 1;
@@ -66,7 +63,7 @@ pub fn walk(s: &[u8], own: Own, held: &[u64; Own::HELD]) -> Windows
             return refused(16);
         };
         let span = t - behind;
-        let next = delta(s, list, q as u64 + 1);
+        let next = delta(s, own.list, q as u64 + 1);
         latency = larger(latency, span);
         late = late + over(span, deadline as u64);
         if t <= next {

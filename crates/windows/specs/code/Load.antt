@@ -8,7 +8,7 @@ use lib.ListN.{length, getD}
 use lib.Seq.{slice}
 use Rattle.search.specs.Lists.{sumOf}
 use Rattle.table.specs.Limits.{maxChains, maxDeadline, horizon}
-use Rattle.table.specs.Record.{rowAt, distances}
+use Rattle.table.specs.Record.{listPlace, rowAt, distances}
 use Rattle.table.specs.Find.{rows}
 use Rattle.table.specs.Place.{placeOf}
 use Rattle.table.specs.Read.{tableOf}
@@ -59,11 +59,12 @@ pub record Held (s held : List ℕ) (n : ℕ) : Type 0 where
   pub lists : (i : ℕ) → i < n → Lists s (heldPlace held i)
   pub cheap : (i : ℕ) → i < n → heldRate held i ≤ dearest
 
--- a table's bytes; the chain: the place of its record, its cost, its own first part, 0 if it's synchronous; what the others add
+-- a table's bytes; the chain: the places of its record and of its list, its cost, its own first part, 0 if it's synchronous; what the others add
 -- once; and how many are held beside it, and what is held of them
 pub record Load : Type 0 where
   pub bytes : List ℕ
   pub at : ℕ
+  pub list : ℕ
   pub cost : ℕ
   pub part : ℕ
   pub once : ℕ
@@ -72,7 +73,7 @@ pub record Load : Type 0 where
 
 abbrev pub loadOf : List ℕ → Own → List ℕ → Load
 loadOf s own held =
-    record { bytes = s; at = own .at; cost = own .cost; part = own .part; once = own .once; count = own .count; held = held }
+    record { bytes = s; at = own .at; list = own .list; cost = own .cost; part = own .part; once = own .once; count = own .count; held = held }
 
 -- the chain, and its distances
 abbrev pub rowIn : Load → Row
@@ -95,6 +96,7 @@ overIn l close = anyOver (demandIn l) (ownOf l) (rowIn l .deadline) close
 -- its parts are within what a table can hold
 pub record Sound (l : Load) : Type 0 where
   pub stands : Stands (l .bytes) (l .at)
+  pub placed : l .list ≡ listPlace (l .bytes) (l .at)
   pub some : 1 ≤ l .cost
   pub cheap : l .cost ≤ dearest
   pub part : l .part ≤ l .cost
@@ -104,7 +106,7 @@ pub record Sound (l : Load) : Type 0 where
 -- the load with a cost more
 abbrev pub dearer : Load → ℕ → Load
 dearer l cost =
-    record { bytes = l .bytes; at = l .at; cost = l .cost; part = l .part; once = l .once + cost; count = l .count; held = l .held }
+    record { bytes = l .bytes; at = l .at; list = l .list; cost = l .cost; part = l .part; once = l .once + cost; count = l .count; held = l .held }
 
 -- which others add: all, or those without overload mark; of views, and of the chains of a table
 abbrev pub addsTo : Others → ℕ → Bool

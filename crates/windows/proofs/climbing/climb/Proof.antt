@@ -10,8 +10,6 @@ use lib.Dec.{eqb}
 use lib.Seq.{getD-set-same}
 use Rattle.search.specs.Choice.{_when_else_}
 use Rattle.table.specs.Limits.{horizon, maxChains}
-use Rattle.table.specs.code.Listed.{distancesFrom, Lists}
-use Rattle.table.proofs.Stands.{distances-from, lists}
 use Rattle.arrivals.specs.Arrivals.{η}
 use Rattle.arrivals.proofs.Counts.{η-mono}
 use Rattle.windows.specs.code.Climb.{Under, Counted}
@@ -20,20 +18,20 @@ use Rattle.windows.specs.Latency.{long}
 use Rattle.windows.proofs.Least.{Grows, under-climbs, under-next, under-solves, under-none}
 use Rattle.windows.proofs.Growth.{load-growing}
 use Rattle.windows.proofs.Bounds.{busiest, fixed-le, own-counted, more-le, sum-le, demand-is}
-use Rattle.windows.proofs.Counting.{behind-own, behind-later}
+use Rattle.windows.proofs.Counting.{own-list, own-lists, behind-own, behind-later}
 use Rattle.windows.proofs.climbing.climb.Statement.{statement}
 use Rattle.windows.proofs.climbing.climb.Tie as tie
 
 abbrev Inv-loop : tie.InvT-loop
-Inv-loop s own held q start counts₀ list fixed t₀ counts t =
+Inv-loop s own held q start counts₀ fixed t₀ counts t =
     Under (demandIn (loadOf s own held) q) t × Counted (loadOf s own held) t counts
 
 abbrev μ-loop : tie.MeasureT-loop
-μ-loop s own held q start counts₀ list fixed t₀ counts t = horizon + 1 - t
+μ-loop s own held q start counts₀ fixed t₀ counts t = horizon + 1 - t
 
 -- the places that the answers speak of
 abbrev start : tie.At-loop Inv-loop μ-loop → tie.Start Inv-loop μ-loop
-start c = c .before .before .before .before .before
+start c = c .before .before .before .before
 
 abbrev head : tie.After-own-count Inv-loop μ-loop → tie.At-loop Inv-loop μ-loop
 head c = c .before .before .before
@@ -54,28 +52,14 @@ grows c = load-growing (load c) (c .pre .sound) .grows (c .args .q) (c .pre .som
 fixed : (c : tie.Start Inv-loop μ-loop) → c .args .q * c .args .own .cost + c .args .own .once ≤ 100000000000
 fixed c = fixed-le (load c) (c .pre .sound) (c .args .q) 0 (c .pre .few) (omega arith)
 
-list-place-requires : tie.Need-list-place-requires Inv-loop μ-loop
-list-place-requires c κs = omega (arith, c .before .pre .sound .stands .there)
-
--- the chain's list, where it was found
-module _ (h : tie.At-loop Inv-loop μ-loop) where
-  abbrev list : ℕ
-  list = h .before .before .before .list-place .result
-
-  own-there : ownOf (load (start h)) ≡ distancesFrom (start h .args .s .now) list
-  own-there = distances-from (start h .args .s .now) (start h .args .own .at) (h .before .before .before .list-place .ensures)
-
-  lists-there : Lists (start h .args .s .now) list
-  lists-there = lists (start h .args .s .now) (start h .args .own .at) (h .before .before .before .list-place .ensures) (start h .pre .sound .stands)
-
 mul-fixed : tie.Need-mul-fixed Inv-loop μ-loop
-mul-fixed c = omega (arith, fixed (c .before .before .before))
+mul-fixed c = omega (arith, fixed (c .before .before))
 
 add-fixed : tie.Need-add-fixed Inv-loop μ-loop
-add-fixed c = omega (arith, fixed (c .before .before .before .before))
+add-fixed c = omega (arith, fixed (c .before .before .before))
 
 loop-holds : tie.Need-loop-holds Inv-loop μ-loop
-loop-holds c = let s = c .before .before .before .before in (s .pre .under, s .pre .counted)
+loop-holds c = let s = c .before .before .before in (s .pre .under, s .pre .counted)
 
 element-copy-out-own-count : tie.Need-element-copy-out-own-count Inv-loop μ-loop
 element-copy-out-own-count c = omega (arith, c .before .loop .inv .1 .held .size)
@@ -83,7 +67,8 @@ element-copy-out-own-count c = omega (arith, c .before .loop .inv .1 .held .size
 own-count-requires : tie.Need-own-count-requires Inv-loop μ-loop
 own-count-requires c κs =
     let h = c .before .before in
-    (lists-there h, c .before .loop-test .taken, subst (λ ds. getD (h .loop .counts) maxChains 0 ≤ η ds (h .loop .t)) (own-there h) (h .loop .inv .1 .own))
+    let ok = start h .pre .sound in
+    (own-lists (load (start h)) ok, c .before .loop-test .taken, subst (λ ds. getD (h .loop .counts) maxChains 0 ≤ η ds (h .loop .t)) (own-list (load (start h)) ok) (h .loop .inv .1 .own))
 
 element-write-counts : tie.Need-element-write-counts Inv-loop μ-loop
 element-write-counts c = omega (arith, head c .loop .inv .1 .held .size)
@@ -106,7 +91,7 @@ module _ (c : tie.After-own-count Inv-loop μ-loop) where
   near = omega (arith, c .before .before .loop-test .taken)
 
   told : c .own-count .result ≡ (getD (head c .loop .counts) maxChains 0 when eqb (s .args .own .part) 0 else η (ownOf (load s)) t)
-  told = c .own-count .ensures ∙ ap (λ ds. getD (head c .loop .counts) maxChains 0 when eqb (s .args .own .part) 0 else η ds t) (sym (own-there (head c)))
+  told = c .own-count .ensures ∙ ap (λ ds. getD (head c .loop .counts) maxChains 0 when eqb (s .args .own .part) 0 else η ds t) (sym (own-list (load s) (s .pre .sound)))
 
   counted-own : c .own-count .result ≤ η (ownOf (load s)) t
   counted-own = own-counted (load s) (s .pre .sound) q t (s .pre .few) near (head c .loop .inv .1 .own) told
@@ -199,7 +184,6 @@ climb-spec =
     (tie.spec
     Inv-loop
     μ-loop
-    list-place-requires
     mul-fixed
     add-fixed
     loop-holds

@@ -5,20 +5,20 @@ use mathlib.Core.Path.{_≡_, ap, ap₂, sym, subst, _∙_}
 use native.Mathlib.Omega.{arith}
 use borrow.Author.Needs.{needs}
 use Rattle.table.specs.Record.{rowAt}
-use Rattle.table.proofs.Stands.{distances-from, lists}
 use Rattle.arrivals.specs.Arrivals.{δ}
 use Rattle.windows.specs.code.Load.{latest, Load, loadOf, rowIn, ownOf}
 use Rattle.windows.specs.code.Called.{CalledFrom}
 use Rattle.windows.specs.Sieve.{due}
+use Rattle.windows.proofs.Counting.{own-list, own-lists}
 use Rattle.windows.proofs.Sieves.{called-none, called-on}
 use Rattle.windows.proofs.sieving.least_called.Statement.{statement}
 use Rattle.windows.proofs.sieving.least_called.Tie as tie
 
 abbrev Inv-loop : tie.InvT-loop
-Inv-loop s own held close most at list deadline least₀ done₀ least done = (done ≤ close) × CalledFrom (loadOf s own held) done most least
+Inv-loop s own held close most deadline least₀ done₀ least done = (done ≤ close) × CalledFrom (loadOf s own held) done most least
 
 abbrev μ-loop : tie.MeasureT-loop
-μ-loop s own held close most at list deadline least₀ done₀ least done = close - done
+μ-loop s own held close most deadline least₀ done₀ least done = close - done
 
 abbrev load : tie.Start Inv-loop μ-loop → Load
 load c = loadOf (c .args .s .now) (c .args .own) (c .args .held .now)
@@ -29,7 +29,7 @@ module _ (c : tie.After-delta Inv-loop μ-loop) where
   head = c .before .before
 
   abbrev start : tie.Start Inv-loop μ-loop
-  start = c .before .before .before .before .before .before
+  start = c .before .before .before .before .before
 
   abbrev t : ℕ
   t = c .delta .result + c .before .before .before .deadline-at .result
@@ -38,7 +38,7 @@ module _ (c : tie.After-delta Inv-loop μ-loop) where
   unfolding rowAt
   due-is =
       ap₂ _+_
-      (c .delta .ensures ∙ ap (λ ds. δ ds (head .loop .done + 1)) (sym (distances-from (start .args .s .now) (start .args .own .at) (c .before .before .before .before .list-place .ensures))))
+      (c .delta .ensures ∙ ap (λ ds. δ ds (head .loop .done + 1)) (sym (own-list (load start) (start .pre .sound))))
       (c .before .before .before .deadline-at .ensures)
 
   near : t ≤ latest
@@ -50,25 +50,22 @@ module _ (c : tie.After-delta Inv-loop μ-loop) where
         start .pre .sound .stands .good .deadline-max,
       )
 
-list-place-requires : tie.Need-list-place-requires Inv-loop μ-loop
-list-place-requires c κs = omega (arith, c .before .pre .sound .stands .there)
-
 deadline-at-requires : tie.Need-deadline-at-requires Inv-loop μ-loop
-deadline-at-requires c κs = omega (arith, c .before .before .pre .sound .stands .there)
+deadline-at-requires c κs = omega (arith, c .before .pre .sound .stands .there)
 
 loop-holds : tie.Need-loop-holds Inv-loop μ-loop
-loop-holds c = let s = c .before .before .before in (omega arith, called-none (load s) (s .args .most))
+loop-holds c = let s = c .before .before in (omega arith, called-none (load s) (s .args .most))
 
 cast-q : tie.Need-cast-q Inv-loop μ-loop
 cast-q c = search needs
 
 add-q : tie.Need-add-q Inv-loop μ-loop
-add-q c = omega (arith, c .before .before .before .before .before .pre .few)
+add-q c = omega (arith, c .before .before .before .before .pre .few)
 
 delta-requires : tie.Need-delta-requires Inv-loop μ-loop
 delta-requires c κs =
-    let s = c .before .before .before .before .before in
-    (lists (s .args .s .now) (s .args .own .at) (c .before .before .before .list-place .ensures) (s .pre .sound .stands), omega arith, omega (arith, s .pre .few, c .loop-test .taken))
+    let s = c .before .before .before .before in
+    (own-lists (load s) (s .pre .sound), omega arith, omega (arith, s .pre .few, c .loop-test .taken))
 
 cast-t : tie.Need-cast-t Inv-loop μ-loop
 cast-t c = search needs
@@ -106,7 +103,7 @@ loop-again c =
 
 returns : tie.Need-returns Inv-loop μ-loop
 returns c =
-    let s = c .before .before .before .before .before in
+    let s = c .before .before .before .before in
     let e : c .before .loop .done ≡ s .args .close = omega (arith, c .loop-test .left, c .before .loop .inv .0) in
     subst (λ n. CalledFrom (load s) n (s .args .most) (c .before .loop .least)) e (c .before .loop .inv .1)
 
@@ -116,7 +113,6 @@ least-called-spec =
     (tie.spec
     Inv-loop
     μ-loop
-    list-place-requires
     deadline-at-requires
     loop-holds
     cast-q

@@ -7,7 +7,6 @@ use native.Mathlib.Omega.{arith}
 use borrow.Author.Needs.{needs}
 use Rattle.table.specs.Limits.{maxDeadline}
 use Rattle.table.specs.Record.{rowAt}
-use Rattle.table.proofs.Stands.{distances-from, lists}
 use Rattle.arrivals.specs.Arrivals.{δ}
 use Rattle.arrivals.proofs.Distances.{δ-near}
 use Rattle.windows.specs.Window.{windowOf}
@@ -16,17 +15,17 @@ use Rattle.windows.specs.code.Load.{Load, loadOf, ownOf, demandIn}
 use Rattle.windows.specs.code.Climb.{Counted}
 use Rattle.windows.specs.declared.Window.the-variants.{At}
 use Rattle.windows.proofs.Growth.{load-growing}
-use Rattle.windows.proofs.Counting.{counted-none}
+use Rattle.windows.proofs.Counting.{own-list, own-lists, counted-none}
 use Rattle.windows.proofs.Sweeps.{Swept, swept-start, swept-none, swept-past, swept-on}
 use Rattle.windows.proofs.sweeping.any_over.Statement.{statement}
 use Rattle.windows.proofs.sweeping.any_over.Tie as tie
 
 abbrev Inv-loop : tie.InvT-loop
-Inv-loop s own held close at list deadline counts₀ start₀ done₀ counts start done =
+Inv-loop s own held close deadline counts₀ start₀ done₀ counts start done =
     (done ≤ close) × Swept (demandIn (loadOf s own held)) (ownOf (loadOf s own held)) deadline done start × Counted (loadOf s own held) start counts
 
 abbrev μ-loop : tie.MeasureT-loop
-μ-loop s own held close at list deadline counts₀ start₀ done₀ counts start done = close - done
+μ-loop s own held close deadline counts₀ start₀ done₀ counts start done = close - done
 
 -- the load, and its demand
 abbrev load : tie.Start Inv-loop μ-loop → Load
@@ -40,18 +39,18 @@ abbrev dated : tie.At-loop Inv-loop μ-loop → tie.After-deadline-at Inv-loop �
 dated c = c .before
 
 abbrev entry : tie.At-loop Inv-loop μ-loop → tie.Start Inv-loop μ-loop
-entry c = c .before .before .before .before
+entry c = c .before .before .before
 
 abbrev head : tie.After-known-told Inv-loop μ-loop → tie.At-loop Inv-loop μ-loop
 head c = c .before .before .before .before .before .before
 
 -- the deadline is the chain's
-deadline-is : (c : tie.After-deadline-at Inv-loop μ-loop) → c .deadline-at .result ≡ rowAt (c .before .before .before .args .s .now) (c .before .before .before .args .own .at) .deadline
+deadline-is : (c : tie.After-deadline-at Inv-loop μ-loop) → c .deadline-at .result ≡ rowAt (c .before .before .args .s .now) (c .before .before .args .own .at) .deadline
 unfolding rowAt
 deadline-is c = c .deadline-at .ensures
 
 deadline-le : (c : tie.After-deadline-at Inv-loop μ-loop) → c .deadline-at .result ≤ maxDeadline
-deadline-le c = omega (arith, deadline-is c, c .before .before .before .pre .0 .stands .good .deadline-max)
+deadline-le c = omega (arith, deadline-is c, c .before .before .pre .0 .stands .good .deadline-max)
 
 -- what is said of it is said of the load
 abbrev over-by : tie.At-loop Inv-loop μ-loop → ℕ → Bool
@@ -64,14 +63,11 @@ told h = ap (over-by h) (deadline-is (dated h))
 at : (c : tie.After-known-told Inv-loop μ-loop) → windowOf (demand (entry (head c)) (head c .loop .done + 1)) ≡ At (c .before .w .given .0 .0)
 at c = sym (c .before .before .before .climb .ensures .window) ∙ c .before .w .given .1
 
-list-place-requires : tie.Need-list-place-requires Inv-loop μ-loop
-list-place-requires c κs = omega (arith, c .before .pre .0 .stands .there)
-
 deadline-at-requires : tie.Need-deadline-at-requires Inv-loop μ-loop
-deadline-at-requires c κs = omega (arith, c .before .before .pre .0 .stands .there)
+deadline-at-requires c κs = omega (arith, c .before .pre .0 .stands .there)
 
 loop-holds : tie.Need-loop-holds Inv-loop μ-loop
-loop-holds c = let s = c .before .before .before in (omega arith, swept-start _ _ _, counted-none (load s) 1 (s .pre .0))
+loop-holds c = let s = c .before .before in (omega arith, swept-start _ _ _, counted-none (load s) 1 (s .pre .0))
 
 cast-q : tie.Need-cast-q Inv-loop μ-loop
 cast-q c = search needs
@@ -98,14 +94,14 @@ returns c =
     (sym (c .before .before .climb .ensures .window) ∙ c .enum-told .given .1)) ∙ told h
 
 delta-requires : tie.Need-delta-requires Inv-loop μ-loop
-delta-requires c κs = let h = head c in let s = entry h in (lists (s .args .s .now) (s .args .own .at) (dated h .before .list-place .ensures) (s .pre .0 .stands), omega arith, omega (arith, s .pre .1))
+delta-requires c κs = let h = head c in let s = entry h in (own-lists (load s) (s .pre .0), omega arith, omega (arith, s .pre .1))
 
 -- when the activation starts, by the chain's own list
 starts : (c : tie.After-delta Inv-loop μ-loop) → c .delta .result ≡ δ (ownOf (load (entry (head (c .before))))) (head (c .before) .loop .done + 1)
 starts c =
     let h = head (c .before) in
     let s = entry h in
-    c .delta .ensures ∙ ap (λ ds. δ ds (h .loop .done + 1)) (sym (distances-from (s .args .s .now) (s .args .own .at) (dated h .before .list-place .ensures)))
+    c .delta .ensures ∙ ap (λ ds. δ ds (h .loop .done + 1)) (sym (own-list (load s) (s .pre .0)))
 
 cast-if1 : tie.Need-cast-if1 Inv-loop μ-loop
 cast-if1 c = search needs
@@ -154,7 +150,6 @@ any-over-spec =
     (tie.spec
     Inv-loop
     μ-loop
-    list-place-requires
     deadline-at-requires
     loop-holds
     cast-q

@@ -9,7 +9,6 @@ use mir.Syntax.{w32}
 use mir.Facts.{toZ-ofZ}
 use Rattle.table.specs.Limits.{horizon, maxActivations, maxDeadline}
 use Rattle.table.specs.Record.{rowAt}
-use Rattle.table.proofs.Stands.{distances-from, lists}
 use Rattle.arrivals.specs.Arrivals.{δ}
 use Rattle.windows.specs.Window.{windowOf}
 use Rattle.windows.specs.Latency.{marginOf, windowsOf}
@@ -18,19 +17,19 @@ use Rattle.windows.specs.code.Climb.{Counted}
 use Rattle.windows.specs.declared.Window.the-variants.{At}
 use Rattle.windows.specs.declared.Answer.the-variants.{Figures}
 use Rattle.windows.proofs.Growth.{Growing, load-growing}
-use Rattle.windows.proofs.Counting.{counted-none}
+use Rattle.windows.proofs.Counting.{own-list, own-lists, counted-none}
 use Rattle.windows.proofs.Margins.{margin-fits}
 use Rattle.windows.proofs.Walks.{Walk, walk-start, walk-open, walk-none, walk-ahead, walk-near, walk-few, walk-close, walk-on}
 use Rattle.windows.proofs.walking.walk.Statement.{statement}
 use Rattle.windows.proofs.walking.walk.Tie as tie
 
 abbrev Inv-loop : tie.InvT-loop
-Inv-loop s own held at list deadline counts₀ done₀ start₀ behind₀ latency₀ late₀ counts done start behind latency late =
+Inv-loop s own held deadline counts₀ done₀ start₀ behind₀ latency₀ late₀ counts done start behind latency late =
     Walk (demandIn (loadOf s own held)) (ownOf (loadOf s own held)) deadline done start behind latency late
     × Counted (loadOf s own held) start counts
 
 abbrev μ-loop : tie.MeasureT-loop
-μ-loop s own held at list deadline counts₀ done₀ start₀ behind₀ latency₀ late₀ counts done start behind latency late = maxActivations - done
+μ-loop s own held deadline counts₀ done₀ start₀ behind₀ latency₀ late₀ counts done start behind latency late = maxActivations - done
 
 -- the load, its demand and its distances
 abbrev load : tie.Start Inv-loop μ-loop → Load
@@ -50,7 +49,7 @@ abbrev dated : tie.At-loop Inv-loop μ-loop → tie.After-deadline-at Inv-loop �
 dated c = c .before
 
 abbrev entry : tie.At-loop Inv-loop μ-loop → tie.Start Inv-loop μ-loop
-entry c = c .before .before .before .before
+entry c = c .before .before .before
 
 abbrev head : tie.After-known-told Inv-loop μ-loop → tie.At-loop Inv-loop μ-loop
 head c = c .before .before .before .before .before .before
@@ -66,26 +65,23 @@ turn : (c : tie.After-known-told Inv-loop μ-loop) → head c .loop .done < maxA
 turn c = c .before .before .before .before .before .loop-test .taken
 
 -- the deadline is the chain's
-deadline-is : (c : tie.After-deadline-at Inv-loop μ-loop) → c .deadline-at .result ≡ rowAt (c .before .before .before .args .s .now) (c .before .before .before .args .own .at) .deadline
+deadline-is : (c : tie.After-deadline-at Inv-loop μ-loop) → c .deadline-at .result ≡ rowAt (c .before .before .args .s .now) (c .before .before .args .own .at) .deadline
 unfolding rowAt
 deadline-is c = c .deadline-at .ensures
 
 deadline-le : (c : tie.After-deadline-at Inv-loop μ-loop) → c .deadline-at .result ≤ maxDeadline
-deadline-le c = omega (arith, deadline-is c, c .before .before .before .pre .stands .good .deadline-max)
+deadline-le c = omega (arith, deadline-is c, c .before .before .pre .stands .good .deadline-max)
 
 -- the window that was found
 at : (c : tie.After-known-told Inv-loop μ-loop) → windowOf (demand (entry (head c)) (head c .loop .done + 1)) ≡ At (size c)
 at c = sym (c .before .before .before .climb .ensures .window) ∙ c .before .w .given .1
 
-list-place-requires : tie.Need-list-place-requires Inv-loop μ-loop
-list-place-requires c κs = omega (arith, c .before .pre .stands .there)
-
 deadline-at-requires : tie.Need-deadline-at-requires Inv-loop μ-loop
-deadline-at-requires c κs = omega (arith, c .before .before .pre .stands .there)
+deadline-at-requires c κs = omega (arith, c .before .pre .stands .there)
 
 loop-holds : tie.Need-loop-holds Inv-loop μ-loop
 loop-holds c =
-    let s = c .before .before .before in
+    let s = c .before .before in
     (walk-start (demand s) (own s) (c .deadline-at .result) (s .pre .stands .good .list), counted-none (load s) 1 (s .pre))
 
 add-q : tie.Need-add-q Inv-loop μ-loop
@@ -128,14 +124,14 @@ add-delta : tie.Need-add-delta Inv-loop μ-loop
 add-delta c = search needs
 
 delta-requires : tie.Need-delta-requires Inv-loop μ-loop
-delta-requires c κs = let h = head c in let s = entry h in (lists (s .args .s .now) (s .args .own .at) (dated h .before .list-place .ensures) (s .pre .stands), omega arith, omega arith)
+delta-requires c κs = let h = head c in let s = entry h in (own-lists (load s) (s .pre), omega arith, omega arith)
 
 -- when the next activation starts, by the chain's own list
 starts : (c : tie.After-delta Inv-loop μ-loop) → c .delta .result ≡ δ (own (entry (head (c .before)))) (head (c .before) .loop .done + 1 + 1)
 starts c =
     let h = head (c .before) in
     let s = entry h in
-    c .delta .ensures ∙ ap (λ ds. δ ds (h .loop .done + 1 + 1)) (sym (distances-from (s .args .s .now) (s .args .own .at) (dated h .before .list-place .ensures)))
+    c .delta .ensures ∙ ap (λ ds. δ ds (h .loop .done + 1 + 1)) (sym (own-list (load s) (s .pre)))
 
 larger-requires : tie.Need-larger-requires Inv-loop μ-loop
 larger-requires c κs = search needs
@@ -216,7 +212,6 @@ walk-spec =
     (tie.spec
     Inv-loop
     μ-loop
-    list-place-requires
     deadline-at-requires
     loop-holds
     add-q
