@@ -14,7 +14,6 @@ use table::put_u16;
 use table::record_length;
 use writing::put_gap;
 use writing::put_list;
-ghost use mathlib.Core.Path.{_≡_};
 ghost use Prim.Native.Nat.{_+_, _*_, _≤_};
 ghost use lib.ListN.{length};
 ghost use Rattle.table.specs.Record.{gapWidth, rowAt, knownOf};
