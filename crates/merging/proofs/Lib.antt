@@ -1,5 +1,6 @@
 pub mod Rest
 pub mod Lookup
+pub mod Seeks
 pub mod Rules
 pub mod Leasts
 pub mod Orders

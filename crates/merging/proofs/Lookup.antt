@@ -1,13 +1,13 @@
 -- The state of an id in an accepted table. Assumes nothing.
 use Prim.Native.Nat.{ℕ, _+_, _<_, _≤_}
 use native.Mathlib.Omega.{arith}
-use mathlib.Core.Path.{_≡_, ap, _∙_}
+use mathlib.Core.Path.{_≡_, _∙_}
 use mathlib.Core.List.{List, []}
 use mathlib.Core.Bool.{true}
 use lib.Dec.{eqb}
-use borrow.Author.Tests.{lt-ltb, le-ltb, eq-eqb}
+use borrow.Author.Tests.{lt-ltb, le-ltb}
 use Rattle.search.proofs.Choice.{when-yes, when-no}
-use Rattle.search.proofs.Find.{first-is, first-none}
+use Rattle.search.proofs.Find.{first-none}
 use Rattle.table.specs.Find.{rowOf, findOf}
 use Rattle.table.specs.Place.{placeOf}
 use Rattle.table.specs.Read.{tableOf}
@@ -34,19 +34,6 @@ module _ (s : List ℕ) (id : ℕ) where
     unfolding startOf
     start-unused = when-no _ _ (le-ltb _ _ h)
 
-  -- the first chain that bears the id
-  module _ (chain : ℕ) (h : chain < tableOf s .count) (e : rowOf (tableOf s) chain .id ≡ id)
-      (before : (j : ℕ) → j < chain → eqb (rowOf (tableOf s) j .id) id ≡ true → ⊥) where
-    find-first : findOf (tableOf s) id ≡ chain
-    unfolding findOf
-    find-first = first-is (λ j. eqb (rowOf (tableOf s) j .id) id) 0 (tableOf s .count) chain (omega arith) (omega arith) (eq-eqb _ _ e) (λ j a l. before j l)
-
-    pub state-first : stateOf s id ≡ recordOf s chain
-    state-first = state-used (omega (arith, find-first)) ∙ ap (recordOf s) find-first
-
-    pub start-first : startOf s id ≡ placeOf (tableOf s) chain
-    start-first = start-used (omega (arith, find-first)) ∙ ap (placeOf (tableOf s)) find-first
-
   -- none does
   module _ (none : (j : ℕ) → j < tableOf s .count → eqb (rowOf (tableOf s) j .id) id ≡ true → ⊥) where
     pub find-missing : findOf (tableOf s) id ≡ tableOf s .count
@@ -57,6 +44,3 @@ module _ (s : List ℕ) (id : ℕ) where
 
     pub state-missing : stateOf s id ≡ []
     state-missing = state-unused (omega (arith, find-missing))
-
-    pub start-missing : startOf s id ≡ 0
-    start-missing = start-unused (omega (arith, find-missing))

@@ -48,3 +48,19 @@ above-zero zero t = by (ltb 0 0 && t) ∙ sym (by t)
     by true = refl
     by false = refl
 above-zero (suc id) t = ap (λ (u : Bool). suc id when u && t else 0) (lt-ltb 0 (suc id) (omega arith))
+
+-- what it counts, where that is greater than a number
+pub only-counted : (above id : ℕ) (t : Bool) → ((id when t else 0) when ltb above (id when t else 0) else 0) ≡ (id when ltb above id && t else 0)
+unfolding _when_else_
+only-counted above id true = by (ltb above id)
+  where
+    by : (b : Bool) → (id when b else 0) ≡ (id when b && true else 0)
+    by true = refl
+    by false = refl
+only-counted above id false = by (ltb above 0) (ltb above id)
+  where
+    by : (a b : Bool) → (0 when a else 0) ≡ (id when b && false else 0)
+    by true true = refl
+    by true false = refl
+    by false true = refl
+    by false false = refl

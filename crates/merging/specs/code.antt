@@ -1,3 +1,4 @@
+pub mod Seeks
 pub mod Parts
 pub mod Ids
 pub mod Weight

@@ -1,4 +1,5 @@
 // The ids in conflict.
+use crate::states::step_past;
 use crate::states::weigh;
 ghost use mathlib.Core.Path.{_≡_};
 ghost use mathlib.Core.Bool.{_&&_};
@@ -21,15 +22,11 @@ pub fn lesser(n: u32, m: u32) -> u32
     if n <= m { n } else { m }
 }
 
-// The id where it is greater than `above` and in conflict, else 0.
-fn conflict_at(ancestor: &[u8], first: &[u8], second: &[u8], id: u32, above: u32) -> u32
-    requires { ⌜ AllTaken (now ancestor) (now first) (now second) ⌝ }
-    ensures { λ r. ⌜ r ≡ (id when ltb above id && conflictOf (versions (ancestor .entry) (first .entry) (second .entry)) id else 0) ⌝ }
+// The number where it is greater than `above`, else 0.
+fn only_above(n: u32, above: u32) -> u32
+    ensures { λ r. ⌜ r ≡ (n when ltb above n else 0) ⌝ }
 {
-    if id <= above {
-        return 0;
-    }
-    weigh(ancestor, first, second, id).conflict
+    if n <= above { 0 } else { n }
 }
 
 // The smallest of the ids that is greater than `above` and in conflict, 0 if none is.
@@ -38,9 +35,15 @@ pub fn least_conflict(ancestor: &[u8], first: &[u8], second: &[u8], ids: &[u32],
     ensures { λ r. ⌜ r ≡ least (λ id. ltb above id && conflictOf (versions (ancestor .entry) (first .entry) (second .entry)) id) (now (ids .entry)) ⌝ }
 {
     let mut found: u32 = 0;
+    let mut a: usize = 0;
+    let mut b: usize = 0;
     let mut i: usize = 0;
     while i < ids.len() {
-        found = lesser(found, conflict_at(ancestor, first, second, ids[i], above));
+        let id = ids[i];
+        let weight = weigh(ancestor, first, second, id, a, b);
+        a = step_past(first, id, a);
+        b = step_past(second, id, b);
+        found = lesser(found, only_above(weight.conflict, above));
         i += 1;
     }
     found

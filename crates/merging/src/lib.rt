@@ -45,7 +45,7 @@ pub fn chosen<'a>(ancestor: &[u8], first: &'a [u8], second: &'a [u8], id: u32) -
     ensures { λ r. ⌜ Chosen (ancestor .entry) (first .entry) (second .entry) id r ⌝ }
 {
     match judge_all(ancestor, first, second) {
-        Judged::Accepted => taken(ancestor, first, second, id),
+        Judged::Accepted => taken(ancestor, first, second, id, 0, 0),
         Judged::Ancestor(_, _) => &first[..0],
         Judged::First(_, _) => &first[..0],
         Judged::Second(_, _) => &first[..0],

@@ -1,6 +1,7 @@
 // The result: how long it is, its bytes, and whether it fits.
 use crate::Merged;
 use crate::conflicts::lesser;
+use crate::states::step_past;
 use crate::states::taken;
 use crate::states::weigh;
 use slices::put;
@@ -43,9 +44,14 @@ fn size_of(ancestor: &[u8], first: &[u8], second: &[u8], ids: &[u32]) -> Size
     let mut conflict: u32 = 0;
     let mut bytes: usize = 0;
     let mut records: usize = 0;
+    let mut a: usize = 0;
+    let mut b: usize = 0;
     let mut i: usize = 0;
     while i < ids.len() {
-        let weight = weigh(ancestor, first, second, ids[i]);
+        let id = ids[i];
+        let weight = weigh(ancestor, first, second, id, a, b);
+        a = step_past(first, id, a);
+        b = step_past(second, id, b);
         conflict = lesser(conflict, weight.conflict);
         bytes += weight.bytes;
         records += counted(weight.bytes);
@@ -70,9 +76,14 @@ fn put_records<'a>(
     ensures { λ r. ⌜ PutThere (flatten (statesOf (versions (ancestor .entry) (first .entry) (second .entry)) (now (ids .entry)))) (now (out .entry)) (now (out .exit)) r ⌝ }
 {
     let mut at: usize = 0;
+    let mut a: usize = 0;
+    let mut b: usize = 0;
     let mut i: usize = 0;
     while i < ids.len() {
-        let record = taken(ancestor, first, second, ids[i]);
+        let id = ids[i];
+        let record = taken(ancestor, first, second, id, a, b);
+        a = step_past(first, id, a);
+        b = step_past(second, id, b);
         put(out, at, record);
         at = at + record.len();
         i += 1;

@@ -3,6 +3,7 @@ use mathlib.Core.Path.{sym, _∙_}
 use native.Mathlib.Omega.{arith}
 use Rattle.merging.specs.Merge.{versions, chosenOf, chosenPlace}
 use Rattle.merging.proofs.Judgements.{all-taken, says-accepted, asked, refused-ancestor, refused-first, refused-second}
+use Rattle.merging.proofs.Seeks.{first-record}
 use borrow.Author.Needs.{needs}
 use Rattle.merging.specs.Versions.{Versions}
 use denote.Ref.{now}
@@ -26,7 +27,12 @@ enum-told : tie.Need-enum-told
 enum-told c = search needs
 
 taken-requires : tie.Need-taken-requires
-taken-requires c κs = held (c .before .before .before) (says-accepted (of (c .before .before .before .before .before .before)) (sym (c .before .before .judge-all .ensures) ∙ c .enum-told .given .1))
+taken-requires c κs =
+    let s = c .before .before .before .before .before .before in (
+      held (c .before .before .before) (says-accepted (of s) (sym (c .before .before .judge-all .ensures) ∙ c .enum-told .given .1)),
+      first-record (now (s .args .first)),
+      first-record (now (s .args .second)),
+    )
 
 enum-told-2 : tie.Need-enum-told-2
 enum-told-2 c = search needs

@@ -12,8 +12,12 @@ use Rattle.search.specs.Choice.{_when_else_}
 use Rattle.merging.specs.Versions.{Versions}
 use Rattle.merging.specs.Rule.{conflictOf, lesser, least}
 use Rattle.merging.specs.Merge.{versions}
+use Rattle.merging.specs.declared.states.Weight.{Weight}
+use Rattle.merging.specs.code.Seeks.{RecordAt}
 use Rattle.merging.proofs.Leasts.{lesser-left, lesser-right, lesser-on}
 use Rattle.merging.proofs.Rest.{rest}
+use Rattle.merging.proofs.Seeks.{first-record}
+use Rattle.merging.proofs.Weights.{weight-conflict, only-counted}
 use Rattle.merging.proofs.conflicts.least_conflict.Statement.{statement}
 use Rattle.merging.proofs.conflicts.least_conflict.Tie as tie
 
@@ -22,23 +26,33 @@ abbrev passes : Versions → ℕ → ℕ → Bool
 passes v above id = ltb above id && conflictOf v id
 
 abbrev Inv-loop : tie.InvT-loop
-Inv-loop ancestor first second ids above found₀ i₀ found i =
+Inv-loop ancestor first second ids above found₀ a₀ b₀ i₀ found a b i =
     (i ≤ length ids) × (lesser found (least (passes (record { ancestor = ancestor; first = first; second = second }) above) (drop i ids)) ≡ least (passes (record { ancestor = ancestor; first = first; second = second }) above) ids)
+    × RecordAt first a × RecordAt second b
 
 abbrev μ-loop : tie.MeasureT-loop
-μ-loop ancestor first second ids above found₀ i₀ found i = length ids - i
+μ-loop ancestor first second ids above found₀ a₀ b₀ i₀ found a b i = length ids - i
 
 loop-holds : tie.Need-loop-holds Inv-loop μ-loop
-loop-holds c = (omega arith, lesser-left _)
+loop-holds c = let s = c .before .before .before .before in (omega arith, lesser-left _, first-record (now (s .args .first)), first-record (now (s .args .second)))
 
-mul-conflict-at : tie.Need-mul-conflict-at Inv-loop μ-loop
-mul-conflict-at c = search needs
+mul-id : tie.Need-mul-id Inv-loop μ-loop
+mul-id c = search needs
 
-shared-slice-read-conflict-at : tie.Need-shared-slice-read-conflict-at Inv-loop μ-loop
-shared-slice-read-conflict-at c = search needs
+shared-slice-read-id : tie.Need-shared-slice-read-id Inv-loop μ-loop
+shared-slice-read-id c = search needs
 
-conflict-at-requires : tie.Need-conflict-at-requires Inv-loop μ-loop
-conflict-at-requires c κs = c .before .before .before .before .before .before .before .pre
+weigh-requires : tie.Need-weigh-requires Inv-loop μ-loop
+weigh-requires c κs = let l = c .before .before .loop in (c .before .before .before .before .before .before .before .pre, l .inv .2, l .inv .3)
+
+step-past-requires : tie.Need-step-past-requires Inv-loop μ-loop
+step-past-requires c κs = (c .before .before .before .before .before .before .before .before .pre .of-first, c .before .before .before .loop .inv .2)
+
+step-past-requires-2 : tie.Need-step-past-requires-2 Inv-loop μ-loop
+step-past-requires-2 c κs = (c .before .before .before .before .before .before .before .before .before .pre .of-second, c .before .before .before .before .loop .inv .3)
+
+only-above-requires : tie.Need-only-above-requires Inv-loop μ-loop
+only-above-requires c κs = tt
 
 lesser-requires : tie.Need-lesser-requires Inv-loop μ-loop
 lesser-requires c κs = tt
@@ -51,15 +65,20 @@ loop-less c = omega arith
 
 loop-again : tie.Need-loop-again Inv-loop μ-loop
 unfolding least
-loop-again c = let l = c .before .before .before .before .loop in
-    let a = c .before .before .before .before .before .before .before .before .before .args in
-    let p = passes (versions (a .ancestor) (a .first) (a .second)) (a .above) in
-    let id = getD (now (a .ids)) (l .i) 0 in (
+loop-again c =
+    let l = c .before .before .before .before .before .before .before .loop in
+    let a = c .before .before .before .before .before .before .before .before .before .before .before .before .args in
+    let v = versions (a .ancestor) (a .first) (a .second) in
+    let p = passes v (a .above) in
+    let id = getD (now (a .ids)) (l .i) 0 in
+    let one = c .before .only-above .ensures ∙ ap (λ n. n when ltb (a .above) n else 0) (ap (λ (w : Weight). w .conflict) (c .before .before .before .before .weigh .ensures) ∙ weight-conflict v id) ∙ only-counted (a .above) id (conflictOf v id) in (
       omega arith,
-      ap (λ n. lesser n (least p (drop (l .i + 1) (now (a .ids))))) (c .lesser .ensures ∙ ap (lesser (l .found)) (c .before .conflict-at .ensures))
+      ap (λ n. lesser n (least p (drop (l .i + 1) (now (a .ids))))) (c .lesser .ensures ∙ ap (lesser (l .found)) one)
           ∙ lesser-on (l .found) (id when p id else 0) (least p (drop (l .i + 1) (now (a .ids))))
           ∙ ap (λ r. lesser (l .found) (least p r)) (sym (rest (now (a .ids)) (l .i) 0 (omega arith)))
           ∙ l .inv .1,
+      c .before .before .before .step-past .ensures,
+      c .before .before .step-past2 .ensures,
     )
 
 returns : tie.Need-returns Inv-loop μ-loop
@@ -77,9 +96,12 @@ least-conflict-spec =
     Inv-loop
     μ-loop
     loop-holds
-    mul-conflict-at
-    shared-slice-read-conflict-at
-    conflict-at-requires
+    mul-id
+    shared-slice-read-id
+    weigh-requires
+    step-past-requires
+    step-past-requires-2
+    only-above-requires
     lesser-requires
     add-i
     loop-less

@@ -19,7 +19,9 @@ use Rattle.merging.specs.Merge.{versions, isRecord}
 use Rattle.merging.specs.declared.states.Weight.{Weight}
 use Rattle.merging.specs.declared.result.Size.{Size}
 use Rattle.merging.specs.code.Size.{statesOf, leastOf}
+use Rattle.merging.specs.code.Seeks.{RecordAt}
 use Rattle.merging.proofs.Rest.{rest}
+use Rattle.merging.proofs.Seeks.{first-record}
 use Rattle.merging.proofs.Leasts.{lesser-left, lesser-right, lesser-on}
 use Rattle.merging.proofs.Weights.{weight-bytes, weight-conflict, above-zero}
 use Rattle.merging.proofs.Sizes.{taken-short, more-bytes, more-records, states-rest}
@@ -27,14 +29,15 @@ use Rattle.merging.proofs.result.size_of.Statement.{statement}
 use Rattle.merging.proofs.result.size_of.Tie as tie
 
 abbrev Inv-loop : tie.InvT-loop
-Inv-loop ancestor first second ids conflict₀ bytes₀ records₀ i₀ conflict bytes records i =
+Inv-loop ancestor first second ids conflict₀ bytes₀ records₀ a₀ b₀ i₀ conflict bytes records a b i =
     (i ≤ length ids) × (bytes ≤ longestRecord * i) × (records ≤ i)
     × (bytes + length (flatten (statesOf (three ancestor first second) (drop i ids))) ≡ length (flatten (statesOf (three ancestor first second) ids)))
     × (records + length (keep isRecord (statesOf (three ancestor first second) (drop i ids))) ≡ length (keep isRecord (statesOf (three ancestor first second) ids)))
     × (lesser conflict (leastOf (three ancestor first second) (drop i ids)) ≡ leastOf (three ancestor first second) ids)
+    × RecordAt first a × RecordAt second b
 
 abbrev μ-loop : tie.MeasureT-loop
-μ-loop ancestor first second ids conflict₀ bytes₀ records₀ i₀ conflict bytes records i = length ids - i
+μ-loop ancestor first second ids conflict₀ bytes₀ records₀ a₀ b₀ i₀ conflict bytes records a b i = length ids - i
 
 same-size : {a b x y m n : ℕ} → a ≡ b → x ≡ y → m ≡ n → _≡_ {A = Size} (record { conflict = a; bytes = x; records = m }) (record { conflict = b; bytes = y; records = n })
 same-size e f g = rw (e, f, g)
@@ -51,35 +54,42 @@ weighed : (c : tie.After-weigh Inv-loop μ-loop) → c .weigh .result .bytes ≡
 weighed c = ap (λ (w : Weight). w .bytes) (c .weigh .ensures) ∙ weight-bytes _ _
 
 short : (c : tie.After-weigh Inv-loop μ-loop) → c .weigh .result .bytes ≤ longestRecord
-short c = let s = c .before .before .before .before .before .before .before .before in
-    rw (weighed c) (taken-short (s .pre .0) (getD (now (s .args .ids)) (c .before .before .before .loop .i) 0))
+short c = rw (weighed c) (taken-short (start c .pre .0) (getD (now (start c .args .ids)) (c .before .before .before .loop .i) 0))
 
 few : (c : tie.After-counted Inv-loop μ-loop) → c .counted .result ≤ 1
-few c = rw (c .counted .ensures) (when-cases (λ n. n ≤ 1) (ltb 0 (c .before .before .before .weigh .result .bytes)) (λ e. omega arith) (λ e. omega arith))
+few c = rw (c .counted .ensures) (when-cases (λ n. n ≤ 1) (ltb 0 (c .before .before .before .before .before .weigh .result .bytes)) (λ e. omega arith) (λ e. omega arith))
 
 loop-holds : tie.Need-loop-holds Inv-loop μ-loop
-loop-holds c = (omega arith, omega arith, omega arith, omega arith, omega arith, lesser-left _)
+loop-holds c =
+    let s = c .before .before .before .before in
+    (omega arith, omega arith, omega arith, omega arith, omega arith, lesser-left _, first-record (now (s .args .first)), first-record (now (s .args .second)))
 
-mul-weigh : tie.Need-mul-weigh Inv-loop μ-loop
-mul-weigh c = search needs
+mul-id : tie.Need-mul-id Inv-loop μ-loop
+mul-id c = search needs
 
-shared-slice-read-weigh : tie.Need-shared-slice-read-weigh Inv-loop μ-loop
-shared-slice-read-weigh c = search needs
+shared-slice-read-id : tie.Need-shared-slice-read-id Inv-loop μ-loop
+shared-slice-read-id c = search needs
 
 weigh-requires : tie.Need-weigh-requires Inv-loop μ-loop
-weigh-requires c κs = c .before .before .before .before .before .before .before .pre .0
+weigh-requires c κs = let l = c .before .before .loop in (c .before .before .before .before .before .before .before .pre .0, l .inv .6, l .inv .7)
+
+step-past-requires : tie.Need-step-past-requires Inv-loop μ-loop
+step-past-requires c κs = (start c .pre .0 .of-first, c .before .before .before .loop .inv .6)
+
+step-past-requires-2 : tie.Need-step-past-requires-2 Inv-loop μ-loop
+step-past-requires-2 c κs = (start (c .before) .pre .0 .of-second, c .before .before .before .before .loop .inv .7)
 
 lesser-requires : tie.Need-lesser-requires Inv-loop μ-loop
 lesser-requires c κs = tt
 
 add-bytes : tie.Need-add-bytes Inv-loop μ-loop
-add-bytes c = omega (arith, short (c .before .before), c .before .before .before .before .before .loop .inv .0, c .before .before .before .before .before .loop .inv .1, c .before .before .before .before .before .before .before .before .before .before .pre .1)
+add-bytes c = let w = c .before .before .before .before in omega (arith, short w, w .before .before .before .loop .inv .0, w .before .before .before .loop .inv .1, start w .pre .1)
 
 counted-requires : tie.Need-counted-requires Inv-loop μ-loop
 counted-requires c κs = tt
 
 add-records : tie.Need-add-records Inv-loop μ-loop
-add-records c = omega (arith, few c, c .before .before .before .before .before .before .loop .inv .0, c .before .before .before .before .before .before .loop .inv .2, c .before .before .before .before .before .before .before .before .before .before .before .pre .1)
+add-records c = let w = c .before .before .before .before .before in omega (arith, few c, w .before .before .before .loop .inv .0, w .before .before .before .loop .inv .2, start w .pre .1)
 
 add-i : tie.Need-add-i Inv-loop μ-loop
 add-i c = omega arith
@@ -89,8 +99,9 @@ loop-less c = omega arith
 
 loop-again : tie.Need-loop-again Inv-loop μ-loop
 unfolding least
-loop-again c = let s = c .before .before .before .before .before .before .before .before .before .before .before in
-    let l = c .before .before .before .before .before .before .loop in
+loop-again c = let w = c .before .before .before .before .before in
+    let s = start w in
+    let l = w .before .before .before .loop in
     let v = versions (s .args .ancestor) (s .args .first) (s .args .second) in
     let ids = now (s .args .ids) in
     let id = getD ids (l .i) 0 in
@@ -98,16 +109,18 @@ loop-again c = let s = c .before .before .before .before .before .before .before
     let e = states-rest v ids (l .i) (omega arith) in
     let f = ap (λ (r : List (List ℕ)). length (flatten r)) e ∙ more-bytes (takenOf v id) (statesOf v next) in
     let g = ap (λ (r : List (List ℕ)). length (keep isRecord r)) e ∙ more-records (takenOf v id) (statesOf v next) in
-    let is = weighed (c .before .before .before) in
+    let is = weighed w in
     let n = c .counted .ensures ∙ ap (λ k. 1 when ltb 0 k else 0) is in
-    let one = c .before .before .lesser .ensures ∙ ap (λ (w : Weight). lesser (l .conflict) (w .conflict)) (c .before .before .before .weigh .ensures) ∙ ap (lesser (l .conflict)) (weight-conflict v id ∙ sym (above-zero id (conflictOf v id))) in (
+    let one = c .before .before .lesser .ensures ∙ ap (λ (x : Weight). lesser (l .conflict) (x .conflict)) (w .weigh .ensures) ∙ ap (lesser (l .conflict)) (weight-conflict v id ∙ sym (above-zero id (conflictOf v id))) in (
       omega arith,
-      omega (arith, short (c .before .before .before), l .inv .1),
+      omega (arith, short w, l .inv .1),
       omega (arith, few c, l .inv .2),
       omega (arith, is, f, l .inv .3),
       omega (arith, n, g, l .inv .4),
       ap (λ k. lesser k (leastOf v next)) one ∙ lesser-on (l .conflict) (id when ltb 0 id && conflictOf v id else 0) (leastOf v next)
           ∙ ap (λ (r : List ℕ). lesser (l .conflict) (leastOf v r)) (sym (rest ids (l .i) 0 (omega arith))) ∙ l .inv .5,
+      c .before .before .before .before .step-past .ensures,
+      c .before .before .before .step-past2 .ensures,
     )
 
 returns : tie.Need-returns Inv-loop μ-loop
@@ -132,9 +145,11 @@ size-of-spec =
     Inv-loop
     μ-loop
     loop-holds
-    mul-weigh
-    shared-slice-read-weigh
+    mul-id
+    shared-slice-read-id
     weigh-requires
+    step-past-requires
+    step-past-requires-2
     lesser-requires
     add-bytes
     counted-requires

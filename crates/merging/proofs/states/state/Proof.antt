@@ -1,139 +1,119 @@
--- At the loop's head `at` is the place of `chain`, and no chain before it bears the id.
-use Prim.Native.Nat.{ℕ, _+_, _≤_, _<_, _-_}
-use mathlib.Core.Path.{_≡_, ap, sym, _∙_}
-use mathlib.Core.Bool.{true}
-use denote.Ref.{now}
-use lib.Dec.{eqb}
-use borrow.Author.Count.{below-more}
+-- The record of the chain that is found, or none.
+use Prim.Native.Nat.{ℕ, _+_, _-_, _<_, _≤_}
+use mathlib.Core.Path.{_≡_, ap, ap₂, sym, _∙_}
+use mathlib.Core.List.{List}
+use denote.Ref.{ptr, now}
+use lib.ListN.{take, drop}
 use borrow.Author.Needs.{needs}
-use borrow.Author.Tests.{eqb-true}
 use native.Mathlib.Omega.{arith}
-use Rattle.table.specs.Record.{rowAt}
-use Rattle.table.specs.Find.{rowOf}
-use Rattle.table.specs.Place.{lengthOf, placeOf}
+use native.Mathlib.Nat.{le-of-eq}
+use Rattle.table.specs.Find.{rowOf, findOf}
+use Rattle.table.specs.Place.{lengthOf}
 use Rattle.table.specs.Read.{tableOf}
 use Rattle.table.specs.code.Taken.{Stands}
-use Rattle.table.specs.declared.Row.{Row}
-use Rattle.table.proofs.Standing.{place-none}
-use Rattle.table.proofs.Stands.{length-at, row-there, stands, place-next}
+use Rattle.table.proofs.Finds.{find-le}
+use Rattle.table.proofs.Stands.{length-at, row-there, stands}
 use Rattle.slices.specs.Stored.{recordOf}
-use Rattle.merging.proofs.Lookup.{state-first, start-first, state-missing, start-missing}
+use Rattle.merging.specs.code.Seeks.{RecordAt}
+use Rattle.merging.proofs.Seeks.{chain-there, end-there}
+use Rattle.merging.proofs.Lookup.{state-used, start-used, state-unused, start-unused}
 use Rattle.merging.proofs.states.state.Statement.{statement}
 use Rattle.merging.proofs.states.state.Tie as tie
 
-abbrev Inv-loop : tie.InvT-loop
-Inv-loop s id chains at₀ chain₀ at chain =
-    (chain ≤ tableOf s .count) × (at ≡ placeOf (tableOf s) chain) × ((j : ℕ) → j < chain → eqb (rowOf (tableOf s) j .id) id ≡ true → ⊥)
+-- what is found
+module _ (c : tie.After-find-near) where
+  abbrev start : tie.Start
+  start = c .before .before
 
-abbrev μ-loop : tie.MeasureT-loop
-μ-loop s id chains at₀ chain₀ at chain = tableOf s .count - chain
+  abbrev s : List ℕ
+  s = now (start .args .s)
 
--- `chain` is there, and its record stands at `at`
-within : (c : tie.In-loop Inv-loop μ-loop) → c .before .loop .chain < tableOf (now (c .before .before .before .before .args .s)) .count
-within c = omega (arith, c .before .before .count .ensures, c .loop-test .taken)
+  abbrev chain : ℕ
+  chain = findOf (tableOf s) (start .args .id)
 
-there : (c : tie.In-loop Inv-loop μ-loop) → Stands (now (c .before .before .before .before .args .s)) (c .before .loop .at)
-there c = stands (c .before .before .before .before .pre) (c .before .loop .inv .1) (within c)
+  abbrev at : ℕ
+  at = c .find-near .result
 
--- its id, as the record has it
-bears : (c : tie.After-u32-from-u16 Inv-loop μ-loop) → c .u32-from-u16 .result ≡ rowOf (tableOf (now (c .before .before .before .before .before .before .before .args .s))) (c .before .before .before .before .loop .chain) .id
-unfolding rowAt
-bears c = let s = c .before .before .before .before .before .before .before in
-    c .u32-from-u16 .ensures .0 ∙ c .before .id-at .ensures
-    ∙ ap (λ (r : Row). r .id) (row-there (s .pre) (c .before .before .before .before .loop .inv .1) (within (c .before .before .before)))
+  abbrev here : RecordAt s at
+  here = record { chain = chain; few = find-le (tableOf s) (start .args .id); place = c .find-near .ensures }
 
-count-requires : tie.Need-count-requires Inv-loop μ-loop
-count-requires c κs = c .before .pre
+-- a chain's record
+module _ (c : tie.Else1) where
+  abbrev found : tie.After-find-near
+  found = c .before .before
 
-loop-holds : tie.Need-loop-holds Inv-loop μ-loop
-loop-holds c = (omega arith, place-none (tableOf (now (c .before .before .args .s))), λ j h e. absurd (omega (arith, h)))
+  within : chain found < tableOf (s found) .count
+  within = chain-there (start found .pre .0) (here found) (omega (arith, c .before .end-place .ensures, c .if1 .left))
 
-record-length-requires : tie.Need-record-length-requires Inv-loop μ-loop
-record-length-requires c κs = omega (arith, there c .there)
+  there : Stands (s found) (at found)
+  there = stands (start found .pre .0) (found .find-near .ensures) within
 
-add-end : tie.Need-add-end Inv-loop μ-loop
-add-end c = omega (arith, c .record-length .ensures, there (c .before) .there)
+find-near-requires : tie.Need-find-near-requires
+find-near-requires c κs = search needs
 
-id-at-requires : tie.Need-id-at-requires Inv-loop μ-loop
-id-at-requires c κs = omega (arith, there (c .before) .there)
+end-place-requires : tie.Need-end-place-requires
+end-place-requires c κs = search needs
 
-u32-from-u16-requires : tie.Need-u32-from-u16-requires Inv-loop μ-loop
-u32-from-u16-requires c κs = tt
+sub-result : tie.Need-sub-result
+sub-result c = search needs
 
-sub-result : tie.Need-sub-result Inv-loop μ-loop
-sub-result c = omega arith
+part-result-start : tie.Need-part-result-start
+part-result-start c = search needs
 
-part-result-start : tie.Need-part-result-start Inv-loop μ-loop
-part-result-start c = omega arith
+part-result-end : tie.Need-part-result-end
+part-result-end c = search needs
 
-part-result-end : tie.Need-part-result-end Inv-loop μ-loop
-part-result-end c = omega (arith, c .before .before .before .record-length .ensures, there (c .before .before .before .before) .there)
-
-returns : tie.Need-returns Inv-loop μ-loop
-unfolding recordOf
-returns c = let s = c .before .before .before .before .before .before .before .before .before in
-    let l = c .before .before .before .before .before .before .loop in
-    let z = c .before .before .before .before .record-length in
-    let t = tableOf (now (s .args .s)) in
-    let h = within (c .before .before .before .before .before) in
-    let bearing = sym (bears (c .before .before)) ∙ c .before .if1 .taken in
-    let size : l .at + z .result - l .at ≡ lengthOf (rowOf t (l .chain)) =
-    omega (arith, z .ensures, length-at (now (s .args .s)) (l .at), ap lengthOf (row-there (s .pre) (l .inv .1) h)) in
+returns : tie.Need-returns
+returns c =
+    let f = c .before .before .before in
+    let last : tableOf (s f) .count ≤ chain f =
+    le-of-eq (sym (end-there (start f .pre .0) (here f) (omega (arith, c .before .before .end-place .ensures, c .before .if1 .taken)))) in
     record {
-      bytes = rw (state-first (now (s .args .s)) (s .args .id) (l .chain) h bearing (l .inv .2), size, l .inv .1);
-      place = rw (start-first (now (s .args .s)) (s .args .id) (l .chain) h bearing (l .inv .2), l .inv .1);
+      bytes = sym (state-unused (s f) (start f .args .id) last);
+      place = rw (start-unused (s f) (start f .args .id) last);
     }
 
-add-chain : tie.Need-add-chain Inv-loop μ-loop
-add-chain c = omega (arith, c .before .before .before .before .before .before .before .before .pre .good .few, within (c .before .before .before .before))
+record-length-requires : tie.Need-record-length-requires
+record-length-requires c κs = omega (arith, there c .there)
 
-loop-less : tie.Need-loop-less Inv-loop μ-loop
-loop-less c = omega (arith, within (c .before .before .before .before))
+add-end : tie.Need-add-end
+add-end c = omega (arith, c .record-length .ensures, there (c .before) .there)
 
-loop-again : tie.Need-loop-again Inv-loop μ-loop
-loop-again c = let l = c .before .before .before .before .before .loop in (
-  omega (arith, within (c .before .before .before .before)),
-  ap (λ n. l .at + n) (c .before .before .before .record-length .ensures) ∙ place-next (c .before .before .before .before .before .before .before .before .pre) (l .inv .1) (within (c .before .before .before .before)),
-  below-more _ _ (l .inv .2) (λ e. c .if1 .left (bears (c .before) ∙ eqb-true _ _ e)),
-)
-
-sub-result-2 : tie.Need-sub-result-2 Inv-loop μ-loop
+sub-result-2 : tie.Need-sub-result-2
 sub-result-2 c = search needs
 
-part-result-start-2 : tie.Need-part-result-start-2 Inv-loop μ-loop
+part-result-start-2 : tie.Need-part-result-start-2
 part-result-start-2 c = search needs
 
-part-result-end-2 : tie.Need-part-result-end-2 Inv-loop μ-loop
-part-result-end-2 c = search needs
+part-result-end-2 : tie.Need-part-result-end-2
+part-result-end-2 c = omega (arith, c .record-length .ensures, there (c .before) .there)
 
-returns-2 : tie.Need-returns-2 Inv-loop μ-loop
-returns-2 c = let s = c .before .before .before .before .before in
-    let l = c .before .before .loop in
-    let none : (j : ℕ) → j < tableOf (now (s .args .s)) .count → eqb (rowOf (tableOf (now (s .args .s))) j .id) (s .args .id) ≡ true → ⊥ = λ j h. l .inv .2 j (omega (arith, h, c .before .before .before .count .ensures, c .before .loop-test .left)) in
+returns-2 : tie.Need-returns-2
+unfolding recordOf
+returns-2 c =
+    let e = c .before .before in
+    let f = e .before .before in
+    let z = c .before .record-length in
+    let id = start f .args .id in
+    let size : at f + z .result - at f ≡ lengthOf (rowOf (tableOf (s f)) (chain f)) =
+    omega (arith, z .ensures, length-at (s f) (at f), ap lengthOf (row-there (start f .pre .0) (f .find-near .ensures) (within e))) in
     record {
-      bytes = sym (state-missing (now (s .args .s)) (s .args .id) none);
-      place = rw (start-missing (now (s .args .s)) (s .args .id) none);
+      bytes = ap₂ (λ n p. take n (drop p (s f))) size (f .find-near .ensures) ∙ sym (state-used (s f) id (within e));
+      place = ap (λ p. (ptr (start f .args .s) .0, p + ptr (start f .args .s) .1)) (f .find-near .ensures ∙ sym (start-used (s f) id (within e)));
     }
 
 pub state-spec : {M : Type 1} → statement M
 state-spec =
     tie.close
     (tie.spec
-    Inv-loop
-    μ-loop
-    count-requires
-    loop-holds
-    record-length-requires
-    add-end
-    id-at-requires
-    u32-from-u16-requires
+    find-near-requires
+    end-place-requires
     sub-result
     part-result-start
     part-result-end
     returns
-    add-chain
-    loop-less
-    loop-again
+    record-length-requires
+    add-end
     sub-result-2
     part-result-start-2
     part-result-end-2
