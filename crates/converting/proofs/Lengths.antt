@@ -14,8 +14,7 @@ use Rattle.table.specs.Place.{lengthOf}
 use Rattle.table.specs.code.Good.{GoodRow, GoodTable}
 use Rattle.table.specs.declared.Row.{Row}
 use Rattle.table.specs.declared.Table.{Table}
-use Rattle.table.proofs.Standing.{longestRecord}
-use Rattle.table.proofs.Widths.{width-most, known-most}
+use Rattle.table.proofs.Standing.{longestRecord, record-most}
 use Rattle.converting.specs.Forms.{withLargest, withGap, converted}
 use Rattle.converting.specs.declared.To.{To}
 use Rattle.converting.specs.declared.To.the-variants.{Largest, Gap}
@@ -49,13 +48,10 @@ module _ (r : Row) where
   unfolding known _when_else_
   known-length h = rw (ne-eqb _ _ h) (omega arith)
 
-  -- the longest, whatever its form
-  length-most : GoodRow r → (form flag : ℕ) → headLength form + 4 * r .listed + 4 * known form flag (r .listed) + 8 * r .tasks ≤ longestRecord
-  length-most good form flag = omega (arith, good .list .few, good .listed, good .tasks .few, width-most form, known-most form flag (r .listed))
-
+-- the longest, whatever its form
 pub converted-most : (to : To) {r : Row} → GoodRow r → lengthOf (converted to r) ≤ longestRecord
-converted-most Largest {r} good = length-most r good largestForm (withLargest r .flag)
-converted-most Gap {r} good = length-most r good gapForm 0
+converted-most Largest {r} good = record-most good largestForm (withLargest r .flag)
+converted-most Gap {r} good = record-most good gapForm 0
 
 -- all records
 module _ {t : Table} (good : GoodTable t) where

@@ -13,10 +13,9 @@ use Rattle.search.proofs.Choice.{when-cases, lt-or-le}
 use Rattle.table.specs.Find.{rowOf, findOf}
 use Rattle.table.specs.Read.{tableOf}
 use Rattle.table.specs.code.Taken.{Taken}
-use Rattle.table.proofs.Standing.{longestRecord}
+use Rattle.table.proofs.Standing.{longestRecord, record-most}
 use Rattle.slices.specs.Slices.{same}
 use Rattle.slices.specs.Stored.{recordOf}
-use Rattle.slices.proofs.Stored.{record-most}
 use Rattle.merging.specs.Versions.{Versions, three, stateOf}
 use Rattle.merging.specs.Rule.{byStates, takenOf}
 use Rattle.merging.specs.Merge.{isRecord}
@@ -29,8 +28,8 @@ use Rattle.merging.proofs.Lookup.{state-used, state-unused}
 state-short : {s : List ℕ} → Taken s → (id : ℕ) → length (stateOf s id) ≤ longestRecord
 unfolding recordOf
 state-short {s} t id = ⊎-elim
-    (λ h. let chain = findOf (tableOf s) id in
-    rw (state-used s id h, length-take) (omega (arith, record-most (rowOf (tableOf s) chain) (t .good .row chain h))))
+    (λ h. let r = rowOf (tableOf s) (findOf (tableOf s) id) in
+    rw (state-used s id h, length-take) (omega (arith, record-most (t .good .row (findOf (tableOf s) id) h) (r .form) (r .flag))))
     (λ h. rw (state-unused s id h) (omega arith))
     (lt-or-le (findOf (tableOf s) id) (tableOf s .count))
 

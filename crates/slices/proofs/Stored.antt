@@ -1,5 +1,5 @@
 -- What is known of bytes that were read as a table. Assumes nothing.
-use Prim.Native.Nat.{ℕ, _<_, _≤_}
+use Prim.Native.Nat.{ℕ, _<_}
 use mathlib.Core.Path.{_≡_, ap, subst}
 use mathlib.Core.List.{List}
 use native.Mathlib.Omega.{arith}
@@ -9,21 +9,13 @@ use Rattle.table.specs.Find.{rowOf}
 use Rattle.table.specs.Read.{accepted, readTable, tableOf}
 use Rattle.table.specs.declared.Reading.{Reading}
 use Rattle.table.specs.Place.{lengthOf, placeOf}
-use Rattle.table.specs.code.Good.{GoodRow, GoodTable}
+use Rattle.table.specs.code.Good.{GoodTable}
 use Rattle.table.specs.code.Taken.{Taken, Holds}
-use Rattle.table.specs.declared.Row.{Row}
 use Rattle.table.specs.declared.Table.{Table}
 use Rattle.table.specs.declared.Verdict.{Verdict}
 use Rattle.table.specs.declared.Verdict.the-variants.{Accepted}
-use Rattle.table.proofs.Widths.{width-most, known-most}
-use Rattle.table.proofs.Standing.{longestRecord}
 use Rattle.table.proofs.Accepted.{taken}
 use Rattle.slices.specs.Stored.{recordOf}
-
--- how long a record can be
-pub record-most : (r : Row) → GoodRow r → lengthOf r ≤ longestRecord
-record-most r good =
-    omega (arith, good .list .few, good .listed, good .tasks .few, width-most (r .form), known-most (r .form) (r .flag) (r .listed))
 
 pub accepted-read : (s : List ℕ) → readTable s .verdict ≡ Accepted → readTable s ≡ accepted (tableOf s)
 accepted-read s verdict = ap (λ (v : Verdict). record { verdict = v; table = tableOf s }) verdict

@@ -12,11 +12,10 @@ use Rattle.table.specs.Place.{lengthOf, placeOf}
 use Rattle.table.specs.Read.{tableOf}
 use Rattle.table.specs.code.Taken.{Stands}
 use Rattle.table.specs.declared.Table.{Table}
-use Rattle.table.proofs.Standing.{longestRecord, place-max}
+use Rattle.table.proofs.Standing.{longestRecord, record-most, place-max}
 use Rattle.table.proofs.Stands.{length-at, row-there, stands}
 use Rattle.slices.specs.Locate.{recordIn}
 use Rattle.slices.specs.declared.Located.the-variants.{Record, Refused}
-use Rattle.slices.proofs.Stored.{record-most}
 use borrow.Author.Needs.{needs}
 use Rattle.slices.proofs.record_in.Statement.{statement}
 use Rattle.slices.proofs.record_in.Tie as tie
@@ -62,7 +61,7 @@ cast-t9 : tie.Need-cast-t9
 cast-t9 c =
     let t = tableOf (now (asked (c .before) .args .s)) in
     let r = asked (c .before) .pre .good .row (chain (c .before)) (one (c .before)) in
-    omega (arith, c .record-length .ensures, size (c .before), record-most (rowOf t (chain (c .before))) r)
+    omega (arith, c .record-length .ensures, size (c .before), record-most r (rowOf t (chain (c .before)) .form) (rowOf t (chain (c .before)) .flag))
 
 -- the answer by the chain that was found
 module _ (t : Table) (id found : ℕ) (e : found ≡ findOf t id) where
