@@ -20,7 +20,8 @@ enum {
     MOST_RUN = 1000,
     MOST_OVERLOAD_SEGMENTS = 6,
     MOST_CAPACITY = 40,
-    MOST_BYTES = 1748, /* of a table of either form */
+    MOST_BYTES = 1748,         /* of a table of either form */
+    MOST_DAMAGED_BYTES = 4096, /* of what is salvaged */
     DISTANCE_BYTES = 4,
     TASK_BYTES = 8,
     END_BYTES = 4,
@@ -1534,6 +1535,97 @@ static uint32_t convert(struct lent table, bool (*row_to_other)(struct mishtodra
     return write_table(rows, chains, buffer, buffer_len, used);
 }
 
+/* ---- Salvage a damaged table ---- */
+
+/* Bytes of an input that were skipped. */
+struct skipped {
+    size_t at, length;
+};
+
+enum { SKIPPED_BYTES = 8 }; /* of each in the list */
+
+/* What was kept of an input, and the longest skipped stretches: one before each record at most, and one after the last
+   where there are fewer than 16. */
+struct salvage {
+    struct table kept;
+    unsigned stretches;
+    struct skipped skipped[MOST_CHAINS];
+};
+
+/* Keeps the chain record that starts here; whether a whole one does that is acceptable beside those kept so far. */
+static bool keep_record(struct lent input, size_t at, struct table *kept)
+{
+    const struct form *form = there(input.length, at, 2) ? form_of(number16(input.bytes + at)) : NULL;
+    return form && read_chain(input.bytes, input.length, at, form, kept).number == 0;
+}
+
+/* A walk from the first byte: on after a record that is kept, else on by one byte. */
+static void keep_records(struct lent input, struct table *kept)
+{
+    kept->chains = 0;
+    for (size_t at = 0; at < input.length && kept->chains < MOST_CHAINS;)
+        at = keep_record(input, at, kept) ? kept->chain[kept->chains - 1].end : at + 1;
+}
+
+static void skip_up_to(struct salvage *salvage, size_t from, size_t to)
+{
+    if (from < to)
+        salvage->skipped[salvage->stretches++] = (struct skipped){from, to - from};
+}
+
+/* The stretches between the records that were kept. After a 16th nothing was looked at, so nothing was skipped. */
+static void list_skipped(struct salvage *salvage, size_t length)
+{
+    const struct table *kept = &salvage->kept;
+    size_t at = 0;
+    salvage->stretches = 0;
+    for (unsigned i = 0; i < kept->chains; i++) {
+        skip_up_to(salvage, at, kept->chain[i].at);
+        at = kept->chain[i].end;
+    }
+    if (kept->chains < MOST_CHAINS)
+        skip_up_to(salvage, at, length);
+}
+
+static uint32_t salvage_input(struct lent input, struct salvage *salvage)
+{
+    if (input.length > MOST_DAMAGED_BYTES)
+        return 35;
+    keep_records(input, &salvage->kept);
+    if (salvage->kept.chains == 0)
+        return 36;
+    list_skipped(salvage, input.length);
+    return 0;
+}
+
+/* The length of the table of these records. */
+static size_t length_of_kept(const struct table *kept)
+{
+    size_t length = END_BYTES;
+    for (unsigned i = 0; i < kept->chains; i++)
+        length += kept->chain[i].end - kept->chain[i].at;
+    return length;
+}
+
+/* Writes the kept records, as they stand in the input, and an end record. */
+static void write_kept(const uint8_t *input, const struct table *kept, uint8_t *at)
+{
+    for (unsigned i = 0; i < kept->chains; i++) {
+        const struct chain *chain = &kept->chain[i];
+        memcpy(at, input + chain->at, chain->end - chain->at);
+        at += chain->end - chain->at;
+    }
+    write_end(at, kept->chains);
+}
+
+static void write_skipped(const struct salvage *salvage, uint8_t *at)
+{
+    for (unsigned i = 0; i < salvage->stretches; i++, at += SKIPPED_BYTES) {
+        put32(at, (uint32_t)salvage->skipped[i].at);
+        put32(at + 4, (uint32_t)salvage->skipped[i].length);
+    }
+}
+
 /* ---- The C editor ---- */
 
 uint32_t plain_latency(const uint8_t *table, size_t table_len, uint32_t id, uint8_t *answer, size_t answer_len)
@@ -1717,6 +1809,25 @@ uint32_t plain_to_gap(const uint8_t *table, size_t table_len, uint8_t *buffer, s
                       size_t answer_len)
 {
     return answer_converted((struct lent){table, table_len}, row_to_gap, buffer, buffer_len, answer, answer_len);
+}
+
+uint32_t plain_salvage(const uint8_t *input, size_t input_len, uint8_t *table, size_t table_len, uint8_t *list,
+                       size_t list_len, uint8_t *answer, size_t answer_len)
+{
+    struct salvage salvage;
+    if (answer_len < 8)
+        return 27;
+    uint32_t refusal = salvage_input((struct lent){input, input_len}, &salvage);
+    if (refusal)
+        return refusal;
+    size_t table_used = length_of_kept(&salvage.kept), list_used = SKIPPED_BYTES * salvage.stretches;
+    if (table_used > table_len || list_used > list_len)
+        return 24;
+    write_kept(input, &salvage.kept, table);
+    write_skipped(&salvage, list);
+    put32(answer, (uint32_t)table_used);
+    put32(answer + 4, (uint32_t)list_used);
+    return 0;
 }
 
 uint32_t plain_record(const uint8_t *table, size_t table_len, uint32_t id, uint8_t *answer, size_t answer_len)

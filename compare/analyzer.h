@@ -36,6 +36,8 @@ uint32_t plain_to_largest(const uint8_t *table, size_t table_len, uint8_t *buffe
                           size_t answer_len);
 uint32_t plain_to_gap(const uint8_t *table, size_t table_len, uint8_t *buffer, size_t buffer_len, uint8_t *answer,
                       size_t answer_len);
+uint32_t plain_salvage(const uint8_t *input, size_t input_len, uint8_t *table, size_t table_len, uint8_t *list,
+                       size_t list_len, uint8_t *answer, size_t answer_len);
 uint32_t plain_record(const uint8_t *table, size_t table_len, uint32_t id, uint8_t *answer, size_t answer_len);
 uint32_t plain_report(const uint8_t *table, size_t table_len, uint8_t *text, size_t text_len, uint8_t *answer,
                       size_t answer_len);

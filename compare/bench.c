@@ -32,25 +32,28 @@ enum {
     WRITE,
     TO_LARGEST,
     TO_GAP,
+    SALVAGE,
     REPORT
 };
-enum { MOST_CALLS = 512, MOST_TABLES = 32, ROUNDS = 200 };
+enum { MOST_CALLS = 512, MOST_TABLES = 64, ROUNDS = 200 };
 
 static const double LEAST_SECONDS = 0.005; /* of one run: many short ones find a quiet moment */
 static const double MOST_SECONDS = 3;      /* of all runs of a line, but for the first two */
 
-/* A table, and its chains as rows. */
+/* A table, and its chains as rows; or a wreck, which has none. */
 struct stored {
-    uint8_t bytes[MOST_GENERATED];
+    uint8_t bytes[MOST_SALVAGED];
     size_t length;
     struct mishtodran_row row[MISHTODRAN_MOST_CHAINS];
     size_t rows;
 };
 
-/* What a call is lent: room for an answer, for a table or a report's text, and for rows. */
+/* What a call is lent: room for an answer, for a table or a report's text, for a list of what was skipped, and for
+   rows. */
 struct room {
     uint8_t answer[16];
     uint8_t bytes[MISHTODRAN_MOST_TABLE_BYTES];
+    uint8_t list[8 * MISHTODRAN_MOST_CHAINS];
     struct mishtodran_row row[MISHTODRAN_MOST_CHAINS];
 };
 
@@ -85,6 +88,7 @@ struct side {
     uint32_t (*write)(const struct mishtodran_row *, size_t, uint8_t *, size_t, uint8_t *, size_t);
     uint32_t (*to_largest)(const uint8_t *, size_t, uint8_t *, size_t, uint8_t *, size_t);
     uint32_t (*to_gap)(const uint8_t *, size_t, uint8_t *, size_t, uint8_t *, size_t);
+    uint32_t (*salvage)(const uint8_t *, size_t, uint8_t *, size_t, uint8_t *, size_t, uint8_t *, size_t);
     uint32_t (*report)(const uint8_t *, size_t, uint8_t *, size_t, uint8_t *, size_t);
 };
 
@@ -92,12 +96,14 @@ static const struct side proved = {mishtodran_latency,        mishtodran_misses,
                                    mishtodran_misses_at_most, mishtodran_segment,  mishtodran_record,
                                    mishtodran_check,          mishtodran_save,     mishtodran_merge,
                                    mishtodran_conflict,       mishtodran_read,     mishtodran_write,
-                                   mishtodran_to_largest,     mishtodran_to_gap,   mishtodran_report};
+                                   mishtodran_to_largest,     mishtodran_to_gap,   mishtodran_salvage,
+                                   mishtodran_report};
 static const struct side plain = {plain_latency,        plain_misses,  plain_misses_plain,
                                   plain_misses_at_most, plain_segment, plain_record,
                                   plain_check,          plain_save,    plain_merge,
                                   plain_conflict,       plain_read,    plain_write,
-                                  plain_to_largest,     plain_to_gap,  plain_report};
+                                  plain_to_largest,     plain_to_gap,  plain_salvage,
+                                  plain_report};
 
 /* The deadline of a table's first chain becomes another, and then what it was. */
 static uint32_t save_and_back(const struct side *side, const struct call *call, uint8_t *answer)
@@ -159,6 +165,8 @@ static uint32_t run_call(const struct side *side, const struct call *call, struc
         return side->to_largest(bytes, length, room->bytes, sizeof room->bytes, answer, 4);
     case TO_GAP:
         return side->to_gap(bytes, length, room->bytes, sizeof room->bytes, answer, 4);
+    case SALVAGE:
+        return side->salvage(bytes, length, room->bytes, sizeof room->bytes, room->list, sizeof room->list, answer, 8);
     case REPORT:
         return side->report(bytes, length, room->bytes, MISHTODRAN_LONGEST_REPORT, answer, 4);
     default:
@@ -207,7 +215,7 @@ static bool agree(const struct bench_case *what)
         if (run_call(&proved, &what->call[i], &one) != run_call(&plain, &what->call[i], &other) ||
             memcmp(one.answer, other.answer, sizeof one.answer) != 0 ||
             memcmp(one.bytes, other.bytes, sizeof one.bytes) != 0 ||
-            !same_rows(one.row, other.row, MISHTODRAN_MOST_CHAINS))
+            memcmp(one.list, other.list, sizeof one.list) != 0 || !same_rows(one.row, other.row, MISHTODRAN_MOST_CHAINS))
             return false;
     }
     return true;
@@ -288,7 +296,7 @@ static void measure_all(const char *name, unsigned entry, struct stored *first, 
     measure(&what);
 }
 
-/* Several tables, once each: a save or a report. */
+/* Several tables or wrecks, once each: a save, a salvage or a report. */
 static void measure_tables(const char *name, unsigned entry, struct stored *first, unsigned count)
 {
     static struct bench_case what;
@@ -579,6 +587,132 @@ static void largest_cases(struct source *source)
     measure_one("CG: report, sample", REPORT, sample_of_largest, 0, 0, 0);
 }
 
+/* ---- Salvages ---- */
+
+static struct stored *keep_wreck(struct wreck wreck)
+{
+    struct stored *stored = &tables[tables_used++];
+    stored->length = wreck.length;
+    memcpy(stored->bytes, wreck.bytes, wreck.length);
+    stored->rows = 0;
+    return stored;
+}
+
+static struct wreck noise(struct source *source)
+{
+    struct wreck wreck = {0};
+    while (wreck.length < MOST_SALVAGED)
+        wreck.bytes[wreck.length++] = (uint8_t)draw(source, 0, 255);
+    return wreck;
+}
+
+/* Full tables one after another, of which a byte is lost in about 40. */
+static struct wreck wrecked_tables(struct source *source)
+{
+    struct wreck wreck = {0};
+    uint8_t bytes[MOST_GENERATED];
+    while (wreck.length < MOST_SALVAGED) {
+        struct made_table table = full_table(source);
+        add_bytes(&wreck, bytes, encode(&table, bytes));
+    }
+    wreck.length = MOST_SALVAGED;
+    for (size_t at = draw(source, 1, 79); at < MOST_SALVAGED; at += draw(source, 1, 79))
+        wreck.bytes[at] = (uint8_t)draw(source, 0, 255);
+    return wreck;
+}
+
+/* The most records after which the walk goes on, as short as can be: every id that follows has 15 others to be held
+   against. */
+static struct wreck fifteen_records(void)
+{
+    struct made_table table = {0};
+    struct wreck wreck = {0};
+    uint8_t bytes[MOST_GENERATED];
+    for (unsigned i = 0; i < 15; i++)
+        add_task(add_chain(&table, 1, 0, 1), 1, 1);
+    table = in_largest_form(table);
+    add_bytes(&wreck, bytes, encode(&table, bytes) - 4);
+    return wreck;
+}
+
+/* As many marks as there can be; each is an id too. */
+static struct wreck marks_alone(struct wreck wreck)
+{
+    add_pattern(&wreck, (const uint8_t *)"CG", 2, MOST_SALVAGED - wreck.length);
+    return wreck;
+}
+
+/* The same with marks and halves of them, in no order that a processor could foresee. */
+static struct wreck marks_at_random(struct source *source)
+{
+    struct wreck wreck = fifteen_records();
+    while (wreck.length < MOST_SALVAGED)
+        add_bytes(&wreck, (const uint8_t *)"CG", draw(source, 1, 2));
+    wreck.length = MOST_SALVAGED;
+    return wreck;
+}
+
+/* Right fixed parts, each in the one before it, and so are both lists of each; no task follows. Ids aside, we know of no
+   bytes of which more must be looked at. */
+static struct wreck fixed_parts(struct wreck wreck)
+{
+    static const uint8_t pattern[] = {'C', 'G', 0, 1, 1, 1, 2};
+    add_pattern(&wreck, pattern, sizeof pattern, MOST_SALVAGED - wreck.length);
+    return wreck;
+}
+
+/* Records that are right up to their third task, each at the end of the one before it: its first task's priority is the next
+   mark, its second task and that one's cost lie in the next fixed part, its third in the next distance. */
+static struct wreck third_tasks(struct wreck wreck)
+{
+    static const uint8_t pattern[] = {'C', 'G', 119, 119, 0, 0, 'T', 'K', 5, 0, 0, 1, 15, 0, 'T', 'K', 0, 'T', 'K'};
+    add_pattern(&wreck, pattern, sizeof pattern, MOST_SALVAGED - wreck.length);
+    return wreck;
+}
+
+/* As many wrecks of a kind as there is room for, so that no processor remembers how each went. */
+static void measure_wrecks(const char *name, struct wreck (*make)(struct source *source), struct source *source)
+{
+    tables_used = 0;
+    while (tables_used < MOST_TABLES)
+        keep_wreck(make(source));
+    measure_tables(name, SALVAGE, tables, MOST_TABLES);
+}
+
+static void measure_wreck(const char *name, struct wreck wreck)
+{
+    tables_used = 0;
+    measure_one(name, SALVAGE, keep_wreck(wreck), 0, 0, 0);
+}
+
+/* Marks alone, as many bytes of them. */
+static void measure_salvage_growth(unsigned size)
+{
+    char name[64];
+    struct wreck wreck = {0};
+    wreck = marks_alone(wreck);
+    wreck.length = size;
+    snprintf(name, sizeof name, "salvage, marks alone, bytes: %u", size);
+    measure_wreck(name, wreck);
+}
+
+static void salvage_cases(struct source *source)
+{
+    const struct wreck none = {0}, fifteen = fifteen_records();
+    tables_used = 0;
+    struct made_table made = full_table(source);
+    measure_one("salvage, full table", SALVAGE, keep(made), 0, 0, 0);
+    measure_one("salvage, CG: full table (1,748 bytes)", SALVAGE, keep(in_largest_form(made)), 0, 0, 0);
+    measure_wrecks("salvage, 4,096 bytes of noise", noise, source);
+    measure_wrecks("salvage, 4,096 bytes, wrecked tables", wrecked_tables, source);
+    measure_wreck("salvage, fixed parts alone", fixed_parts(none));
+    measure_wreck("salvage, 15 records, then fixed parts", fixed_parts(fifteen));
+    measure_wreck("salvage, 15 records, then third tasks", third_tasks(fifteen));
+    measure_wreck("salvage, marks alone", marks_alone(none));
+    measure_wreck("salvage, 15 records, then marks", marks_alone(fifteen));
+    measure_wrecks("salvage, 15 records, then marks at random", marks_at_random, source);
+}
+
 /* ---- Growth ---- */
 
 /* So many chains with so many tasks and listed distances each; the first has the lowest priority. */
@@ -624,6 +758,8 @@ static void growth_cases(void)
         measure_growth("4 chains, distances each:", n, alike(4, 1, n));
     for (unsigned n = 0; n < 4; n++)
         measure_growth("K:", activations[n], closing_at(activations[n]));
+    for (unsigned n = 512; n <= MOST_SALVAGED; n *= 2)
+        measure_salvage_growth(n);
 }
 
 /* ---- Millions of arrivals ---- */
@@ -678,6 +814,7 @@ int main(int count, char **words)
     slow_cases();
     second_way_cases(&source);
     largest_cases(&source);
+    salvage_cases(&source);
     growth_cases();
     bisected_cases();
     return 0;

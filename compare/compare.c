@@ -1,8 +1,9 @@
 /* Holds the entries of mishtodran.h against the plain analyzer, on generated tables.
    Usage: compare SEED N
 
-   Makes N tables from SEED, of both forms, and for each some to be merged and some rows to be written, asks both every
-   question about them, and stops at the first difference, with the tables or the rows and the call. */
+   Makes N tables from SEED, of both forms, and for each some to be merged, some rows to be written and some wrecks to be
+   salvaged, asks both every question about them, and stops at the first difference, with the tables or the rows and the
+   call. */
 #include "../include/mishtodran.h"
 #include "analyzer.h"
 #include "generate.h"
@@ -29,18 +30,21 @@ enum {
     WRITE,
     TO_LARGEST,
     TO_GAP,
+    SALVAGE,
     REPORT,
     ENTRIES
 };
-enum { LONGEST_RECORD = 4096, ANSWER_ROOM = 32, TEXT_ROOM = MISHTODRAN_LONGEST_REPORT + 32, NUMBERS = 35 };
+enum { LONGEST_RECORD = 4096, ANSWER_ROOM = 32, TEXT_ROOM = MISHTODRAN_LONGEST_REPORT + 32, NUMBERS = 37 };
 enum { MERGE_ROOM = 2 * MISHTODRAN_MOST_TABLE_BYTES + 64 }; /* more than any merge takes */
 enum { WRITE_ROOM = MISHTODRAN_MOST_TABLE_BYTES + 64, READ_ROOM = MISHTODRAN_MOST_CHAINS + 4 };
+enum { SKIPPED_BYTES = 8, LIST_ROOM = MISHTODRAN_MOST_CHAINS * SKIPPED_BYTES + 16 }; /* more than any list takes */
 enum { MANY_ARRIVALS = 1000000 };  /* of one chain in a window: too many to be counted one by one */
 enum { MOST_PACKINGS = 100000 };   /* of a call that the engine which goes through every packing is asked */
 
 static const char *const entry_name[] = {"latency", "misses", "misses plain", "misses at most", "segment",
                                          "record",  "check",  "save",         "merge",          "conflict",
-                                         "read",    "write",  "to largest",   "to gap",         "report"};
+                                         "read",    "write",  "to largest",   "to gap",         "salvage",
+                                         "report"};
 static const size_t answer_bytes[] = {16, 4, 4, 4, 8, 8, 8};
 static const char *const with_many[] = {"latency, over a million arrivals", "misses, over a million arrivals",
                                         "misses plain, over a million arrivals",
@@ -150,6 +154,51 @@ static const char *const convert_name[] = {"accepted, 1,748 bytes",
                                            "accepted, a gap of 10,000,000",
                                            "accepted, both flags"};
 
+/* What a salvage comes to, and what was skipped in one that is accepted; more than one of these may hold. */
+enum {
+    SALVAGED_GAPS,
+    SALVAGED_LARGEST,
+    KEPT_FEWER,
+    KEPT_16,
+    KEPT_16_AND_REST,
+    WHOLE_TABLE,
+    NOTHING_SKIPPED,
+    SKIPPED_BEFORE,
+    SKIPPED_BETWEEN,
+    SKIPPED_AFTER,
+    LONGEST_SALVAGED,
+    IN_ONE_OF_OTHER_FORM,
+    IN_ONE_OF_USED_ID,
+    IN_ONE_OF_MANY_TASKS,
+    NO_ROOM_FOR_TABLE,
+    NO_ROOM_FOR_LIST,
+    NO_ROOM_AT_ALL,
+    EMPTY_INPUT,
+    NOTHING_KEPT,
+    ONE_BYTE_TOO_LONG,
+    SALVAGE_GROUNDS
+};
+static const char *const salvage_name[] = {"accepted, CH",
+                                           "accepted, CG",
+                                           "accepted, fewer than 16 records",
+                                           "accepted, 16 records and no rest",
+                                           "accepted, 16 records and a rest",
+                                           "accepted, a table that is accepted itself",
+                                           "accepted, nothing skipped",
+                                           "accepted, skipped before the first record",
+                                           "accepted, skipped between records",
+                                           "accepted, skipped after the last record",
+                                           "accepted, 4,096 bytes",
+                                           "accepted, a record that starts in one of another form",
+                                           "accepted, a record that starts in one whose id is used",
+                                           "accepted, a record that starts in one with too many tasks",
+                                           "24, no room for the table",
+                                           "24, no room for the list",
+                                           "24, no room for either",
+                                           "36, an empty input",
+                                           "36, bytes without a record",
+                                           "35, 4,097 bytes"};
+
 /* How often each entry has returned each number, and how often with many arrivals in a window; how often the check has
    answered it of a table whose first mark is not CG, and of one whose is; how often a merge has returned it because of
    what, and the engine that goes through every packing was left out because there are too many. */
@@ -168,6 +217,7 @@ static uint64_t save_met[SAVE_GROUNDS];
 static uint64_t merge_met[MERGE_GROUNDS];
 static uint64_t write_met[WRITE_GROUNDS];
 static uint64_t convert_met[CONVERT_GROUNDS];
+static uint64_t salvage_met[SALVAGE_GROUNDS];
 
 static const struct tally tallies[] = {{"misses", GROUNDS, ground_name, ground_met},
                                        {"misses at most", AT_MOST_GROUNDS, at_most_name, at_most_met},
@@ -175,7 +225,8 @@ static const struct tally tallies[] = {{"misses", GROUNDS, ground_name, ground_m
                                        {"save", SAVE_GROUNDS, save_name, save_met},
                                        {"merge", MERGE_GROUNDS, merge_name, merge_met},
                                        {"write", WRITE_GROUNDS, write_name, write_met},
-                                       {"conversion", CONVERT_GROUNDS, convert_name, convert_met}};
+                                       {"conversion", CONVERT_GROUNDS, convert_name, convert_met},
+                                       {"salvage", SALVAGE_GROUNDS, salvage_name, salvage_met}};
 
 static void print_hex(const char *what, const uint8_t *bytes, size_t length)
 {
@@ -1476,6 +1527,275 @@ static void ask_conversions(struct source *source, const struct generated *table
     }
 }
 
+/* ---- Salvages ---- */
+
+struct salvaged {
+    struct outcome outcome;
+    uint8_t table[WRITE_ROOM + 32], list[LIST_ROOM + 32]; /* the lent buffers and what follows them */
+};
+
+/* The lengths of the buffers that a salvage is lent. */
+struct rooms {
+    size_t table, list, answer;
+};
+
+static const struct rooms much_room = {WRITE_ROOM, LIST_ROOM, 8};
+
+/* The wreck under way, to be shown where a library crashes on it; NULL where none is. */
+static const struct wreck *wreck_under_way;
+
+static struct salvaged nothing_salvaged(void)
+{
+    struct salvaged salvaged = {.outcome = nothing_yet()};
+    for (size_t i = 0; i < sizeof salvaged.table; i++)
+        salvaged.table[i] = (uint8_t)(0x33 + 5 * i);
+    for (size_t i = 0; i < sizeof salvaged.list; i++)
+        salvaged.list[i] = (uint8_t)(0x15 + 3 * i);
+    return salvaged;
+}
+
+static bool same_salvaged(const struct salvaged *one, const struct salvaged *other)
+{
+    return same(&one->outcome, &other->outcome) && memcmp(one->table, other->table, sizeof one->table) == 0 &&
+           memcmp(one->list, other->list, sizeof one->list) == 0;
+}
+
+static void print_wreck(const struct wreck *wreck)
+{
+    printf("family: %s %s\n", wreck->family, wreck->damage);
+    print_hex("input", wreck->bytes, wreck->length);
+}
+
+static void print_salvaged(const char *whose, const struct salvaged *salvaged)
+{
+    print_outcome(whose, &salvaged->outcome);
+    print_hex("the table's buffer and beyond", salvaged->table, sizeof salvaged->table);
+    print_hex("the list's buffer and beyond", salvaged->list, sizeof salvaged->list);
+}
+
+static void stop_at_salvage(const struct wreck *wreck, const struct salvaged *proved, const struct salvaged *plain,
+                            struct rooms rooms)
+{
+    printf("difference in salvage, or the input was written to; %zu bytes for the table, %zu for the list, %zu for the "
+           "answer\n",
+           rooms.table, rooms.list, rooms.answer);
+    print_wreck(wreck);
+    print_salvaged("mishtodran", proved);
+    print_salvaged("plain", plain);
+    exit(1);
+}
+
+/* Salvages with both, and gives back what they give. */
+static struct salvaged salvage(const struct wreck *wreck, struct rooms rooms)
+{
+    static struct wreck lent;
+    struct salvaged proved = nothing_salvaged(), plain = proved;
+    lent = *wreck;
+    proved.outcome.returned = mishtodran_salvage(lent.bytes, lent.length, proved.table, rooms.table, proved.list,
+                                                 rooms.list, proved.outcome.answer, rooms.answer);
+    plain.outcome.returned = plain_salvage(wreck->bytes, wreck->length, plain.table, rooms.table, plain.list,
+                                           rooms.list, plain.outcome.answer, rooms.answer);
+    if (!same_salvaged(&proved, &plain) || memcmp(lent.bytes, wreck->bytes, sizeof lent.bytes) != 0)
+        stop_at_salvage(wreck, &proved, &plain, rooms);
+    note(met[SALVAGE], plain.outcome.returned);
+    return plain;
+}
+
+/* Where the kept records stand in the input, and where the walk ended. */
+struct kept {
+    unsigned count;
+    size_t at[MISHTODRAN_MOST_CHAINS], length[MISHTODRAN_MOST_CHAINS], end;
+    bool covers; /* kept and skipped stretches, with any rest after a 16th record, are the input, each byte once */
+};
+
+/* Goes over the stretch that is the next in the list where one starts at this byte, and gives back where it ends. */
+static size_t after_skipped(const struct salvaged *salvaged, unsigned *stretch, size_t at)
+{
+    const uint8_t *next = salvaged->list + SKIPPED_BYTES * *stretch;
+    if (SKIPPED_BYTES * *stretch == get32(salvaged->outcome.answer + 4) || get32(next) != at || get32(next + 4) == 0)
+        return at;
+    ++*stretch;
+    return at + get32(next + 4);
+}
+
+/* Puts a salvage together again: each record of the table follows the one before it, or a stretch of the list. */
+static struct kept find_kept(const struct wreck *wreck, const struct salvaged *salvaged)
+{
+    struct kept kept = {.covers = true};
+    unsigned stretch = 0;
+    size_t at = after_skipped(salvaged, &stretch, 0);
+    for (const uint8_t *record = salvaged->table; record[0] == 'C'; record += parts_of(record).end) {
+        unsigned i = kept.count++;
+        kept.at[i] = at;
+        kept.length[i] = parts_of(record).end;
+        kept.covers &= at + kept.length[i] <= wreck->length && memcmp(wreck->bytes + at, record, kept.length[i]) == 0;
+        at = after_skipped(salvaged, &stretch, at + kept.length[i]);
+    }
+    kept.end = at;
+    kept.covers &= SKIPPED_BYTES * stretch == get32(salvaged->outcome.answer + 4);
+    kept.covers &= kept.count == MISHTODRAN_MOST_CHAINS ? at <= wreck->length : at == wreck->length;
+    return kept;
+}
+
+static bool is_accepted(const uint8_t *table, size_t length)
+{
+    uint8_t verdict[8];
+    plain_check(table, length, verdict, sizeof verdict);
+    return get32(verdict) == 0;
+}
+
+/* Whether a whole record that is good by itself starts here; then its length. */
+static bool good_alone(const struct wreck *wreck, size_t at, size_t *length)
+{
+    uint8_t table[MISHTODRAN_MOST_CHAIN_RECORD_BYTES + 4];
+    const uint8_t *record = wreck->bytes + at;
+    if (wreck->length - at < MISHTODRAN_LEAST_CHAIN_RECORD_BYTES || record[0] != 'C')
+        return false;
+    *length = parts_of(record).end;
+    if (*length > MISHTODRAN_MOST_CHAIN_RECORD_BYTES || *length > wreck->length - at)
+        return false;
+    memcpy(table, record, *length);
+    memcpy(table + *length, "EN\1", 4);
+    return is_accepted(table, *length + 4);
+}
+
+/* Why a record that is good by itself was not kept beside the first so many. */
+static unsigned refused_beside(const struct wreck *wreck, size_t at, const struct kept *kept, unsigned count)
+{
+    const uint8_t *record = wreck->bytes + at;
+    if (record[1] != wreck->bytes[kept->at[0] + 1])
+        return IN_ONE_OF_OTHER_FORM;
+    for (unsigned i = 0; i < count; i++)
+        if (memcmp(record + 2, wreck->bytes + kept->at[i] + 2, 2) == 0)
+            return IN_ONE_OF_USED_ID;
+    return IN_ONE_OF_MANY_TASKS;
+}
+
+/* Notes each record that starts in one which was not kept beside those before it. */
+static void note_nested(const struct wreck *wreck, const struct kept *kept)
+{
+    for (unsigned i = 1; i < kept->count; i++)
+        for (size_t at = kept->at[i - 1] + kept->length[i - 1], length; at < kept->at[i]; at++)
+            if (good_alone(wreck, at, &length) && at + length > kept->at[i])
+                salvage_met[refused_beside(wreck, at, kept, i)]++;
+}
+
+/* Notes what was skipped: before the first record, between two, after the last. */
+static void note_skipped(const struct salvaged *salvaged, const struct kept *kept)
+{
+    bool before = kept->at[0] > 0, after = kept->end > kept->at[kept->count - 1] + kept->length[kept->count - 1];
+    unsigned stretches = get32(salvaged->outcome.answer + 4) / SKIPPED_BYTES;
+    salvage_met[NOTHING_SKIPPED] += stretches == 0;
+    salvage_met[SKIPPED_BEFORE] += before;
+    salvage_met[SKIPPED_BETWEEN] += stretches > (unsigned)before + after;
+    salvage_met[SKIPPED_AFTER] += after;
+}
+
+static void note_salvage(const struct wreck *wreck, const struct salvaged *salvaged, const struct kept *kept)
+{
+    bool full = kept->count == MISHTODRAN_MOST_CHAINS;
+    salvage_met[is_largest(salvaged->table, 2) ? SALVAGED_LARGEST : SALVAGED_GAPS]++;
+    salvage_met[full ? kept->end < wreck->length ? KEPT_16_AND_REST : KEPT_16 : KEPT_FEWER]++;
+    salvage_met[WHOLE_TABLE] += is_accepted(wreck->bytes, wreck->length);
+    salvage_met[LONGEST_SALVAGED] += wreck->length == MOST_SALVAGED;
+    note_skipped(salvaged, kept);
+    note_nested(wreck, kept);
+}
+
+static void stop_at_salvaged(const struct wreck *wreck, const struct salvaged *salvaged, const char *what)
+{
+    printf("what was salvaged %s\n", what);
+    print_wreck(wreck);
+    print_salvaged("both", salvaged);
+    exit(1);
+}
+
+/* What a salvage of an accepted table of so many chains must come to: the table, and its end record skipped, unless the
+   walk ends before that. */
+static struct salvaged by_table(const struct generated *table, unsigned chains)
+{
+    struct salvaged salvaged = nothing_salvaged();
+    bool walked_over_end = chains < MISHTODRAN_MOST_CHAINS;
+    memcpy(salvaged.table, table->bytes, table->length);
+    put32(salvaged.outcome.answer, table->length);
+    put32(salvaged.outcome.answer + 4, walked_over_end ? SKIPPED_BYTES : 0);
+    if (walked_over_end) {
+        put32(salvaged.list, table->length - 4);
+        put32(salvaged.list + 4, 4);
+    }
+    return salvaged;
+}
+
+/* What was salvaged: it and the list cover the input, it is accepted, and a salvage of it gives it back. Of an input that
+   is accepted it is the input. */
+static void compare_salvaged(const struct wreck *wreck, const struct salvaged *salvaged)
+{
+    struct generated table = {.length = get32(salvaged->outcome.answer), .family = "salvaged", .damage = ""};
+    memcpy(table.bytes, salvaged->table, table.length);
+    struct kept kept = find_kept(wreck, salvaged);
+    if (!kept.covers)
+        stop_at_salvaged(wreck, salvaged, "does not cover the input");
+    note_salvage(wreck, salvaged, &kept);
+    if (get32(ask(&table, (struct query){.entry = CHECK, .answer_len = answer_bytes[CHECK]}).answer) != 0)
+        stop_at_salvaged(wreck, salvaged, "is refused");
+    struct salvaged expected = by_table(&table, kept.count);
+    struct wreck again = wreck_of(&table);
+    struct salvaged found = salvage(&again, much_room);
+    if (!same_salvaged(&found, &expected) ||
+        (is_accepted(wreck->bytes, wreck->length) && !same_salvaged(salvaged, &expected)))
+        stop_at_salvaged(wreck, salvaged, "does not come back");
+}
+
+static void note_refused(const struct wreck *wreck, uint32_t returned)
+{
+    salvage_met[EMPTY_INPUT] += returned == 36 && wreck->length == 0;
+    salvage_met[NOTHING_KEPT] += returned == 36 && wreck->length > 0;
+    salvage_met[ONE_BYTE_TOO_LONG] += returned == 35 && wreck->length == MOST_SALVAGED + 1;
+}
+
+/* Into just enough room for a result, and into less for the table; for the list, and for either, where it has bytes. */
+static void salvage_closely(struct source *source, const struct wreck *wreck, const struct salvaged *salvaged)
+{
+    size_t table = get32(salvaged->outcome.answer), list = get32(salvaged->outcome.answer + 4);
+    size_t less_table = one_in(source, 2) ? table - 1 : draw(source, 0, table - 1);
+    salvage(wreck, (struct rooms){table, list, draw(source, 8, ANSWER_ROOM)});
+    salvage_met[NO_ROOM_FOR_TABLE] += salvage(wreck, (struct rooms){less_table, LIST_ROOM, 8}).outcome.returned == 24;
+    if (list == 0)
+        return;
+    size_t less_list = one_in(source, 2) ? list - 1 : draw(source, 0, list - 1);
+    salvage_met[NO_ROOM_FOR_LIST] += salvage(wreck, (struct rooms){WRITE_ROOM, less_list, 8}).outcome.returned == 24;
+    salvage_met[NO_ROOM_AT_ALL] += salvage(wreck, (struct rooms){less_table, less_list, 8}).outcome.returned == 24;
+}
+
+/* Into more room than needed and into any; an answer too short comes before that. */
+static void compare_wreck(struct source *source, const struct wreck *wreck)
+{
+    wreck_under_way = wreck;
+    struct salvaged salvaged = salvage(wreck, much_room);
+    struct rooms any = {.table = draw(source, 0, WRITE_ROOM)};
+    any.list = draw(source, 0, LIST_ROOM);
+    any.answer = draw(source, 0, 16);
+    salvage(wreck, any);
+    if (salvaged.outcome.returned == 0) {
+        compare_salvaged(wreck, &salvaged);
+        salvage_closely(source, wreck, &salvaged);
+    } else {
+        note_refused(wreck, salvaged.outcome.returned);
+    }
+    wreck_under_way = NULL;
+}
+
+/* The table itself, and wrecks. */
+static void salvage_somehow(struct source *source, const struct generated *table)
+{
+    struct wreck wreck = wreck_of(table);
+    compare_wreck(source, &wreck);
+    for (unsigned i = 0; i < 6; i++) {
+        wreck = generate_wreck(source);
+        compare_wreck(source, &wreck);
+    }
+}
+
 /* ---- Reports ---- */
 
 struct told {
@@ -1543,6 +1863,8 @@ static void ask_spoiled(struct source *source, struct generated *table, const st
         read_rows(table, draw(source, 0, READ_ROOM), 4);
         convert(table, TO_LARGEST, WRITE_ROOM, 4);
         convert(table, TO_GAP, WRITE_ROOM, 4);
+        struct wreck wreck = wreck_of(table);
+        compare_wreck(source, &wreck);
     }
 }
 
@@ -1562,6 +1884,7 @@ static void compare_table(struct source *source, struct generated *table)
         merge_somehow(source, table);
     for (unsigned i = 0; i < 12; i++)
         write_somehow(source);
+    salvage_somehow(source, table);
     ask_reports(source, table);
     if (places.chains > 0)
         ask_spoiled(source, table, &places);
@@ -1578,6 +1901,8 @@ static void on_crash(int number)
         print_triple(merge_under_way);
     if (rows_under_way)
         print_rows("rows", rows_under_way->row, rows_under_way->count);
+    if (wreck_under_way)
+        print_wreck(wreck_under_way);
     exit(1);
 }
 
@@ -1624,6 +1949,7 @@ static const struct {
                        [WRITE] = {&of_rows, {3, {0, 24, 27}}},
                        [TO_LARGEST] = {&of_table, {4, {0, 24, 27, 34}}},
                        [TO_GAP] = {&of_table, {4, {0, 24, 27, 34}}},
+                       [SALVAGE] = {&of_none, {5, {0, 24, 27, 35, 36}}},
                        [REPORT] = {&of_none, {3, {0, 24, 27}}}};
 
 /* Whether one of these numbers was never counted. */

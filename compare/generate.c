@@ -309,15 +309,20 @@ static void list_largest(struct source *source, struct made_table *table)
             any_largest(source, &table->chain[i]);
 }
 
-/* Gives one chain another form than it has; of 17 the last. */
-static void mix_forms(struct source *source, struct made_table *table)
+/* Gives a chain the form that it has not. */
+static void turn_form(struct made_chain *chain)
 {
-    unsigned last = table->chains - 1;
-    struct made_chain *chain = &table->chain[last == 16 ? last : (unsigned)draw(source, 0, last)];
     if (chain->form == MISHTODRAN_GAP_FORM)
         list_gap(chain);
     else
         chain->form = MISHTODRAN_GAP_FORM;
+}
+
+/* Gives one chain another form than it has; of 17 the last. */
+static void mix_forms(struct source *source, struct made_table *table)
+{
+    unsigned last = table->chains - 1;
+    turn_form(&table->chain[last == 16 ? last : (unsigned)draw(source, 0, last)]);
 }
 
 /* Ids of which none comes twice: each is so far from the one before it, and 1 follows the greatest. */
@@ -2258,4 +2263,327 @@ struct made_rows generate_rows(struct source *source)
     encode_rows(&made);
     made.room = any_room(source, made.bytes.length);
     return made;
+}
+
+/* ---- Wrecks to be salvaged ---- */
+
+void add_bytes(struct wreck *wreck, const uint8_t *bytes, size_t count)
+{
+    count = least(count, MOST_WRECKED - wreck->length);
+    memcpy(wreck->bytes + wreck->length, bytes, count);
+    wreck->length += count;
+}
+
+void add_pattern(struct wreck *wreck, const uint8_t *pattern, size_t length, size_t count)
+{
+    for (; count > 0; count -= least(count, length))
+        add_bytes(wreck, pattern, least(count, length));
+}
+
+struct wreck wreck_of(const struct generated *table)
+{
+    struct wreck wreck = {.family = table->family, .damage = table->damage};
+    add_bytes(&wreck, table->bytes, table->length);
+    return wreck;
+}
+
+/* What the records of a wreck are like, and how many were made. */
+struct making {
+    uint16_t form;
+    struct ids ids;
+    struct range tasks, listed;
+    unsigned made;
+};
+
+static struct made_chain next_chain(struct source *source, struct making *making)
+{
+    struct made_chain chain = any_chain(source, id_at(making->ids, making->made++), making->tasks, making->listed);
+    if (one_in(source, 6))
+        reach_limits(source, &chain);
+    if (making->form == MISHTODRAN_LARGEST_FORM)
+        any_largest(source, &chain);
+    return chain;
+}
+
+/* One of the ids that were made. */
+static uint32_t made_id(struct source *source, const struct making *making)
+{
+    return id_at(making->ids, making->made == 0 ? 0 : (unsigned)draw(source, 0, making->made - 1));
+}
+
+static void add_record(struct wreck *wreck, const struct made_chain *chain)
+{
+    uint8_t record[MISHTODRAN_MOST_CHAIN_RECORD_BYTES];
+    add_bytes(wreck, record, (size_t)(put_chain(record, chain) - record));
+}
+
+static void add_end(struct wreck *wreck, unsigned chains)
+{
+    uint8_t end[4];
+    put(put_mark(end, "EN"), chains, 2);
+    add_bytes(wreck, end, sizeof end);
+}
+
+static void add_records(struct source *source, struct wreck *wreck, struct making *making, unsigned count)
+{
+    for (; count > 0; count--) {
+        struct made_chain chain = next_chain(source, making);
+        add_record(wreck, &chain);
+    }
+}
+
+/* Anything; or, again and again: a byte, marks, an end record, tasks that are distances too, or fixed parts, each in the
+   one before it. */
+static void add_stretch(struct source *source, struct wreck *wreck, size_t count)
+{
+    static const struct {
+        uint8_t length, bytes[8];
+    } patterns[] = {{1, {0}},
+                    {1, "C"},
+                    {2, "CG"},
+                    {2, "CH"},
+                    {6, "CHCGTK"},
+                    {4, "EN\1"},
+                    {4, "TK\5"},
+                    {7, {'C', 'G', 0, 1, 1, 1, 2}}};
+    unsigned which = (unsigned)draw(source, 0, 11);
+    if (which < 8) {
+        add_pattern(wreck, patterns[which].bytes, patterns[which].length, count);
+        return;
+    }
+    for (; count > 0; count--)
+        add_bytes(wreck, &(uint8_t){(uint8_t)draw(source, 0, 255)}, 1);
+}
+
+static size_t stretch_length(struct source *source) { return draw(source, 1, one_in(source, 3) ? 200 : 12); }
+
+/* Lets a record start in another's last task: the mark is its priority, the id and the kind are its cost. */
+static void add_overlapping(struct wreck *wreck, struct made_chain *outer, struct made_chain *inner)
+{
+    uint8_t record[MISHTODRAN_MOST_CHAIN_RECORD_BYTES];
+    inner->overload = false;
+    outer->task[outer->tasks - 1] = (struct made_task){inner->form, inner->id | (uint32_t)inner->asynchronous << 16};
+    add_record(wreck, outer);
+    add_bytes(wreck, record + 6, (size_t)(put_chain(record, inner) - record) - 6);
+}
+
+/* A record of the form "CG" whose largest distances hold another one, of one distance and one task, whole. */
+static void add_swallowing(struct source *source, struct wreck *wreck, struct made_chain *outer)
+{
+    uint32_t id = (uint32_t)draw(source, 1, 100), deadline = (uint32_t)draw(source, id + 1, 150);
+    const uint32_t largest[] = {id << 16 | MISHTODRAN_LARGEST_FORM, /* mark and id */
+                                deadline << 16,                     /* kind, overload and deadline */
+                                0x01000000,                         /* deadline, flag 0, one distance */
+                                0x01000001,                         /* one task; the distance */
+                                0x024B5400,                         /* the distance; "TK" and a priority */
+                                0x03000001,                         /* the priority; a cost */
+                                0x04000000,                         /* the cost */
+                                0x04000000};
+    outer->form = MISHTODRAN_LARGEST_FORM;
+    outer->flag = 1;
+    outer->listed = 8;
+    memcpy(outer->largest, largest, sizeof largest);
+    for (unsigned i = 0; i < 8; i++)
+        outer->distance[i] = i + 1;
+    add_record(wreck, outer);
+}
+
+/* A record with another in it. Mostly it is to be refused: for an id that was used, for its form, or for its tasks where
+   there are many before it. */
+static void add_nested(struct source *source, struct wreck *wreck, struct making *making)
+{
+    uint32_t used = made_id(source, making);
+    struct made_chain outer = next_chain(source, making), inner = next_chain(source, making);
+    switch (draw(source, 0, 4)) {
+    case 0:
+        break;
+    case 1:
+        turn_form(&outer);
+        break;
+    case 2:
+        outer.id = used;
+        break;
+    default:
+        fill_tasks(source, &outer, 16 - outer.tasks, HIGHEST, DEAREST);
+        inner.tasks = 1;
+    }
+    if (one_in(source, 4))
+        add_swallowing(source, wreck, &outer);
+    else
+        add_overlapping(wreck, &outer, &inner);
+}
+
+/* A part of a record: its start, its end, or the middle. */
+static void add_part(struct source *source, struct wreck *wreck, struct making *making)
+{
+    uint8_t record[MISHTODRAN_MOST_CHAIN_RECORD_BYTES];
+    struct made_chain chain = next_chain(source, making);
+    size_t length = (size_t)(put_chain(record, &chain) - record);
+    size_t from = one_in(source, 2) ? 0 : draw(source, 1, length - 1), to = draw(source, from, length);
+    add_bytes(wreck, record + from, to - from);
+}
+
+/* A record whose id was used, or of another form, or both. */
+static void add_unlike(struct source *source, struct wreck *wreck, struct making *making)
+{
+    uint32_t used = made_id(source, making);
+    struct made_chain chain = next_chain(source, making);
+    if (one_in(source, 2))
+        turn_form(&chain);
+    else
+        chain.id = used;
+    if (one_in(source, 4))
+        chain.id = used;
+    add_record(wreck, &chain);
+}
+
+static void add_piece(struct source *source, struct wreck *wreck, struct making *making)
+{
+    switch (draw(source, 0, 9)) {
+    case 0:
+        add_nested(source, wreck, making);
+        break;
+    case 1:
+        add_part(source, wreck, making);
+        break;
+    case 2:
+        add_unlike(source, wreck, making);
+        break;
+    case 3:
+        add_end(wreck, making->made);
+        break;
+    case 4:
+    case 5:
+        add_stretch(source, wreck, stretch_length(source));
+        break;
+    default:
+        add_records(source, wreck, making, 1);
+    }
+}
+
+static void remove_bytes(struct wreck *wreck, size_t at, size_t count)
+{
+    memmove(wreck->bytes + at, wreck->bytes + at + count, wreck->length - at - count);
+    wreck->length -= count;
+}
+
+/* Puts a stretch before the byte at `at`; what has no room any more falls off. */
+static void insert_stretch(struct source *source, struct wreck *wreck, size_t at, size_t count)
+{
+    const struct wreck before = *wreck;
+    wreck->length = at;
+    add_stretch(source, wreck, count);
+    add_bytes(wreck, before.bytes + at, before.length - at);
+}
+
+static void overwrite(struct source *source, struct wreck *wreck, size_t at, size_t count)
+{
+    size_t length = wreck->length;
+    wreck->length = at;
+    add_stretch(source, wreck, count);
+    wreck->length = length;
+}
+
+/* Cuts a wreck that has bytes at either end, shifts what follows some byte, overwrites a stretch, or flips a bit. */
+static void wreck_more(struct source *source, struct wreck *wreck)
+{
+    size_t at = draw(source, 0, wreck->length - 1), left = wreck->length - at, count = stretch_length(source);
+    switch (draw(source, 0, 6)) {
+    case 0:
+        wreck->length = at;
+        break;
+    case 1:
+        remove_bytes(wreck, 0, at);
+        break;
+    case 2:
+        remove_bytes(wreck, at, least(count, left));
+        break;
+    case 3:
+        insert_stretch(source, wreck, at, count);
+        break;
+    case 4:
+    case 5:
+        overwrite(source, wreck, at, least(count, left));
+        break;
+    default:
+        wreck->bytes[at] ^= (uint8_t)(1u << draw(source, 0, 7));
+    }
+    wreck->damage = "wrecked";
+}
+
+/* Makes a wreck as long as may be, or about that: with a stretch after it, or before it, so that records stand at the
+   very end. */
+static void reach_length(struct source *source, struct wreck *wreck)
+{
+    size_t length = one_in(source, 2) ? MOST_SALVAGED : MOST_SALVAGED - 2 + draw(source, 0, 4);
+    size_t missing = length - least(wreck->length, length);
+    if (one_in(source, 2))
+        add_stretch(source, wreck, missing);
+    else
+        insert_stretch(source, wreck, 0, missing);
+    wreck->length = length;
+    wreck->damage = "about as long as may be";
+}
+
+/* What a wreck was: so many tables one after another, each of so many records, then so many pieces. */
+struct remains {
+    const char *name;
+    unsigned share; /* of a hundred */
+    struct range tables, records, pieces, tasks, listed;
+};
+
+/* The four from "many records" on meet the limits of 16 records and 64 tasks. */
+static const struct remains all_remains[] = {
+    {"nothing", 1, {0, 0}, {0, 0}, {0, 0}, {1, 1}, {1, 1}},
+    {"one table", 20, {1, 1}, {1, 15}, {0, 0}, {1, 4}, {1, 8}},
+    {"full table", 6, {1, 1}, {16, 16}, {0, 0}, {4, 4}, {8, 8}},
+    {"joined tables", 12, {2, 3}, {1, 7}, {0, 0}, {1, 4}, {1, 8}},
+    {"few pieces", 12, {0, 0}, {0, 0}, {1, 4}, {1, 16}, {1, 8}},
+    {"pieces", 14, {0, 0}, {0, 0}, {4, 16}, {1, 4}, {1, 8}},
+    {"table and pieces", 8, {1, 1}, {1, 15}, {1, 6}, {1, 4}, {1, 8}},
+    {"many records", 8, {1, 1}, {14, 18}, {0, 4}, {1, 3}, {1, 4}},
+    {"many pieces", 6, {0, 0}, {0, 0}, {20, 50}, {1, 4}, {1, 3}},
+    {"many tasks", 8, {1, 1}, {3, 5}, {1, 6}, {11, 16}, {1, 8}},
+    {"joined many", 5, {2, 4}, {5, 16}, {0, 2}, {1, 5}, {1, 8}},
+};
+
+static const struct remains *any_remains(struct source *source)
+{
+    const struct remains *remains = all_remains;
+    for (uint64_t turn = draw(source, 1, 100); turn > remains->share; remains++)
+        turn -= remains->share;
+    return remains;
+}
+
+/* A table that follows another has the same ids, another form, both or neither. */
+static void add_tables(struct source *source, struct wreck *wreck, struct making *making, const struct remains *remains)
+{
+    for (unsigned i = draw_from(source, remains->tables); i > 0; i--) {
+        unsigned count = draw_from(source, remains->records);
+        add_records(source, wreck, making, count);
+        if (!one_in(source, 8))
+            add_end(wreck, count);
+        if (one_in(source, 3))
+            making->made = 0;
+        if (one_in(source, 4))
+            making->form ^= MISHTODRAN_GAP_FORM ^ MISHTODRAN_LARGEST_FORM;
+    }
+}
+
+struct wreck generate_wreck(struct source *source)
+{
+    const struct remains *remains = any_remains(source);
+    struct wreck wreck = {.family = remains->name, .damage = ""};
+    uint16_t form = one_in(source, 2) ? MISHTODRAN_GAP_FORM : MISHTODRAN_LARGEST_FORM;
+    struct making making = {
+        .form = form, .ids = any_ids(source), .tasks = remains->tasks, .listed = remains->listed};
+    add_tables(source, &wreck, &making, remains);
+    for (unsigned i = draw_from(source, remains->pieces); i > 0; i--)
+        add_piece(source, &wreck, &making);
+    if (one_in(source, 2))
+        for (unsigned i = (unsigned)draw(source, 1, 4); i > 0 && wreck.length > 0; i--)
+            wreck_more(source, &wreck);
+    if (one_in(source, 8))
+        reach_length(source, &wreck);
+    return wreck;
 }

@@ -1,5 +1,5 @@
 /* A seeded generator of stored tables: valid ones of every shape, ones at the limits, slow ones and damaged ones,
-   tables to be merged, and rows to be written. */
+   tables to be merged, rows to be written, and wrecks of tables to be salvaged. */
 #ifndef GENERATE_H
 #define GENERATE_H
 
@@ -118,5 +118,23 @@ struct made_rows generate_rows(struct source *source);
 struct mishtodran_row without_rest(struct mishtodran_row row);
 /* Whether rows are the same in all their places; what stands between two fields does not count. */
 bool same_rows(const struct mishtodran_row *one, const struct mishtodran_row *other, size_t count);
+
+/* ---- Wrecks to be salvaged ---- */
+
+enum { MOST_SALVAGED = 4096, MOST_WRECKED = MOST_SALVAGED + 256 };
+
+/* What is left of a table or of some, whole records among it or none. */
+struct wreck {
+    uint8_t bytes[MOST_WRECKED];
+    size_t length;
+    const char *family, *damage; /* what it is, and what was done to it or "" */
+};
+
+struct wreck generate_wreck(struct source *source);
+/* What a table's bytes are for a salvage. */
+struct wreck wreck_of(const struct generated *table);
+/* Adds so many bytes at the end of a wreck, as far as there is room: these, or a pattern again and again. */
+void add_bytes(struct wreck *wreck, const uint8_t *bytes, size_t count);
+void add_pattern(struct wreck *wreck, const uint8_t *pattern, size_t length, size_t count);
 
 #endif

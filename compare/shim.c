@@ -86,6 +86,12 @@ uint32_t mishtodran_to_gap(const uint8_t *table, size_t table_len, uint8_t *buff
     return plain_to_gap(table, table_len, buffer, buffer_len, answer, answer_len);
 }
 
+uint32_t mishtodran_salvage(const uint8_t *input, size_t input_len, uint8_t *table, size_t table_len, uint8_t *list,
+                            size_t list_len, uint8_t *answer, size_t answer_len)
+{
+    return plain_salvage(input, input_len, table, table_len, list, list_len, answer, answer_len);
+}
+
 uint32_t mishtodran_report(const uint8_t *table, size_t table_len, uint8_t *text, size_t text_len, uint8_t *answer,
                            size_t answer_len)
 {

@@ -2,14 +2,15 @@
  *
  * Every entry but the version returns 0 and writes its answer, or returns the number of a refusal (below) and writes
  * nothing. Answers are little-endian. Bytes of an answer buffer past the answer stay as they are, and so do those of a
- * text buffer past the text, and rows past those that a read fills.
+ * text buffer past the text, those of a salvage's list past its end, and rows past those that a read fills.
  *
  * What the caller keeps:
  * - a pointer is good for the length that stands beside it, in bytes, or for as many rows as their count says; a null
  *   pointer with length or count 0 is fine;
- * - a slice that is written (answer, buffer, text, the rows of a read) overlaps no other slice of the call.
- * Nothing else: any bytes may stand in a table or a record, any values in a row, and any number is taken at its full
- * width.
+ * - a slice that is written (answer, buffer, text, the rows of a read, the table and the list of a salvage) overlaps no
+ *   other slice of the call.
+ * Nothing else: any bytes may stand in a table, a record or the input of a salvage, any values in a row, and any number
+ * is taken at its full width.
  *
  * Threads: entries have no state and keep nothing between calls. Any number of threads may call them at once, also on
  * one table or the same rows, as long as no call writes what another reads or writes.
@@ -17,12 +18,12 @@
  * Stack: a call takes less than MISHTODRAN_STACK_BYTES. This is measured, not proved.
  *
  * Duration: every call ends; how soon is measured, not proved. On an x86-64 machine of 2 GHz, a check, a segment, a
- * record, a save or a conversion takes about a microsecond at most, a read, a write, a merge or its conflicts a few,
- * and any call on an ordinary table less than a millisecond. The slowest tables that we know have chains that take
- * nearly all of the time, so that a window is climbed to in millions of steps: there a latency, misses or their bound
- * by mishtodran_misses_at_most take some tenths of a second, and a report, which asks for latency and misses of every
- * chain, may take seconds. An editor that must not stand still makes these calls in a thread of its own.
- * mishtodran_misses_plain is apart: it goes through every packing, and may take longer than anyone waits. No other
+ * record, a save or a conversion takes about a microsecond at most, a read, a write, a merge or its conflicts a few, a
+ * salvage up to ten, and any call on an ordinary table less than a millisecond. The slowest tables that we know have
+ * chains that take nearly all of the time, so that a window is climbed to in millions of steps: there a latency, misses
+ * or their bound by mishtodran_misses_at_most take some tenths of a second, and a report, which asks for latency and
+ * misses of every chain, may take seconds. An editor that must not stand still makes these calls in a thread of its
+ * own. mishtodran_misses_plain is apart: it goes through every packing, and may take longer than anyone waits. No other
  * entry calls it.
  */
 #ifndef MISHTODRAN_H
@@ -37,9 +38,9 @@ extern "C" {
 
 /* The version of this header; mishtodran_version gives that of the library. An editor compares them at its start: where
  * they differ, an answer, a refusal or an entry may. CHANGELOG.md says which. */
-#define MISHTODRAN_VERSION 7
+#define MISHTODRAN_VERSION 8
 
-/* The limits. A table beyond one of them is refused, and so is a k. */
+/* The limits. A table beyond one of them is refused, and so is a k, or the input of a salvage. */
 enum {
     MISHTODRAN_MOST_TABLE_BYTES = 1748,       /* of a table that begins with "CG": every table fits into these */
     MISHTODRAN_MOST_GAP_TABLE_BYTES = 1284,   /* of any other */
@@ -54,7 +55,8 @@ enum {
     MISHTODRAN_MOST_COST = 1000000,
     MISHTODRAN_MOST_TIME = 10000000,    /* a deadline, a gap, a smallest distance, a window */
     MISHTODRAN_MOST_LARGEST = 80000000, /* a largest distance */
-    MISHTODRAN_MOST_RUN = 1000          /* k */
+    MISHTODRAN_MOST_RUN = 1000,         /* k */
+    MISHTODRAN_MOST_INPUT_BYTES = 4096  /* of a salvage */
 };
 
 /* A stored table is its chain records, all of one form, "CH" or "CG", then an end record. Numbers in them are
@@ -112,6 +114,15 @@ enum {
     MISHTODRAN_END_CHAINS_AT = 2, /* how many chains */
     MISHTODRAN_END_CHAINS_BYTES = 2,
     MISHTODRAN_END_RECORD_BYTES = 4
+};
+
+/* A stretch in the list that a salvage writes, which is a row of them; its numbers are little-endian too. */
+enum {
+    MISHTODRAN_STRETCH_OFFSET_AT = 0, /* of its first byte, from that of the input */
+    MISHTODRAN_STRETCH_OFFSET_BYTES = 4,
+    MISHTODRAN_STRETCH_LENGTH_AT = 4, /* how many bytes were skipped */
+    MISHTODRAN_STRETCH_LENGTH_BYTES = 4,
+    MISHTODRAN_STRETCH_BYTES = 8
 };
 
 /* The two forms of a chain record, each by its mark as a number. */
@@ -194,7 +205,7 @@ enum mishtodran_refusal {
     MISHTODRAN_SEGMENTS = 18,          /* there are over 6 overload active segments */
     MISHTODRAN_STARTS_AGAIN = 19,      /* an overload chain may start more than once in the last window */
     MISHTODRAN_CAPACITY = 21,          /* an overload active segment's capacity is above 40 */
-    /* A save; 24 in a merge, a write, a conversion and a report too, and in a read where there are too few rows */
+    /* A save; 24 in a merge, a write, a conversion, a salvage and a report too, and in a read of too few rows */
     MISHTODRAN_STALE_RECORD = 22,      /* the old record equals no stored chain record */
     MISHTODRAN_NEW_RECORD = 23,        /* the new record is not one whole chain record, or bears another id */
     MISHTODRAN_BUFFER_TOO_SHORT = 24,  /* the result, or the report's text, is longer than its buffer */
@@ -202,6 +213,9 @@ enum mishtodran_refusal {
     MISHTODRAN_IN_CONFLICT = 32,       /* some id is changed differently on both sides */
     /* A conversion */
     MISHTODRAN_NO_FORM = 34,           /* some chain has no such form, or the table already has it */
+    /* A salvage */
+    MISHTODRAN_INPUT_TOO_LONG = 35,    /* the input is longer than 4,096 bytes */
+    MISHTODRAN_NOTHING_KEPT = 36,      /* there is no chain record in the input that could be kept */
     /* A segment */
     MISHTODRAN_AGAINST_ITSELF = 25,    /* a segment of a chain against itself */
     MISHTODRAN_NO_SUCH_SEGMENT = 26,   /* there is no active segment of that number */
@@ -225,11 +239,15 @@ enum {
     MISHTODRAN_RECORD_BYTES = 8,
     MISHTODRAN_TO_LARGEST_BYTES = 4,
     MISHTODRAN_TO_GAP_BYTES = 4,
+    MISHTODRAN_SALVAGE_BYTES = 8,
     MISHTODRAN_REPORT_BYTES = 4
 };
 
 /* Bytes of a text buffer that every report fits into. */
 enum { MISHTODRAN_LONGEST_REPORT = 1123 };
+
+/* Bytes of a buffer that the list of every salvage fits into: 16 stretches. */
+enum { MISHTODRAN_LONGEST_LIST = 128 };
 
 /* Bytes of stack that every call fits into. */
 enum { MISHTODRAN_STACK_BYTES = 16384 };
@@ -370,6 +388,23 @@ uint32_t mishtodran_to_largest(const uint8_t *table, size_t table_len,
 uint32_t mishtodran_to_gap(const uint8_t *table, size_t table_len,
                            uint8_t *buffer, size_t buffer_len,
                            uint8_t *answer, size_t answer_len);
+
+/* What can be kept of a damaged table, as a new table, and a list of what was skipped: 8 bytes of answer, the length of
+ * the table and that of the list, four for each. Both stand at the start of their buffers; bytes past them stay. The
+ * input is walked from its first byte. Where a whole chain record stands that can be accepted beside those kept so far,
+ * it is kept, and the walk goes on after it; else it goes on by one byte. Accepted is a record that breaks no rule of
+ * its own, has an id that no kept one bears, makes no more than 64 tasks with those kept, and has the form of the first
+ * one kept. The walk stops at the 16th chain, or at the input's end. The table is the kept records, in order, and an
+ * end record. The list has every longest stretch that was skipped, in order, with offset and length in the input
+ * (MISHTODRAN_STRETCH_..). What follows a 16th chain is in no stretch; with fewer, all that follows the last one is the
+ * last stretch, the end record included. So an accepted table comes back byte for byte. MISHTODRAN_MOST_TABLE_BYTES and
+ * MISHTODRAN_LONGEST_LIST of buffer hold every result.
+ * Refuses with 27, then 35, then 36, an empty input too, then 24 where the table or the list is longer than its buffer;
+ * both buffers then stay as they were. */
+uint32_t mishtodran_salvage(const uint8_t *input, size_t input_len,
+                            uint8_t *table, size_t table_len,
+                            uint8_t *list, size_t list_len,
+                            uint8_t *answer, size_t answer_len);
 
 /* The report of a table, as text: 4 bytes of answer, the text's length in bytes. The text is what `mishtodran report`
  * prints, a header and a line for each chain; it stands at the start of the text buffer, and no byte of 0 ends it. A

@@ -46,7 +46,7 @@ help_and_links() {
     expect 0 "a report" "*built the report program in*" "*rt check report" "$room/links/two" report examples/sample.table
 }
 
-# says SCRIPT: what the programs of report, check, misses, merge and convert do.
+# says SCRIPT: what the programs of report, check, misses, merge, convert and salvage do.
 says() {
     echo "$1" >"$room/says"
 }
@@ -127,13 +127,13 @@ misses() {
     says 'echo a report'
 }
 
-# holds TEXT: what the file `made/result` holds after a merge or a conversion. Nothing is left beside it.
+# holds TEXT: what the file `made/result` holds after a merge, a conversion or a salvage. Nothing is left beside it.
 holds() {
     is "RESULT" "$(cat "$copy/made/result")" "$1"
     is "what is beside RESULT" "$(ls -A "$copy/made")" result
 }
 
-# stays STATUS ERR WORDS..: a merge or a conversion that ends so, and writes nothing.
+# stays STATUS ERR WORDS..: one of these that ends so, and writes nothing.
 stays() {
     local expected=$1 err=$2
     shift 2
@@ -248,13 +248,33 @@ converts() {
     says 'cat "$1"'
     expect 0 "" "" "" ./mishtodran convert examples/case_study.table made/result
     cmp "$copy/made/result" "$copy/examples/case_study.table" || found "the result is not what the program gives"
+    rm -r "$copy/made"
+    says 'echo a report'
+}
+
+# The program is given the file. That nothing is left of it is known by a line, and what it says beside a result is passed on.
+salvages() {
+    local salvage=(./mishtodran salvage examples/sample.table made/result) refused
+    results salvage "${salvage[@]}"
+    for refused in 'refused 35: too long' 'refused 36: nothing is kept'; do
+        says "echo '$refused' >&2"
+        stays 1 "$refused" "${salvage[@]}"
+    done
+    for refused in 'refused 24: no room' 'not refused 36: no' 'refused 35: a file: it cannot be read' 'kept chain 36'; do
+        says "echo '$refused' >&2"
+        stays 2 "$refused"$'\n'"mishtodran: there is no result" "${salvage[@]}"
+    done
+    says 'echo kept a chain >&2 && echo skipped the rest >&2 && echo "$@"'
+    expect 0 "" $'kept a chain\nskipped the rest' "" "${salvage[@]}"
+    holds examples/sample.table
+    rm -r "$copy/made"
     says 'echo a report'
 }
 
 # What the library is built from, and when it is built again.
 builds() {
     local built="rt check *saving*"$'\n'"rt staticlib editor"
-    expect 0 "library: *" "mishtodran: building the library: 15 crates*crate 14 of 15 is proved: *built the library in*" "$built" ./mishtodran lib
+    expect 0 "library: *" "mishtodran: building the library: 16 crates*crate 15 of 16 is proved: *built the library in*" "$built" ./mishtodran lib
     expect 0 "library: *" "" "" ./mishtodran lib
     echo "/* more */" >>"$copy/include/mishtodran.h"
     expect 0 "library: *" "" "" ./mishtodran lib
@@ -463,7 +483,7 @@ glpk() {
 
 # The gate over checks that are stood in for: it locks while it proves, ends with a check's status, and its last line is rt's.
 gate() {
-    local checks=("$copy"/{tests/{wrong_uses,commands,table_commands,merge_command,convert_command,text_commands,run_c}.sh,compare/{sanitized,run,run_report}.sh})
+    local checks=("$copy"/{tests/{wrong_uses,commands,table_commands,merge_command,convert_command,salvage_command,text_commands,run_c}.sh,compare/{sanitized,run,run_report}.sh})
     local samples=(crates/{sample,report,save_story,merge_story,table_misses}/stdin crates/{table_merge/data/ancestor,table_convert/data/sample}.table) one
     for one in "${samples[@]}"; do
         mkdir -p "$copy/${one%/*}"
@@ -515,6 +535,7 @@ checks
 misses
 merges
 converts
+salvages
 builds
 builds_that_go_wrong
 two_at_once

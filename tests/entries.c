@@ -41,13 +41,15 @@ enum {
     MISSES_PLAIN,
     MISSES_AT_MOST,
     TO_LARGEST,
-    TO_GAP
+    TO_GAP,
+    SALVAGE
 };
 enum { TABLE, OLD, NEW, TEXT, ANSWER, SLICES };
 /* What a merge, and the question for its conflicts, lend in these places, a write and a conversion in the last; what
-   else a write lends, and what a read. */
+   else a write lends, and what a read; what a salvage lends beside its table. */
 enum { ANCESTOR = TABLE, FIRST = OLD, SECOND = NEW, BUFFER = TEXT };
 enum { ROWS_TO_WRITE = TABLE, ROWS_TO_FILL = TEXT };
+enum { INPUT = OLD, LIST = TEXT };
 
 /* Bytes to lend, and what must stand in the first of them afterwards; the others stay. */
 struct slice {
@@ -185,11 +187,13 @@ static bool writes_buffer(unsigned entry)
     return entry == MERGE || entry == WRITE || entry == TO_LARGEST || entry == TO_GAP;
 }
 
-/* An entry writes the answer; save, merge, write and a conversion their buffer, report its text, and read its rows. */
+/* An entry writes the answer; save, merge, write and a conversion their buffer, report its text, read its rows, and
+   salvage its table and its list. */
 static bool is_written(unsigned entry, unsigned which)
 {
     return which == ANSWER || (entry == SAVE && which == TABLE) || (entry == REPORT && which == TEXT) ||
-           (entry == READ && which == ROWS_TO_FILL) || (writes_buffer(entry) && which == BUFFER);
+           (entry == READ && which == ROWS_TO_FILL) || (writes_buffer(entry) && which == BUFFER) ||
+           (entry == SALVAGE && (which == TABLE || which == LIST));
 }
 
 /* Where a slice of this length stands: against the page after it, or against the page before it. */
@@ -330,6 +334,14 @@ static uint32_t call_conversion(const struct entry_case *given, bool at_end)
     return mishtodran_to_largest(table, table_len, buffer, buffer_len, answer, answer_len);
 }
 
+static uint32_t call_salvage(const struct entry_case *given, bool at_end)
+{
+    const struct slice *slice = given->slice;
+    return mishtodran_salvage(lent(given, INPUT, at_end), slice[INPUT].length, lent(given, TABLE, at_end),
+                              slice[TABLE].length, lent(given, LIST, at_end), slice[LIST].length,
+                              lent(given, ANSWER, at_end), slice[ANSWER].length);
+}
+
 static uint32_t call(const struct entry_case *given, bool at_end)
 {
     called_from = __builtin_frame_address(0);
@@ -363,6 +375,8 @@ static uint32_t call(const struct entry_case *given, bool at_end)
     case TO_LARGEST:
     case TO_GAP:
         return call_conversion(given, at_end);
+    case SALVAGE:
+        return call_salvage(given, at_end);
     default:
         return mishtodran_save(table, table_len, number[0], lent(given, OLD, at_end), slice[OLD].length,
                                lent(given, NEW, at_end), slice[NEW].length, answer, answer_len);
@@ -393,9 +407,9 @@ static bool run(const struct entry_case *given, bool at_end)
     if (!is_as_expected(given, TABLE, at_end))
         return fails(given, "the table, or the rows to write, are not as expected");
     if (!is_as_expected(given, TEXT, at_end))
-        return fails(given, "the text, the buffer for a result, or the rows to fill, are not as expected");
+        return fails(given, "the text, the buffer for a result, the rows to fill, or the list, are not as expected");
     if (!is_as_expected(given, OLD, at_end) || !is_as_expected(given, NEW, at_end))
-        return fails(given, "a record, or a copy, has changed");
+        return fails(given, "a record, a copy, or the input, has changed");
     return true;
 }
 

@@ -1,5 +1,6 @@
 /* Holds the constants of mishtodran.h against the library: the version, the fields of the records in both forms, the
-   limits, a table's numbers, those of a merge and of a conversion, the layout of a row and the lengths of the answers.
+   limits, a table's numbers, those of a merge, of a conversion and of a salvage with its list, the layout of a row and
+   the lengths of the answers.
    Tables and rows are made by the constants alone, and what the library says of each shows whether they are right.
    Usage: header */
 #include "mishtodran.h"
@@ -31,8 +32,10 @@ FOLLOWS(CG_TASKS, CG_DISTANCES);
 FOLLOWS(TASK_MARK, TASK_PRIORITY);
 FOLLOWS(TASK_PRIORITY, TASK_COST);
 FOLLOWS(END_MARK, END_CHAINS);
+FOLLOWS(STRETCH_OFFSET, STRETCH_LENGTH);
 _Static_assert(MISHTODRAN_TASK_RECORD_BYTES == MISHTODRAN_TASK_COST_AT + MISHTODRAN_TASK_COST_BYTES, "task record");
 _Static_assert(MISHTODRAN_END_RECORD_BYTES == MISHTODRAN_END_CHAINS_AT + MISHTODRAN_END_CHAINS_BYTES, "end record");
+_Static_assert(MISHTODRAN_STRETCH_BYTES == MISHTODRAN_STRETCH_LENGTH_AT + MISHTODRAN_STRETCH_LENGTH_BYTES, "stretch");
 
 /* An id and a priority may be all that their bytes hold. */
 _Static_assert(MISHTODRAN_MOST_ID == (1 << 8 * MISHTODRAN_CHAIN_ID_BYTES) - 1, "id");
@@ -402,6 +405,70 @@ static bool conversions_hold(void)
                            MISHTODRAN_NO_FORM);
 }
 
+/* What a salvage writes. */
+static uint8_t salvaged[LONGEST], skipped[MISHTODRAN_LONGEST_LIST];
+
+/* Whether it is refused with this number, with so many bytes for the table and for the list. */
+static bool is_not_salvaged(const char *what, const uint8_t *input, size_t length, size_t room, size_t list_room,
+                            uint32_t refusal)
+{
+    uint8_t answer[MISHTODRAN_SALVAGE_BYTES];
+    return is_same(what, mishtodran_salvage(input, length, salvaged, room, skipped, list_room, answer, sizeof answer),
+                   refusal);
+}
+
+/* Whether it comes to a table and a list of these lengths, with just as many bytes for each. */
+static bool is_salvaged(const char *what, const uint8_t *input, size_t length, size_t table, size_t list)
+{
+    uint8_t answer[MISHTODRAN_SALVAGE_BYTES];
+    return is_same(what, mishtodran_salvage(input, length, salvaged, table, skipped, list, answer, sizeof answer), 0) &&
+           is_same(what, get(answer), table) && is_same(what, get(answer + 4), list);
+}
+
+/* Whether this stretch of the list, from 0, is so long and begins there. */
+static bool is_skipped(const char *what, unsigned number, size_t offset, size_t length)
+{
+    const uint8_t *stretch = skipped + number * MISHTODRAN_STRETCH_BYTES;
+    return is_same(what, get(stretch + MISHTODRAN_STRETCH_OFFSET_AT), offset) &&
+           is_same(what, get(stretch + MISHTODRAN_STRETCH_LENGTH_AT), length);
+}
+
+/* Whether as many chains as there can be, with a byte before each, make the longest list. */
+static bool stretches_hold(void)
+{
+    uint8_t input[LONGEST], *at = input;
+    for (unsigned i = 1; i <= MISHTODRAN_MOST_CHAINS; i++) {
+        *at = 0;
+        at = put_chain(at + 1, i, largest_shape);
+    }
+    size_t length = (size_t)(at - input), table = length - MISHTODRAN_MOST_CHAINS + MISHTODRAN_END_RECORD_BYTES;
+    bool right = is_salvaged("the longest list", input, length, table, MISHTODRAN_LONGEST_LIST);
+    for (unsigned i = 0; i < MISHTODRAN_MOST_CHAINS; i++)
+        right &= is_skipped("the longest list", i, i * (MISHTODRAN_LEAST_CHAIN_RECORD_BYTES + 1), 1);
+    return right & is_not_salvaged("a list without room", input, length, table, MISHTODRAN_LONGEST_LIST - 1,
+                                   MISHTODRAN_BUFFER_TOO_SHORT);
+}
+
+/* Whether the longest table comes back, and of one of one chain its end record, and what follows it, is skipped. */
+static bool salvages_hold(void)
+{
+    static const struct shape full = OF_LARGEST(1, MISHTODRAN_MOST_DISTANCES, NARROW);
+    static uint8_t input[MISHTODRAN_MOST_INPUT_BYTES + 1];
+    size_t longest_input = MISHTODRAN_MOST_INPUT_BYTES, list = MISHTODRAN_STRETCH_BYTES;
+    bool right = is_not_salvaged("nothing", input, longest_input, 0, 0, MISHTODRAN_NOTHING_KEPT);
+    right &= is_not_salvaged("a byte of input too many", input, longest_input + 1, 0, 0, MISHTODRAN_INPUT_TOO_LONG);
+    size_t length = put_table(input, 1, gap_shape), kept = length - MISHTODRAN_END_RECORD_BYTES;
+    right &= is_salvaged("a table", input, length, length, list) &&
+             is_skipped("a table", 0, kept, MISHTODRAN_END_RECORD_BYTES);
+    right &= is_salvaged("the longest input", input, longest_input, length, list) &&
+             is_skipped("the longest input", 0, kept, longest_input - kept);
+    length = put_table(input, MISHTODRAN_MOST_CHAINS, full);
+    right &= is_salvaged("the longest table", input, length, LONGEST, 0) &&
+             is_same("the longest table", (unsigned long)memcmp(salvaged, input, length), 0);
+    right &= is_not_salvaged("a table without room", input, length, LONGEST - 1, 0, MISHTODRAN_BUFFER_TOO_SHORT);
+    return right & stretches_hold();
+}
+
 /* Whether the lists of a row are those of the other one, with 0 in the places past its counts. */
 static bool has_same_lists(const char *what, const struct mishtodran_row *found, const struct mishtodran_row *wanted)
 {
@@ -497,7 +564,7 @@ static bool rows_hold(void)
 static bool answers_hold(void)
 {
     uint8_t table[MISHTODRAN_MOST_TABLE_BYTES], old[MISHTODRAN_LEAST_CHAIN_RECORD_BYTES];
-    uint8_t answer[MISHTODRAN_LATENCY_BYTES], text[MISHTODRAN_LONGEST_REPORT];
+    uint8_t answer[MISHTODRAN_LATENCY_BYTES], text[MISHTODRAN_LONGEST_REPORT], list[MISHTODRAN_LONGEST_LIST];
     struct mishtodran_row row;
     size_t used = put_table(table, 1, largest_shape), length;
     put_chain(old, 1, largest_shape);
@@ -516,6 +583,7 @@ static bool answers_hold(void)
            FITS(RECORD, mishtodran_record(table, used, 1, answer, length)) &&
            FITS(TO_LARGEST, mishtodran_to_largest(table, used, text, sizeof text, answer, length)) &&
            FITS(TO_GAP, mishtodran_to_gap(table, used, text, sizeof text, answer, length)) &&
+           FITS(SALVAGE, mishtodran_salvage(table, used, text, sizeof text, list, sizeof list, answer, length)) &&
            FITS(REPORT, mishtodran_report(table, used, text, sizeof text, answer, length));
 }
 
@@ -523,8 +591,8 @@ int main(void)
 {
     bool version = is_same("version of the library", mishtodran_version(), MISHTODRAN_VERSION);
     bool fields = fields_hold(), limits = limits_hold(), merges = merges_hold(), rows = rows_hold();
-    bool conversions = conversions_hold(), answers = answers_hold();
-    if (!version || !fields || !limits || !merges || !rows || !conversions || !answers)
+    bool conversions = conversions_hold(), salvages = salvages_hold(), answers = answers_hold();
+    if (!version || !fields || !limits || !merges || !rows || !conversions || !salvages || !answers)
         return 1;
     puts("the header's version, fields, limits, numbers, rows and answers are the library's");
     return 0;

@@ -3,8 +3,9 @@
 For every two neighbours in the documents' orders of faults and refusals that can both hold at once, and for some further
 apart, a case with both: the first decides. Beside it stands the same case with the first mended, where the second decides;
 so both do hold. Swapping the two in an order changes the answer of the first case. Of a table number and offset are told, so
-that two faults with one number are told apart by their places; of a merge its number and detail (merged.py); of a write and of a
-conversion its number (written.py, converted.py). Tables, saves, merges and writes have their pairs in both forms.
+that two faults with one number are told apart by their places; of a merge its number and detail (merged.py); of a write, of a
+conversion and of a salvage its number (written.py, converted.py, salvaged.py). Tables, saves, merges, writes and salvages have
+their pairs in both forms.
 
 Not told apart, since number and place are the same: the two parts of 4, of 6 and of 9, no chain and a wrong end count, the
 parts of 23, and a largest distance that falls and one that is below the smallest.
@@ -22,10 +23,11 @@ Run as a program it lists the pairs.
 from collections import namedtuple
 
 from converted import convert
-from faults import GOOD_FIELDS, NEW, OLD, Fault
+from faults import GOOD_FIELDS, NEW, OLD, Fault, padded
 from merged import merge
 from reading_orders import READING, REFUSED, Pair, early, in_both_forms, list_and_flag_faults, other_than, refused, several
 from records import CG, CH, END, Form, bursty, chain, stored
+from salvaged import LONGEST_INPUT, STRETCH, Salvage, salvage
 from stored import ACCEPTED, COUNT_AT, NUMBERS, TIME, Verdict, save_verdict, verdict
 from written import form_number, write
 
@@ -607,12 +609,34 @@ CONVERT = in_both_forms(conversions) + [
     for a, made in ((2, b"EN"), (3, OLD.record(id=4)), (4, NEW.record() + b"EN\4\0"), (11, b"EN\4\0"))]
 
 
+# ---- Salvages ----
+
+def salvages(of):
+    """An input too long, nothing kept, and room for the table, the list or both too short."""
+    good, bad, room = padded(of.good, LONGEST_INPUT), padded(of.record(kind=2), LONGEST_INPUT), len(of.good) + END.size
+    pairs = [Pair(35, 36, "a byte too many, no good record", Salvage(bad + b"\0", room, STRETCH.size),
+                  Salvage(bad, room, STRETCH.size)),
+             Pair(35, 36, "a byte too many, no good record, no room", Salvage(bad + b"\0", 0, 0), Salvage(bad, 0, 0))]
+    for short in ((0, 0), (room - 1, STRETCH.size), (room, STRETCH.size - 1), (room - 1, STRETCH.size - 1)):
+        what = f"{short[0]} and {short[1]} bytes of room"
+        pairs += [Pair(35, 24, f"a byte too many, {what}", Salvage(good + b"\0", *short), Salvage(good, *short)),
+                  Pair(36, 24, f"no good record, {what}", Salvage(bad, *short), Salvage(good, *short)),
+                  Pair(36, 24, f"no byte, {what}", Salvage(b"", *short), Salvage(of.good + b"\0", *short))]
+    return pairs
+
+
+SALVAGE = in_both_forms(salvages)
+
+
 # ---- All calls, what is told of them held against the reader written from the documents ----
 
 def told_by_reader(call, told):
-    """What that reader tells: of a table, of a write, of a merge, of a conversion, of a save, or of a query's table."""
+    """What that reader tells: of a table, of a salvage, of a conversion, of a write, of a merge, of a save, or of a query's
+    table."""
     if isinstance(call, bytes):
         return verdict(call)
+    if isinstance(call, Salvage):
+        return salvage(*call).number
     if isinstance(call[1], Form):
         return convert(*call).number
     if isinstance(call[0], tuple):
@@ -652,5 +676,5 @@ def calls(pairs):
 
 if __name__ == "__main__":
     for orders, pairs in (("table", READING), ("latency", LATENCY), ("misses", MISSES), ("segment", SEGMENT), ("save", SAVE),
-                          ("merge", MERGE), ("write", WRITE), ("convert", CONVERT)):
+                          ("merge", MERGE), ("write", WRITE), ("convert", CONVERT), ("salvage", SALVAGE)):
         print(*(f"{orders}: {shown(pair.first)} before {shown(pair.second)}: {pair.what}" for pair in pairs), sep="\n")

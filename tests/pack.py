@@ -33,6 +33,7 @@ QUERY = {"tag", "table", "answer", "rc", "after"}
 REFUSED = {"table", "rc", "detail"}
 MERGE = {"ancestor", "first", "second", "room", "rc"}
 CONVERT = {"table", "form", "room", "rc"}
+SALVAGE = {"input", "rc"}
 KEYS = {  # of the cases of each file, one set of these; tests/cases/README.md has their meaning
     "latency": [QUERY | {"id"}],
     "misses": [QUERY | {"id", "k"}],
@@ -45,6 +46,7 @@ KEYS = {  # of the cases of each file, one set of these; tests/cases/README.md h
     "write": [{"rows", "room", "rc"}, {"rows", "room", "rc", "table"}],
     "sieve": [{"table", "id", "k", "latency", "misses", "sieve"}],
     "convert": [CONVERT, CONVERT | {"result"}],
+    "salvage": [SALVAGE, SALVAGE | {"table", "skipped"}],
 }
 
 # The sample table of document 01, the published case study, and a table in the form CG.

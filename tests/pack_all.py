@@ -1,7 +1,7 @@
 #!/usr/bin/env python3
 """Makes the packed cases of the gate anew, from tests/cases and the cases that stand in the pack modules.
 
-Usage: pack_all.py            writes the six files
+Usage: pack_all.py            writes the seven files
        pack_all.py --check    writes nothing and compares: 0 if all are the same, else 1 and the name of each that differs
 
 Status 2: a wrong use, or something cannot be read or written.
@@ -13,6 +13,7 @@ import pack_convert
 import pack_entries
 import pack_merge
 import pack_misses
+import pack_salvage
 import pack_save
 import pack_write
 from stored import TOP
@@ -27,6 +28,7 @@ PACKED = {
     "crates/merge_vectors/stdin": pack_merge.everything,
     "crates/write_vectors/stdin": pack_write.everything,
     "crates/convert_vectors/stdin": pack_convert.everything,
+    "crates/salvage_vectors/stdin": pack_salvage.everything,
     "tests/entries.bin": pack_entries.everything,
 }
 

@@ -3,22 +3,23 @@
 A report of tests/cases has a table and its text alone: its buffers are made here, as long as the text, longer, or too short.
 After the cases of the files come those that the documents tell or that follow from their words (pack.py), those that only an
 order decides (orders.py), and answer buffers too short for each of them. Every table of all these is checked too. Then come the
-shapes of pack_save.py, the merges of pack_merge.py, each with its conflicts one after the other, the writes of pack_write.py and
-the conversions of pack_convert.py. Last, every table and every result is read into rows, too few of them too, its records are
-found, and the rows that were read are written back.
+shapes of pack_save.py, the merges of pack_merge.py, each with its conflicts one after the other, the writes of pack_write.py,
+the conversions of pack_convert.py and the salvages of pack_salvage.py. Last, every table and every result is read into rows, too
+few of them too, its records are found, and the rows that were read are written back.
 
 A miss query of any of these is asked of the other two entries that answer with misses too (pack_misses.py).
 
 Packed, little-endian: for each case the entry (1 byte: 0 latency, 1 misses, 2 segment, 3 save, 4 report, 5 check, 6 merge,
-7 conflict, 8 read, 9 write, 10 record, 11 misses plain, 12 misses at most, 13 to largest, 14 to gap); its name (1 byte of length,
-text); three numbers (8 bytes each: id; id, k; a, b, n; used; none; none; none; above; how many rows are filled, which is not
-lent; none; id; id, k; id, k; none; none); what it returns (4 bytes); then the slices.
+7 conflict, 8 read, 9 write, 10 record, 11 misses plain, 12 misses at most, 13 to largest, 14 to gap, 15 salvage); its name (1 byte
+of length, text); three numbers (8 bytes each: id; id, k; a, b, n; used; none; none; none; above; how many rows are filled, which
+is not lent; none; id; id, k; id, k; none; none; none); what it returns (4 bytes); then the slices.
 Before the call, the table or buffer, the old record, the new record, the text and the answer: 2 bytes of length and the bytes;
 or 65,535 and 2 bytes of length, for as many bytes of junk (`lent`); or 65,534 alone, where they are those of the case before.
 After it the table or buffer, the text and the answer: 2 bytes, how many of the first bytes to compare with those that follow;
 the others stay. The ancestor of a merge stands in the table's place, its copies in those of the records, and its buffer in that
 of the text. So does the buffer of a write, whose rows are in the table's place, and that of a conversion; the rows of a read are
-in that of the text. Rows are packed as they stand in memory.
+in that of the text. The input of a salvage stands in the old record's place, the buffer for its table in the table's, and that for
+its list in the text's. Rows are packed as they stand in memory.
 Of all that, bytes of 0 that stand in a row are packed as a 0 and a byte that says how many there are, up to 255.
 """
 import re
@@ -30,17 +31,20 @@ import pack
 import pack_convert
 import pack_merge
 import pack_misses
+import pack_salvage
 import pack_save
 import pack_write
 from converted import convert
 from merged import conflicts, first_fault, merge, next_conflict
 from records import CG, fixed_part
+from salvaged import salvage
 from stored import NUMBERS, records
 from written import ROW, in_memory, rows_of, write
 
 JUNK, AS_BEFORE = 65535, 65534
 ANSWER_BYTES = {"latency": 16, "misses": 4, "segment": 8, "save": 4, "report": 4, "check": 8, "merge": 4, "conflict": 4,
-                "read": 4, "write": 4, "record": 8, "misses_plain": 4, "misses_at_most": 4, "to_largest": 4, "to_gap": 4}
+                "read": 4, "write": 4, "record": 8, "misses_plain": 4, "misses_at_most": 4, "to_largest": 4, "to_gap": 4,
+                "salvage": 8}
 ENTRIES = [*ANSWER_BYTES]
 
 # A call of an entry, what it returns, and the slices lent to it, in the order in which they are packed: `before` all of them,
@@ -271,6 +275,21 @@ def conversions():
         yield call(entry, f"{entry}, 27 before {name}", (), 27, table, lent(turn % 4), text=lent(min(room, 8)))
 
 
+# ---- Salvages ----
+
+def salvages():
+    """Each salvage, and 27 for it; that comes before all else, so short buffers will do for it."""
+    for turn, (name, (s, room, list_room)) in enumerate(pack_salvage.calls()):
+        found, answer = salvage(s, room, list_room), lent(ANSWER_BYTES["salvage"] + turn % 3)
+        buffer, listed, accepted = lent(room), lent(list_room), found.number == 0
+        yield call("salvage", f"salvage, {name}", (), found.number, buffer, answer, old=s, text=listed,
+                   after=written(struct.pack("<II", len(found.table), len(found.list)), answer) if accepted else None,
+                   table_after=written(found.table, buffer) if accepted else None,
+                   text_after=written(found.list, listed) if accepted else None)
+        yield call("salvage", f"salvage, 27 before {name}", (), 27, lent(min(room, 8)), lent(turn % 8), old=s,
+                   text=lent(min(list_room, 8)))
+
+
 # ---- Rows ----
 
 def of_write(name, rows, room, spare):
@@ -325,7 +344,7 @@ def finds(turn, name, table, number):
 
 
 def results():
-    """The tables that accepted saves, merges, writes and conversions come to, each with the name of its case."""
+    """The tables that accepted saves, merges, writes, conversions and salvages come to, each with the name of its case."""
     for turn, case in enumerate(pack.cases("save"), 1):
         if case["rc"] == 0:
             used, = struct.unpack_from("<I", bytes_of(case, "after"))
@@ -336,6 +355,8 @@ def results():
         yield f"result of {name}", write(rows, room).table
     for name, call_of in pack_convert.calls():
         yield f"result of {name}", convert(*call_of).result
+    for name, call_of in pack_salvage.calls():
+        yield f"result of {name}", salvage(*call_of).table
 
 
 def known_tables():
@@ -374,7 +395,7 @@ def of_files():
 def calls():
     return [*of_files(), *documented(), *two_refusals(), *short_answers(), *of_misses("misses_plain", pack_misses.plain()),
             *of_misses("misses_at_most", pack_misses.at_most()), *checks(), *saves(), *merges(), *writes(),
-            *conversions(), *rows_and_records()]
+            *conversions(), *salvages(), *rows_and_records()]
 
 
 def shortened(data):

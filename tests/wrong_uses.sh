@@ -94,6 +94,18 @@ for back in "" --back; do
     no_result "${convert[@]}" t
 done
 
+# What is left of a table.
+usage="mishtodran: usage: ./mishtodran salvage FILE RESULT"
+wrong 2 "$usage" ./mishtodran salvage
+wrong 2 "$usage" ./mishtodran salvage t
+wrong 2 "$usage" ./mishtodran salvage t new new
+for file in none loop "" -x; do
+    wrong 2 "mishtodran: there is no file $file" ./mishtodran salvage "$file" new
+done
+wrong 2 "mishtodran: examples is a folder" ./mishtodran salvage examples new
+wrong 2 "mishtodran: unread cannot be read" "${user[@]}" ./mishtodran salvage unread new
+no_result ./mishtodran salvage t
+
 # The misses of a table, in so many activations.
 usage="mishtodran: usage: ./mishtodran misses FILE [K] [--all]"
 wrong 2 "$usage" ./mishtodran misses
@@ -173,6 +185,7 @@ wrong 2 "run_c: there is no mishtodran.h in examples" tests/run_c.sh lib.a examp
 wrong 2 "table_commands: usage: tests/table_commands.sh" tests/table_commands.sh all
 wrong 2 "merge_command: usage: tests/merge_command.sh" tests/merge_command.sh all
 wrong 2 "convert_command: usage: tests/convert_command.sh" tests/convert_command.sh all
+wrong 2 "salvage_command: usage: tests/salvage_command.sh" tests/salvage_command.sh all
 wrong 2 "text_commands: usage: tests/text_commands.sh" tests/text_commands.sh all
 wrong 2 "gate: usage: .ci/run" .ci/run all
 

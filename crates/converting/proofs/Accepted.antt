@@ -2,18 +2,17 @@
 use Prim.Native.Nat.{ℕ, _+_, _*_, _<_, _≤_}
 use native.Mathlib.Omega.{arith}
 use mathlib.Core.Path.{_≡_, refl, ap, sym, subst, _∙_}
-use mathlib.Core.List.{List, [], _∷_, map, flatten}
+use mathlib.Core.List.{List, [], _∷_, map}
 use mathlib.Core.Bool.{true, _||_}
 use mathlib.Core.Logic.{_⊎_, ⊎-elim}
-use lib.ListN.{length, getD, length-append, length-map}
+use lib.ListN.{length, getD, length-map}
 use Rattle.search.specs.Choice.{_when_else_}
 use lib.Dec.{eqb, ltb}
 use Rattle.search.specs.Lists.{sumOf, All}
 use Rattle.search.proofs.Choice.{when-cases}
-use Rattle.search.proofs.Lists.{all-of}
 use Rattle.table.specs.Limits.{maxChains, maxAllTasks}
 use Rattle.table.specs.Bytes.{word}
-use Rattle.table.specs.Record.{gapForm, largestForm, blank, idAt, tasksAt, firstTask, rowAt, endRecord}
+use Rattle.table.specs.Record.{gapForm, largestForm, blank, tasksAt, firstTask, rowAt}
 use Rattle.table.specs.Find.{rows}
 use Rattle.table.specs.Fault.{markOf}
 use Rattle.table.specs.Place.{tasksStart}
@@ -21,26 +20,22 @@ use Rattle.table.specs.Read.{readTable, tableOf, limitOf}
 use Rattle.table.specs.code.Good.{GoodRow}
 use Rattle.table.specs.declared.Row.{Row}
 use Rattle.table.specs.declared.Reading.{Reading}
-use Rattle.table.specs.declared.Verdict.{Verdict}
-use Rattle.table.specs.declared.Verdict.the-variants.{Accepted, Refused}
+use Rattle.table.specs.declared.Verdict.the-variants.{Accepted}
 use Rattle.table.proofs.Firsts.{not-accepted}
-use Rattle.table.proofs.Words.{end-length, end-mark-word, end-count}
-use Rattle.table.proofs.Widths.{limit-largest, limit-least}
 use Rattle.table.proofs.Stands.{tasks-there}
-use Rattle.slices.specs.Stored.{formIn}
-use Rattle.slices.proofs.Parts.{Whole, Parts, all-at, map-at}
-use Rattle.slices.proofs.Sound.{Sound, NoTable, tasksIn, tasks-first, no-table}
+use Rattle.slices.proofs.Parts.{all-at, map-at}
+use Rattle.slices.proofs.Sound.{Sound, tasksIn}
+use Rattle.slices.proofs.Together.{Together}
+use Rattle.slices.proofs.Together as slices
 use Rattle.writing.specs.Rows.{isForm, rowBytes, tableBytes, cleared, Typed}
 use Rattle.writing.specs.Write.{verdictOn}
 use Rattle.writing.proofs.Fields.{Stored}
-use Rattle.writing.proofs.Pieces.{row-length}
-use Rattle.writing.proofs.Forms.{form-or, gap-record, any-record}
 use Rattle.writing.proofs.Judging.{Counts}
 use Rattle.writing.proofs.Promises.{row-stored, row-whole, row-back, read-back}
 use Rattle.writing.proofs.Typed.{cleared-good}
 
 -- rows that a table can have
-pub record Together (rs : List Row) : Type 0 where
+pub record RowsTogether (rs : List Row) : Type 0 where
   pub good : All GoodRow rs
   pub typed : All Typed rs
   pub some : 1 ≤ length rs
@@ -77,88 +72,44 @@ module _ {r : Row} (good : GoodRow r) (typed : Typed r) where
         ap (λ n. markOf (word 2 (rowBytes r) (n + 8 * i))) first ∙ ap markOf (stored .task-mark i (omega (arith, l, tasks-are)));
   }
 
-  -- its length
-  record-long : (length (rowBytes r) ≤ 77 + 8 * r .tasks) × ((r .form ≡ largestForm → ⊥) → length (rowBytes r) ≤ 48 + 8 * r .tasks)
-  record-long = (
-    omega (arith, row-length r, any-record (r .form) (r .flag) (r .listed) (r .tasks) (counts .listed)),
-    λ h. omega (arith, row-length r, gap-record (r .form) (r .flag) (r .listed) (r .tasks) (counts .listed) h),
-  )
-
 all-sound : (rs : List Row) → All GoodRow rs → All Typed rs → All Sound (map rowBytes rs)
 all-sound [] g t = tt
 all-sound (r ∷ rs) g t = (row-sound (g .0) (t .0), all-sound rs (g .1) (t .1))
-
-all-whole : (rs : List Row) → All GoodRow rs → All Typed rs → All Whole (map rowBytes rs)
-all-whole [] g t = tt
-all-whole (r ∷ rs) g t = (row-sound (g .0) (t .0) .whole, all-whole rs (g .1) (t .1))
 
 all-tasks : (rs : List Row) → All GoodRow rs → All Typed rs → tasksIn (map rowBytes rs) ≡ sumOf (λ r. r .tasks) rs
 unfolding sumOf
 all-tasks [] g t = refl
 all-tasks (r ∷ rs) g t = rw (tasks-are (g .0) (t .0), all-tasks rs (g .1) (t .1))
 
-all-long : (rs : List Row) → All GoodRow rs → All Typed rs → length (flatten (map rowBytes rs)) ≤ 77 * length rs + 8 * sumOf (λ r. r .tasks) rs
-unfolding sumOf flatten
-all-long [] g t = omega arith
-all-long (r ∷ rs) g t = omega (arith, length-append (rowBytes r) (flatten (map rowBytes rs)), record-long (g .0) (t .0) .0, all-long rs (g .1) (t .1))
-
-all-short : (rs : List Row) → All GoodRow rs → All Typed rs → All (λ r. r .form ≡ largestForm → ⊥) rs → length (flatten (map rowBytes rs)) ≤ 48 * length rs + 8 * sumOf (λ r. r .tasks) rs
-unfolding sumOf flatten
-all-short [] g t h = omega arith
-all-short (r ∷ rs) g t h = omega (arith, length-append (rowBytes r) (flatten (map rowBytes rs)), record-long (g .0) (t .0) .1 (h .0), all-short rs (g .1) (t .1) (h .1))
-
 -- so are they together
-module _ {rs : List Row} (t : Together rs) where
+module _ {rs : List Row} (t : RowsTogether rs) where
   abbrev records : List (List ℕ)
   records = map rowBytes rs
 
   abbrev row : ℕ → Row
   row i = getD rs i blank
 
-  parts : Parts (tableBytes rs) records (endRecord (length rs))
-  unfolding tableBytes
-  parts = record { bytes = refl; whole = all-whole rs (t .good) (t .typed); last = end-length (length rs) }
+  n : length records ≡ length rs
+  n = length-map rs rowBytes
 
-  here : (i : ℕ) → i < length rs → Stored (getD records i []) 0 (row i)
-  here i h = subst (λ (l : List ℕ). Stored l 0 (row i)) (sym (map-at rowBytes rs i blank [] h)) (stored (all-at GoodRow rs i blank (t .good) h) (all-at Typed rs i blank (t .typed) h))
+  here : (i : ℕ) → i < length records → Stored (getD records i []) 0 (row i)
+  here i l =
+      let h : i < length rs = omega (arith, n) in
+      subst (λ (b : List ℕ). Stored b 0 (row i)) (sym (map-at rowBytes rs i blank [] h)) (stored (all-at GoodRow rs i blank (t .good) h) (all-at Typed rs i blank (t .typed) h))
 
-  form-here : (i : ℕ) → i < length rs → formIn records i ≡ row 0 .form
-  form-here i h = here i h .form ∙ t .forms i h
-
-  -- within the limit of their form
-  within : limitOf (formIn records 0) < length (flatten records) + 4 → ⊥
-  within l =
-      let first = form-here 0 (omega (arith, t .some)) in
-      ⊎-elim
-      (λ e. omega (arith, l, limit-largest (formIn records 0) (first ∙ e), all-long rs (t .good) (t .typed), t .few, t .tasks))
-      (λ h. omega (arith, l, limit-least (formIn records 0), all-short rs (t .good) (t .typed) (all-of (λ r. r .form ≡ largestForm → ⊥) blank rs (λ i k e. h (sym (t .forms i k) ∙ e))), t .few, t .tasks))
-      (form-or (row 0 .form))
-
-  none-wrong : {n : ℕ} → NoTable records n → ⊥
-  none-wrong (NoTable.bytes f h) = within h
-  none-wrong (NoTable.forms f i m) = let one : i < length rs = omega (arith, m .one, length-map rs rowBytes) in m .other (form-here i one ∙ sym (form-here 0 (omega (arith, t .some))))
-  none-wrong (NoTable.tasks f i o h) = omega (arith, h, tasks-first i records, all-tasks rs (t .good) (t .typed), t .tasks)
-  none-wrong (NoTable.chains f o h) = omega (arith, h, length-map rs rowBytes, t .few)
-  none-wrong (NoTable.none f h) = omega (arith, h, length-map rs rowBytes, t .some)
+  records-together : Together records
+  records-together = record {
+    sound = all-sound rs (t .good) (t .typed);
+    some = omega (arith, n, t .some);
+    few = omega (arith, n, t .few);
+    forms = λ i h. here i h .form ∙ t .forms i (omega (arith, n)) ∙ sym (here 0 (omega (arith, n, t .some)) .form);
+    ids = λ i j h l e. t .ids i j (omega (arith, n)) (omega (arith, n)) (sym (here i h .id) ∙ e ∙ here j l .id);
+    tasks = omega (arith, all-tasks rs (t .good) (t .typed), t .tasks);
+  }
 
   pub together-accepted : readTable (tableBytes rs) .verdict ≡ Accepted
-  unfolding markOf _when_else_
-  together-accepted = by (readTable (tableBytes rs) .verdict) refl
-    where
-      n : length records ≡ length rs
-      n = length-map rs rowBytes
-
-      apart : (i j : ℕ) → i < length records → j < length records → idAt (getD records i []) 0 ≡ idAt (getD records j []) 0 → i ≡ j
-      apart i j a b e =
-          let l : i < length rs = omega (arith, n) in
-          let m : j < length rs = omega (arith, n) in
-          t .ids i j l m (sym (here i l .id) ∙ e ∙ here j m .id)
-
-      by : (v : Verdict) → readTable (tableBytes rs) .verdict ≡ v → v ≡ Accepted
-      by Accepted e = refl
-      by (Refused m place) e =
-          absurd (none-wrong (no-table records (endRecord (length rs)) (tableBytes rs) parts (all-sound rs (t .good) (t .typed)) apart
-          (ap markOf (end-mark-word (length rs))) (end-count (length rs) (omega (arith, t .few)) ∙ sym n) e))
+  unfolding tableBytes
+  together-accepted = rw (← n) (slices.together-accepted records-together)
 
   -- the reader's length check changes nothing, and they read back
   pub together-written : verdictOn rs ≡ Accepted

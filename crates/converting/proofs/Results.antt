@@ -41,7 +41,7 @@ use Rattle.converting.specs.declared.To.{To}
 use Rattle.converting.specs.declared.To.the-variants.{Largest, Gap}
 use Rattle.converting.proofs.Typed.{converted-typed}
 use Rattle.converting.proofs.Goods.{largest-good, gap-good}
-use Rattle.converting.proofs.Accepted.{Together, together-accepted, together-written, together-back}
+use Rattle.converting.proofs.Accepted.{RowsTogether, together-accepted, together-written, together-back}
 use Rattle.converting.proofs.Puts.{records-sum}
 
 -- the bytes of an accepted table
@@ -129,7 +129,7 @@ module _ (to : To) {s : List ℕ} (h : Given s) (other : formAt s 0 ≡ formOf t
   row-in : (i : ℕ) → i < tableOf s .count → getD rs i blank ≡ converted to (rowOf (tableOf s) i)
   row-in i l = map-at (converted to) (rows (tableOf s)) i blank blank (omega (arith, long h)) ∙ ap (converted to) (row-at h i l)
 
-  pub together : Together rs
+  pub together : RowsTogether rs
   together = record {
     good = all-after GoodRow (converted to) (rows (tableOf s)) (each h (λ r. GoodRow (converted to r)) (λ i l. row-good to (from i l)));
     typed = all-after Typed (converted to) (rows (tableOf s)) (each h (λ r. Typed (converted to r)) (λ i l. converted-typed to (from i l .good) (from i l .typed)));

@@ -52,6 +52,8 @@ use Rattle.slices.specs.Locate as locate
 use Rattle.slices.specs.declared.Located.{Located}
 use Rattle.slices.specs.declared.Located.the-variants.{Refused as NoRecord}
 use Rattle.writing.specs.Rows.{tableBytes, Typed}
+use Rattle.salvaging.specs.Salvage as salvage
+use Rattle.salvaging.specs.declared.Salvaged.{Salvaged}
 use Rattle.writing.specs.Write as write
 use Rattle.writing.specs.Fill as fill
 use Rattle.writing.specs.declared.Written.{Written}
@@ -65,7 +67,7 @@ use Rattle.converting.proofs.Results.{Given, unrefused, written}
 use Rattle.writing.proofs.Promises.{judged}
 use Rattle.writing.proofs.Refusals.{rows-refusal}
 use Rattle.editor.specs.Entry.{latencyFigures, verdictFigures}
-use Rattle.demands.specs.Entries.{CheckRefusal, LatencyRefusal, MissesRefusal, SegmentRefusal, SaveRefusal, MergeRefusal, WriteRefusal, ReadRefusal, RecordRefusal, ConvertRefusal, OneAnswer}
+use Rattle.demands.specs.Entries.{CheckRefusal, LatencyRefusal, MissesRefusal, SegmentRefusal, SaveRefusal, MergeRefusal, WriteRefusal, ReadRefusal, RecordRefusal, ConvertRefusal, SalvageRefusal, OneAnswer}
 use Rattle.demands.proofs.Numbers.{table-number, save-number}
 
 module _ (Refusal : ℕ → Type 0) (n : ℕ) where
@@ -259,6 +261,18 @@ convert-one to s bytes room = by (readTable s .verdict) refl
         given : readTable s .verdict ≡ Accepted → Given s
         given e = record { bytes = bytes; accepted = e }
     by (Faulty f place) e = faulty ConvertRefusal 1 (λ f h. inl h) s f place e
+
+-- a damaged table salvaged
+pub salvage-one : (tableRoom listRoom : ℕ) (s : List ℕ)
+    → OneAnswer SalvageRefusal 2 (salvage.numberOf (salvage.salvagedOf tableRoom listRoom s)) (salvage.valuesOf (salvage.salvagedOf tableRoom listRoom s))
+unfolding salvage.salvagedOf
+salvage-one tableRoom listRoom s =
+    when-cases One _ (λ e. refuses SalvageRefusal 2 35 (lit≤ tt) (inl (lit≤ tt, lit≤ tt)))
+    (λ e. when-cases One _ (λ f. refuses SalvageRefusal 2 36 (lit≤ tt) (inl (lit≤ tt, lit≤ tt)))
+    (λ f. when-cases One _ (λ g. refuses SalvageRefusal 2 24 (lit≤ tt) (inr refl)) (λ g. answers SalvageRefusal 2 _ refl)))
+  where
+    One : Salvaged → Type 0
+    One a = OneAnswer SalvageRefusal 2 (salvage.numberOf a) (salvage.valuesOf a)
 
 -- a table read into rows
 pub fill-one : (room : ℕ) (s : List ℕ) → OneAnswer ReadRefusal 1 (fill.numberOf (fill.filledOf room s)) (fill.valuesOf (fill.filledOf room s))

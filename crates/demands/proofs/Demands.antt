@@ -7,6 +7,7 @@ use Rattle.demands.proofs.Entries.{every-entry}
 use Rattle.demands.proofs.Saving.{seen-records}
 use Rattle.demands.proofs.Merges.{merge-of-copies}
 use Rattle.demands.proofs.Converts.{conversions}
+use Rattle.demands.proofs.Salvages.{salvaging}
 use Rattle.demands.proofs.Rows.{rows-and-tables}
 use Rattle.demands.proofs.Figures.{counted, stretched, latency-means, latency-only}
 use Rattle.demands.proofs.Misses.{misses-mean, answers-right}
@@ -18,7 +19,7 @@ use Rattle.demands.proofs.Calls.{same-latency-call, same-misses-call}
 use Rattle.demands.proofs.Witness.{met}
 
 pub demand-1 : Demand1
-demand-1 = record { entries = every-entry; places = λ s e. (refused-placed s e, blames s e); saves = seen-records; merges = merge-of-copies; writes = rows-and-tables; converts = conversions }
+demand-1 = record { entries = every-entry; places = λ s e. (refused-placed s e, blames s e); saves = seen-records; merges = merge-of-copies; writes = rows-and-tables; converts = conversions; salvages = salvaging }
 
 pub demand-2 : Demand2
 demand-2 = record {

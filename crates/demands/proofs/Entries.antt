@@ -23,16 +23,18 @@ use Rattle.merging.specs.declared.Merged.{Merged}
 use Rattle.writing.specs.Rows.{Typed}
 use Rattle.converting.specs.Convert.{rowsIn, convertedOf, Converts}
 use Rattle.converting.specs.declared.To.{To}
+use Rattle.salvaging.specs.Salvage as salvage
+use Rattle.salvaging.specs.declared.Salvaged.{Salvaged}
 use Rattle.table.specs.Bytes.{Bytes}
 use Rattle.writing.specs.Write as write
 use Rattle.writing.specs.Fill as fill
 use Rattle.writing.specs.declared.Written.{Written}
 use Rattle.writing.specs.declared.Filled.{Filled}
 use Rattle.report_text.specs.Report.{reportOf}
-use Rattle.editor.specs.Entry.{figureBytes, returned, leftBy, tooLong, Answered, SaveEntry, MergeEntry, ReadEntry, WriteEntry, ConvertEntry, ReportEntry}
-use Rattle.demands.specs.Entries.{SaveRefusal, MergeRefusal, WriteRefusal, ReadRefusal, RecordRefusal, ConvertRefusal, ReportRefusal, CheckRefusal, AtEntry, OneAnswer, Query, Call, OnePart, OneChosen, LatencyRefusal, MissesRefusal, SegmentRefusal, EveryEntry}
+use Rattle.editor.specs.Entry.{figureBytes, returned, leftBy, tooLong, Answered, SaveEntry, MergeEntry, ReadEntry, WriteEntry, ConvertEntry, SalvageEntry, ReportEntry}
+use Rattle.demands.specs.Entries.{SaveRefusal, MergeRefusal, WriteRefusal, ReadRefusal, RecordRefusal, ConvertRefusal, SalvageRefusal, ReportRefusal, CheckRefusal, AtEntry, OneAnswer, Query, Call, OnePart, OneChosen, LatencyRefusal, MissesRefusal, SegmentRefusal, EveryEntry}
 use Rattle.misses.specs.Bad.{byWindows}
-use Rattle.demands.proofs.Answers.{verdict-one, check-one, latency-one, tested-one, sieve-one, segment-one, save-one, merge-one, conflict-one, write-one, convert-one, fill-one, record-one}
+use Rattle.demands.proofs.Answers.{verdict-one, check-one, latency-one, tested-one, sieve-one, segment-one, save-one, merge-one, conflict-one, write-one, convert-one, salvage-one, fill-one, record-one}
 
 -- a statement that names the answer
 query : {A : Type 0} (right : A) (Refusal : ℕ → Type 0) (n : ℕ) (number : A → ℕ) (figures : A → List ℕ) → OneAnswer Refusal n (number right) (figures right) → Query (λ a. a ≡ right) Refusal n number figures
@@ -110,6 +112,29 @@ convert-call to s buffer bytes = record {
       (subst ConvertRefusal (sym n) (convert-one to s bytes (length buffer) .refused (λ e. h (n ∙ e)) .0), a .leaves ∙ when-no _ _ (ne-eqb (write.numberOf r) 0 h));
 }
 
+-- a damaged table salvaged: both buffers
+module _ (s table list : List ℕ) where
+  abbrev salvaged : Salvaged
+  salvaged = salvage.salvagedOf (length table) (length list) s
+
+  abbrev salvagesTo : Salvaged → List ℕ × List ℕ
+  salvagesTo a = (salvage.bufferAfter a (salvage.tableKept s) table, salvage.bufferAfter a (salvage.listSkipped s) list)
+
+  -- a refused salvage leaves them
+  salvage-leaves : (a : Salvaged) → (salvage.numberOf a ≡ 0 → ⊥) → salvagesTo a ≡ (table, list)
+  salvage-leaves a h = ap₂ (λ x y. (x, y)) (when-no _ _ (ne-eqb (salvage.numberOf a) 0 h)) (when-no _ _ (ne-eqb (salvage.numberOf a) 0 h))
+
+  salvage-call : Call {A = List ℕ × List ℕ} (λ after a. salvage.Salvages s table list a (after .0) (after .1)) SalvageRefusal salvage.numberOf (table, list)
+  salvage-call = record {
+    taken = (salvagesTo salvaged, salvaged, record { answers = refl; leaves-table = refl; leaves-list = refl });
+    one = λ {x} {y} {r} {q} a b.
+        let e = a .answers ∙ sym (b .answers) in
+        (ap₂ (λ x y. (x, y)) (a .leaves-table) (a .leaves-list) ∙ ap salvagesTo e ∙ sym (ap₂ (λ x y. (x, y)) (b .leaves-table) (b .leaves-list)), e);
+    refused = λ {x} {r} a h.
+        let n = ap salvage.numberOf (a .answers) in
+        (subst SalvageRefusal (sym n) (salvage-one (length table) (length list) s .refused (λ e. h (n ∙ e)) .0), ap₂ (λ x y. (x, y)) (a .leaves-table) (a .leaves-list) ∙ salvage-leaves r h);
+  }
+
 -- the record taken for an id
 one-chosen : (ancestor first second : RefT (List ℕ)) (id : ℕ) → OneChosen ancestor first second id
 one-chosen ancestor first second id =
@@ -145,59 +170,78 @@ entry to from c = record {
 }
 
 -- an entry that is lent something to be written beside its answer buffer: it stays where 27 is given, and where the call is refused
-module _ {X : Type 0} (Refusal : ℕ → Type 0) (number : ℕ) (figures : List ℕ) (one : OneAnswer Refusal 1 number figures) (before result : X)
+module _ {X : Type 0} (Refusal : ℕ → Type 0) (n number : ℕ) (figures : List ℕ) (one : OneAnswer Refusal n number figures) (before result : X)
     (stays : (number ≡ 0 → ⊥) → result ≡ before) (answer : List ℕ) where
   abbrev later : X
-  later = before when ltb (length answer) 4 else result
+  later = before when ltb (length answer) (4 * n) else result
 
   pub record Beside (after : X × List ℕ) (r : ℕ) : Type 0 where
-    pub answers : Answered 1 number figures answer (after .1) r
+    pub answers : Answered n number figures answer (after .1) r
     pub leaves : after .0 ≡ later
 
   beside : Call Beside (AtEntry Refusal) (λ r. r) (before, answer)
   beside =
-      let c = answered Refusal 1 number figures one answer in
+      let c = answered Refusal n number figures one answer in
       record {
         taken = ((later, c .taken .0), c .taken .1, record { answers = c .taken .2; leaves = refl });
         one = λ x y. let e = c .one (x .answers) (y .answers) in (ap₂ (λ a b. (a, b)) (x .leaves ∙ sym (y .leaves)) (e .0), e .1);
         refused = λ x h. let f = c .refused (x .answers) h in (f .0, ap₂ (λ a b. (a, b)) (x .leaves ∙ kept (λ e. h (x .answers .returns ∙ e))) (f .1));
       }
     where
-      kept : (returned 1 number answer ≡ 0 → ⊥) → later ≡ before
+      kept : (returned n number answer ≡ 0 → ⊥) → later ≡ before
       kept h = ⊎-elim
-          (λ l. when-yes _ _ (lt-ltb (length answer) 4 l))
-          (λ l. when-no _ _ (le-ltb (length answer) 4 l) ∙ stays (λ e. h (when-no _ _ (le-ltb (length answer) 4 l) ∙ e)))
-          (lt-or-le (length answer) 4)
+          (λ l. when-yes _ _ (lt-ltb (length answer) (4 * n) l))
+          (λ l. when-no _ _ (le-ltb (length answer) (4 * n) l) ∙ stays (λ e. h (when-no _ _ (le-ltb (length answer) (4 * n) l) ∙ e)))
+          (lt-or-le (length answer) (4 * n))
 
 pub save-entry : (buffer : List ℕ) (used : ℕ) (old new answer : List ℕ)
     → Call {A = List ℕ × List ℕ} (λ after r. SaveEntry buffer used old new answer (after .0) (after .1) r) (AtEntry SaveRefusal) (λ r. r) (buffer, answer)
 save-entry buffer used old new answer =
     entry (λ x r a. record { answers = a .answers; leaves = a .leaves }) (λ x r e. record { answers = e .answers; leaves = e .leaves })
-    (beside SaveRefusal _ _ (save-one buffer used old new) buffer (save.bufferAfter buffer used old new) (save-leaves buffer used old new) answer)
+    (beside SaveRefusal 1 _ _ (save-one buffer used old new) buffer (save.bufferAfter buffer used old new) (save-leaves buffer used old new) answer)
 
 pub merge-entry : (v : Versions) (buffer answer : List ℕ)
     → Call {A = List ℕ × List ℕ} (λ after r. MergeEntry v buffer answer (after .0) (after .1) r) (AtEntry MergeRefusal) (λ r. r) (buffer, answer)
 merge-entry v buffer answer =
     entry (λ x r a. record { answers = a .answers; leaves = a .leaves }) (λ x r e. record { answers = e .answers; leaves = e .leaves })
-    (beside MergeRefusal _ _ (merge-one (length buffer) v) buffer (mergeAfter v buffer) (merge-leaves v buffer) answer)
+    (beside MergeRefusal 1 _ _ (merge-one (length buffer) v) buffer (mergeAfter v buffer) (merge-leaves v buffer) answer)
 
 pub write-entry : (rs : List Row) → All Typed rs → (buffer answer : List ℕ)
     → Call {A = List ℕ × List ℕ} (λ after r. WriteEntry rs buffer answer (after .0) (after .1) r) (AtEntry WriteRefusal) (λ r. r) (buffer, answer)
 write-entry rs f buffer answer =
     entry (λ x r a. record { answers = a .answers; leaves = a .leaves }) (λ x r e. record { answers = e .answers; leaves = e .leaves })
-    (beside WriteRefusal _ _ (write-one rs f (length buffer)) buffer (write.bufferAfter (write.writtenOf (length buffer) rs) rs buffer) (λ h. when-no _ _ (ne-eqb _ 0 h)) answer)
+    (beside WriteRefusal 1 _ _ (write-one rs f (length buffer)) buffer (write.bufferAfter (write.writtenOf (length buffer) rs) rs buffer) (λ h. when-no _ _ (ne-eqb _ 0 h)) answer)
 
 pub read-entry : (s : List ℕ) (rs : List Row) (answer : List ℕ)
     → Call {A = List Row × List ℕ} (λ after r. ReadEntry s rs answer (after .0) (after .1) r) (AtEntry ReadRefusal) (λ r. r) (rs, answer)
 read-entry s rs answer =
     entry (λ x r a. record { answers = a .answers; leaves = a .leaves }) (λ x r e. record { answers = e .answers; leaves = e .leaves })
-    (beside ReadRefusal _ _ (fill-one (length rs) s) rs (fill.rowsAfter (fill.filledOf (length rs) s) s rs) (λ h. when-no _ _ (ne-eqb _ 0 h)) answer)
+    (beside ReadRefusal 1 _ _ (fill-one (length rs) s) rs (fill.rowsAfter (fill.filledOf (length rs) s) s rs) (λ h. when-no _ _ (ne-eqb _ 0 h)) answer)
 
 pub convert-entry : (to : To) (s : List ℕ) → Bytes s → (buffer answer : List ℕ)
     → Call {A = List ℕ × List ℕ} (λ after r. ConvertEntry to s buffer answer (after .0) (after .1) r) (AtEntry ConvertRefusal) (λ r. r) (buffer, answer)
 convert-entry to s bytes buffer answer =
     entry (λ x r a. record { answers = a .answers; leaves = a .leaves }) (λ x r e. record { answers = e .answers; leaves = e .leaves })
-    (beside ConvertRefusal _ _ (convert-one to s bytes (length buffer)) buffer (write.bufferAfter (convertedOf to (length buffer) s) (rowsIn to s) buffer) (λ h. when-no _ _ (ne-eqb _ 0 h)) answer)
+    (beside ConvertRefusal 1 _ _ (convert-one to s bytes (length buffer)) buffer (write.bufferAfter (convertedOf to (length buffer) s) (rowsIn to s) buffer) (λ h. when-no _ _ (ne-eqb _ 0 h)) answer)
+
+-- a choice between two pairs is one between their parts
+of-choice : {A B : Type 0} (f : A → B) (x y : A) (t : Bool) → f (x when t else y) ≡ (f x when t else f y)
+unfolding _when_else_
+of-choice f x y true = refl
+of-choice f x y false = refl
+
+pub salvage-entry : (s table list answer : List ℕ)
+    → Call {A = (List ℕ × List ℕ) × List ℕ} (λ after r. SalvageEntry s table list answer (after .0 .0) (after .0 .1) (after .1) r) (AtEntry SalvageRefusal) (λ r. r) ((table, list), answer)
+salvage-entry s table list answer =
+    entry (λ x r a. record { answers = a .answers; leaves-table = ap (λ p. p .0) (a .leaves) ∙ first; leaves-list = ap (λ p. p .1) (a .leaves) ∙ second })
+    (λ x r e. record { answers = e .answers; leaves = ap₂ (λ a b. (a, b)) (e .leaves-table ∙ sym first) (e .leaves-list ∙ sym second) })
+    (beside SalvageRefusal 2 _ _ (salvage-one (length table) (length list) s) (table, list) (salvagesTo s table list (salvaged s table list)) (salvage-leaves s table list (salvaged s table list)) answer)
+  where
+    first : ((table, list) when ltb (length answer) 8 else salvagesTo s table list (salvaged s table list)) .0 ≡ (table when ltb (length answer) 8 else salvagesTo s table list (salvaged s table list) .0)
+    first = of-choice (λ (p : List ℕ × List ℕ). p .0) (table, list) (salvagesTo s table list (salvaged s table list)) (ltb (length answer) 8)
+
+    second : ((table, list) when ltb (length answer) 8 else salvagesTo s table list (salvaged s table list)) .1 ≡ (list when ltb (length answer) 8 else salvagesTo s table list (salvaged s table list) .1)
+    second = of-choice (λ (p : List ℕ × List ℕ). p .1) (table, list) (salvagesTo s table list (salvaged s table list)) (ltb (length answer) 8)
 
 -- and so does the report entry: the text's buffer and the answer's
 module _ (s text answer : List ℕ) where
@@ -242,6 +286,7 @@ every-entry = record {
   read-rows = fill-call;
   convert = convert-call;
   record-place = λ s id. query _ RecordRefusal 2 _ _ (record-one s id);
+  salvage = salvage-call;
   report = λ s before. record { one = λ a b. (a .leaves ∙ sym (b .leaves), a .answers ∙ sym (b .answers)) };
   latency-entry = λ s id before. entry (λ x r a. record { answers = a }) (λ x r e. e .answers) (answered LatencyRefusal 4 _ _ (latency-one s id) before);
   misses-entry = λ s id k before. entry (λ x r a. record { answers = a }) (λ x r e. e .answers) (answered MissesRefusal 1 _ _ (tested-one byWindows s id k) before);
@@ -256,6 +301,7 @@ every-entry = record {
   write-entry = write-entry;
   read-rows-entry = read-entry;
   convert-entry = convert-entry;
+  salvage-entry = salvage-entry;
   report-entry = report-entry;
   check-entry = λ s before. entry (λ x r a. record { answers = a }) (λ x r e. e .answers) (answered CheckRefusal 2 _ _ (check-one s) before);
   version-entry = λ e f. e ∙ sym f;

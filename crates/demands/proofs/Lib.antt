@@ -20,6 +20,7 @@ pub mod Rows
 pub mod InStep
 pub mod Kept
 pub mod Converts
+pub mod Salvages
 pub mod Tables
 pub mod StarredWindows
 pub mod StarredMisses

@@ -14,8 +14,8 @@ use Rattle.table.specs.Limits.{maxDistances, maxTasks}
 use Rattle.table.specs.Bytes.{word, Bytes}
 use Rattle.table.specs.Record.{gapForm, gapAt, flagAt, gapWidth, known, spaced, pad, rowAt, blank}
 use Rattle.table.specs.Find.{findOf}
-use Rattle.table.specs.Fault.{_then_, markOf, identityFault, timesFault, countsFault, headFault, fallFault, lastFault, gapShort, gapFault, distancesFault, listFault, shortFault, largestFault, taskMarkFault, valuesFault, taskRestFault, taskFault, tasksFault, chainFault, endFault}
-use Rattle.table.specs.Read.{accepted, unless, formed, start, records, limitOf, readTable}
+use Rattle.table.specs.Fault.{_then_, markOf, identityFault, timesFault, countsFault, headFault, fallFault, lastFault, gapShort, gapFault, distancesFault, listFault, shortFault, largestFault, taskMarkFault, valuesFault, taskRestFault, taskFault, tasksFault, chainFault, besideFault, endFault}
+use Rattle.table.specs.Read.{accepted, unless, start, records, limitOf, readTable}
 use Rattle.table.specs.declared.Row.{Row}
 use Rattle.table.specs.declared.Table.{Table}
 use Rattle.table.specs.declared.Reading.{Reading}
@@ -107,21 +107,21 @@ twiceTable = record {
 }
 
 pub sample-reads : Reads sample sampled
-unfolding small sample sampled readTable limitOf records start formed unless gapAt flagAt gapWidth known chainFault headFault identityFault timesFault countsFault listFault distancesFault fallFault lastFault gapFault gapShort largestFault shortFault tasksFault taskFault taskMarkFault taskRestFault valuesFault endFault _then_ markOf word spaced rowAt findOf first _when_else_
+unfolding small sample sampled readTable limitOf records start unless besideFault gapAt flagAt gapWidth known chainFault headFault identityFault timesFault countsFault listFault distancesFault fallFault lastFault gapFault gapShort largestFault shortFault tasksFault taskFault taskMarkFault taskRestFault valuesFault endFault _then_ markOf word spaced rowAt findOf first _when_else_
 sample-reads = record { are = refl; reads = refl }
 
 pub edge-reads : Reads edge edgeTable
-unfolding small edge edgeTable readTable limitOf records start formed unless gapAt flagAt gapWidth known chainFault headFault identityFault timesFault countsFault listFault distancesFault fallFault lastFault gapFault gapShort largestFault shortFault tasksFault taskFault taskMarkFault taskRestFault valuesFault endFault _then_ markOf word spaced rowAt findOf first _when_else_
+unfolding small edge edgeTable readTable limitOf records start unless besideFault gapAt flagAt gapWidth known chainFault headFault identityFault timesFault countsFault listFault distancesFault fallFault lastFault gapFault gapShort largestFault shortFault tasksFault taskFault taskMarkFault taskRestFault valuesFault endFault _then_ markOf word spaced rowAt findOf first _when_else_
 edge-reads = record { are = refl; reads = refl }
 
 pub past-reads : Reads past pastTable
-unfolding small past pastTable readTable limitOf records start formed unless gapAt flagAt gapWidth known chainFault headFault identityFault timesFault countsFault listFault distancesFault fallFault lastFault gapFault gapShort largestFault shortFault tasksFault taskFault taskMarkFault taskRestFault valuesFault endFault _then_ markOf word spaced rowAt findOf first _when_else_
+unfolding small past pastTable readTable limitOf records start unless besideFault gapAt flagAt gapWidth known chainFault headFault identityFault timesFault countsFault listFault distancesFault fallFault lastFault gapFault gapShort largestFault shortFault tasksFault taskFault taskMarkFault taskRestFault valuesFault endFault _then_ markOf word spaced rowAt findOf first _when_else_
 past-reads = record { are = refl; reads = refl }
 
 pub altered-reads : Reads altered alteration
-unfolding small altered alteration readTable limitOf records start formed unless gapAt flagAt gapWidth known chainFault headFault identityFault timesFault countsFault listFault distancesFault fallFault lastFault gapFault gapShort largestFault shortFault tasksFault taskFault taskMarkFault taskRestFault valuesFault endFault _then_ markOf word spaced rowAt findOf first _when_else_
+unfolding small altered alteration readTable limitOf records start unless besideFault gapAt flagAt gapWidth known chainFault headFault identityFault timesFault countsFault listFault distancesFault fallFault lastFault gapFault gapShort largestFault shortFault tasksFault taskFault taskMarkFault taskRestFault valuesFault endFault _then_ markOf word spaced rowAt findOf first _when_else_
 altered-reads = record { are = refl; reads = refl }
 
 pub twice-reads : Reads twice twiceTable
-unfolding small twice twiceTable readTable limitOf records start formed unless gapAt flagAt gapWidth known chainFault headFault identityFault timesFault countsFault listFault distancesFault fallFault lastFault gapFault gapShort largestFault shortFault tasksFault taskFault taskMarkFault taskRestFault valuesFault endFault _then_ markOf word spaced rowAt findOf first _when_else_
+unfolding small twice twiceTable readTable limitOf records start unless besideFault gapAt flagAt gapWidth known chainFault headFault identityFault timesFault countsFault listFault distancesFault fallFault lastFault gapFault gapShort largestFault shortFault tasksFault taskFault taskMarkFault taskRestFault valuesFault endFault _then_ markOf word spaced rowAt findOf first _when_else_
 twice-reads = record { are = refl; reads = refl }

@@ -26,6 +26,7 @@ use Rattle.demands.specs.Saves.{AcceptedEdit, SeenRecords}
 use Rattle.demands.specs.Merges.{MergeOfCopies}
 use Rattle.demands.specs.Rows.{RowsAndTables}
 use Rattle.demands.specs.Converts.{Conversions}
+use Rattle.demands.specs.Salvages.{Salvaging}
 use Rattle.demands.specs.Arrivals.{ArrivalRules, LargestRules}
 use Rattle.demands.specs.Figures.{Exactly}
 use Rattle.demands.specs.Misses.{MeansOf, SaysMissed, LastColumn, Right}
@@ -50,6 +51,8 @@ pub record Demand1 : Type 0 where
   pub writes : RowsAndTables
   -- a table is converted to the other form: every figure stays, and back gives the old bytes (02, request 7)
   pub converts : Conversions
+  -- a damaged table is salvaged: what is kept is an accepted table of its own records, and all that is skipped is told (02, request 8)
+  pub salvages : Salvaging
 
 -- every figure equals the published chain analysis as document 01 fixes it
 pub record Demand2 : Type 0 where

@@ -21,20 +21,21 @@ use Rattle.misses.specs.Sieve.{atMostOf, numberOf as atMostNumber, valuesOf as 
 use Rattle.saving.specs.Save.{Saves, numberOf as saveNumber}
 use Rattle.merging.specs.Versions.{Versions}
 use Rattle.merging.specs.Merge.{Merges, foundOf, foundNumber, foundValues, Chosen, numberOf as mergeNumber}
+use Rattle.salvaging.specs.Salvage.{Salvages, numberOf as salvageNumber}
 use Rattle.writing.specs.Rows.{Typed}
 use Rattle.writing.specs.Write.{RowsRefusal, Writes, numberOf as writeNumber}
 use Rattle.writing.specs.Fill.{Fills, numberOf as fillNumber}
 use Rattle.converting.specs.Convert.{Converts}
 use Rattle.converting.specs.declared.To.{To}
 use Rattle.report_text.specs.Report.{Reported}
-use Rattle.editor.specs.Entry.{latencyFigures, LatencyEntry, MissesEntry, PlainEntry, AtMostEntry, SegmentEntry, SaveEntry, CheckEntry, MergeEntry, ConflictEntry, ReadEntry, WriteEntry, RecordEntry, ConvertEntry, ReportEntry, version}
+use Rattle.editor.specs.Entry.{latencyFigures, LatencyEntry, MissesEntry, PlainEntry, AtMostEntry, SegmentEntry, SaveEntry, CheckEntry, MergeEntry, ConflictEntry, ReadEntry, WriteEntry, RecordEntry, ConvertEntry, SalvageEntry, ReportEntry, version}
 
 -- n lies between low and high, both included
 abbrev pub Between : ℕ → ℕ → ℕ → Type 0
 Between low high n = (low ≤ n) × (n ≤ high)
 
 -- the numbers that each query, a save and a merge can be refused with, a table's own among them, then those of rows written and read, of
--- the record's place, of a conversion, of a report and of the check, which has none; what asks for conflicts is refused with a table's own
+-- the record's place, of a conversion, of a salvage, of a report and of the check, which has none; what asks for conflicts is refused with a table's own
 -- only; a C entry can also be refused with 27
 abbrev pub LatencyRefusal : ℕ → Type 0
 LatencyRefusal n = TableRefusal n ⊎ (n ≡ 12) ⊎ Between 16 17 n
@@ -62,6 +63,9 @@ RecordRefusal n = TableRefusal n ⊎ (n ≡ 12)
 
 abbrev pub ConvertRefusal : ℕ → Type 0
 ConvertRefusal n = TableRefusal n ⊎ (n ≡ 34) ⊎ (n ≡ 24)
+
+abbrev pub SalvageRefusal : ℕ → Type 0
+SalvageRefusal n = Between 35 36 n ⊎ (n ≡ 24)
 
 abbrev pub ReportRefusal : ℕ → Type 0
 ReportRefusal n = n ≡ 24
@@ -131,6 +135,9 @@ pub record EveryEntry : Type 0 where
   pub record-place : (s : List ℕ) (id : ℕ) → Query (λ a. a ≡ locatedOf s id) RecordRefusal 2 locatedNumber locatedFigures
   -- `converting::to_largest`, `converting::to_gap`
   pub convert : (to : To) (s buffer : List ℕ) → Bytes s → Call (λ after a. Converts to s buffer a after) ConvertRefusal writeNumber buffer
+  -- `salvaging::salvage`, which is lent two slices to be written
+  pub salvage : (s table list : List ℕ)
+      → Call {A = List ℕ × List ℕ} (λ after a. Salvages s table list a (after .0) (after .1)) SalvageRefusal salvageNumber (table, list)
   -- `report_text::report`
   pub report : (s before : List ℕ) → OneResult (Reported s before)
   -- `mishtodran_latency`, `mishtodran_misses`, `mishtodran_misses_plain`, `mishtodran_misses_at_most`, `mishtodran_record`, `mishtodran_segment`
@@ -156,6 +163,9 @@ pub record EveryEntry : Type 0 where
       → Call {A = List ℕ × List ℕ} (λ after r. ConvertEntry to s buffer answer (after .0) (after .1) r) (AtEntry ConvertRefusal) (λ r. r) (buffer, answer)
   pub report-entry : (s text answer : List ℕ)
       → Call {A = List ℕ × List ℕ} (λ after r. ReportEntry s text answer (after .0) (after .1) r) (AtEntry ReportRefusal) (λ r. r) (text, answer)
+  -- `mishtodran_salvage`, which is lent three
+  pub salvage-entry : (s table list answer : List ℕ)
+      → Call {A = (List ℕ × List ℕ) × List ℕ} (λ after r. SalvageEntry s table list answer (after .0 .0) (after .0 .1) (after .1) r) (AtEntry SalvageRefusal) (λ r. r) ((table, list), answer)
   -- `mishtodran_check`, which no table refuses
   pub check-entry : (s before : List ℕ) → Call (CheckEntry s before) (AtEntry CheckRefusal) (λ r. r) before
   -- `mishtodran_version`, which takes nothing

@@ -11,5 +11,6 @@ pub mod Others
 pub mod Merges
 pub mod Rows
 pub mod Converts
+pub mod Salvages
 pub mod Starred
 pub mod Witness

@@ -1,3 +1,4 @@
 pub mod Writing
 pub mod Converting
 pub mod Singles
+pub mod Salvaging

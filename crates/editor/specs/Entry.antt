@@ -1,6 +1,6 @@
 -- The entries of the C editor (01, 'The C editor and the report'): what each returns, and what it leaves in the buffers it is lent.
 -- 01 has latency, misses, segment and save, 02 the check (request 1), the write (request 2), the merge and its conflicts (request 4), the
--- misses by the plain engine and by the sieve (request 6), the two conversions (request 7); reading into rows, where a record stands, the
+-- misses by the plain engine and by the sieve (request 6), the two conversions (request 7), the salvage (request 8); reading into rows, where a record stands, the
 -- report as an entry, and the version, are ours.
 use Prim.Native.Nat.{ℕ, zero, suc, _*_, _-_}
 use mathlib.Core.Path.{_≡_}
@@ -27,6 +27,7 @@ use Rattle.writing.specs.Fill as fill
 use Rattle.writing.specs.Write as write
 use Rattle.converting.specs.Convert.{rowsIn, convertedOf}
 use Rattle.converting.specs.declared.To.{To}
+use Rattle.salvaging.specs.Salvage as salvage
 use Rattle.report_text.specs.Report.{reportOf}
 
 -- a signed number in two's complement
@@ -120,6 +121,12 @@ pub record ConvertEntry (to : To) (table buffer answer bufferAfter answerAfter :
   pub answers : Answered 1 (write.numberOf (convertedOf to (length buffer) table)) (write.valuesOf (convertedOf to (length buffer) table)) answer answerAfter r
   pub leaves : bufferAfter ≡ (buffer when ltb (length answer) 4 else write.bufferAfter (convertedOf to (length buffer) table) (rowsIn to table) buffer)
 
+-- salvage: the used lengths of the table and of the list, and both buffers as the salvage leaves them; 27 leaves those too
+pub record SalvageEntry (input table list answer tableAfter listAfter answerAfter : List ℕ) (r : ℕ) : Type 0 where
+  pub answers : Answered 2 (salvage.numberOf (salvage.salvagedOf (length table) (length list) input)) (salvage.valuesOf (salvage.salvagedOf (length table) (length list) input)) answer answerAfter r
+  pub leaves-table : tableAfter ≡ (table when ltb (length answer) 8 else salvage.bufferAfter (salvage.salvagedOf (length table) (length list) input) (salvage.tableKept input) table)
+  pub leaves-list : listAfter ≡ (list when ltb (length answer) 8 else salvage.bufferAfter (salvage.salvagedOf (length table) (length list) input) (salvage.listSkipped input) list)
+
 -- report: 24 where its text is longer than the text buffer, else the text's length, and the text; a refused table has its text
 abbrev pub tooLong : List ℕ → List ℕ → Bool
 tooLong table text = ltb (length text) (length (reportOf table))
@@ -130,4 +137,4 @@ pub record ReportEntry (table text answer textAfter answerAfter : List ℕ) (r :
 
 -- the version of the entries, which a caller holds against its header's; a change of an answer, a refusal or an entry raises it
 abbrev pub version : ℕ
-version = 7
+version = 8

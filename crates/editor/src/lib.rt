@@ -1,9 +1,10 @@
-// The C editor's entries (document 01, 'The C editor and the report'; document 02, requests 1, 2, 4, 6 and 7): numbers, bytes and rows only.
+// The C editor's entries (document 01, 'The C editor and the report'; document 02, requests 1, 2, 4 and 6 to 8): numbers, bytes and rows only.
 // Each but the version returns 0 or the refusal's number; refused, every byte lent stays.
 use merging::Found;
 use merging::Merged;
 use report_text::LONGEST;
 use report_text::magnitude;
+use salvaging::Salvaged;
 use saving::Saved;
 use table::Row;
 use table::Verdict;
@@ -17,7 +18,7 @@ ghost use Rattle.misses.specs.Misses.{numberOf as missesNumber, valuesOf as mis
 ghost use Rattle.merging.specs.Merge.{versions};
 ghost use Rattle.writing.specs.Fill.{numberOf as filledNumber, valuesOf as filledValues};
 ghost use Rattle.writing.specs.Write.{numberOf as writtenNumber, valuesOf as writtenValues};
-ghost use Rattle.editor.specs.Entry.{unsigned as unsignedOf, figureBytes, startingWith, Answered, LatencyEntry, MissesEntry, PlainEntry, AtMostEntry, SegmentEntry, SaveEntry, CheckEntry, MergeEntry, ConflictEntry, ReadEntry, WriteEntry, RecordEntry, ConvertEntry, ReportEntry, version};
+ghost use Rattle.editor.specs.Entry.{unsigned as unsignedOf, figureBytes, startingWith, Answered, LatencyEntry, MissesEntry, PlainEntry, AtMostEntry, SegmentEntry, SaveEntry, CheckEntry, MergeEntry, ConflictEntry, ReadEntry, WriteEntry, RecordEntry, ConvertEntry, SalvageEntry, ReportEntry, version};
 ghost use Rattle.converting.specs.declared.To.the-variants.{Largest, Gap};
 ghost use Rattle.editor.specs.code.Single.{singleOf};
 
@@ -25,7 +26,7 @@ ghost use Rattle.editor.specs.code.Single.{singleOf};
 const ANSWERED: u32 = 0;
 
 // Raised by each change that a caller can see, in the header and in specs/ too.
-const VERSION: u32 = 7;
+const VERSION: u32 = 8;
 
 // A signed number in two's complement.
 fn unsigned(x: i32) -> u32
@@ -359,6 +360,29 @@ pub extern "C" fn mishtodran_to_gap(table: &[u8], buffer: &mut [u8], answer: &mu
         return 27;
     }
     put_written(converting::to_gap(table, buffer), answer)
+}
+
+// Salvages what is left of a damaged table: the new table and the list of what was skipped, each into a buffer, and their lengths.
+#[no_mangle]
+pub extern "C" fn mishtodran_salvage(
+    input: &[u8],
+    table: &mut [u8],
+    list: &mut [u8],
+    answer: &mut [u8],
+) -> u32
+    ensures { λ r. ⌜ SalvageEntry (now (input .entry)) (now (table .entry)) (now (list .entry)) (now (answer .entry)) (now (table .exit)) (now (list .exit)) (now (answer .exit)) r ⌝ }
+{
+    if answer.len() < 8 {
+        return 27;
+    }
+    match salvaging::salvage(input, table, list) {
+        Salvaged::Used { table, list } => {
+            let figures = [table, list];
+            put_figures(answer, &figures);
+            ANSWERED
+        }
+        Salvaged::Refused(n) => n,
+    }
 }
 
 // The report's text at the start of a text buffer, and its length. It is made in a place of its own first, so that a text that does

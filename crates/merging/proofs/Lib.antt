@@ -1,4 +1,3 @@
-pub mod Rest
 pub mod Lookup
 pub mod Seeks
 pub mod Rules

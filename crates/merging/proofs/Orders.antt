@@ -7,6 +7,7 @@ use lib.ListN.{length, drop, getD, length-take, length-map, List·getD-map}
 use lib.Seq.{getD-take}
 use Rattle.search.specs.Choice.{_when_else_}
 use Rattle.search.specs.Lists.{some, keep}
+use Rattle.search.proofs.Rest.{rest}
 use Rattle.table.specs.Record.{blank}
 use Rattle.table.specs.Find.{rowOf, rows}
 use Rattle.table.specs.Read.{tableOf}
@@ -14,7 +15,6 @@ use Rattle.table.specs.code.Taken.{Taken}
 use Rattle.table.specs.declared.Row.{Row}
 use Rattle.merging.specs.Versions.{idsOf}
 use Rattle.merging.specs.Rule.{joined}
-use Rattle.merging.proofs.Rest.{rest}
 
 -- joined to none, they are all
 pub joined-none : (l : List ℕ) → joined [] l ≡ l

@@ -10,6 +10,7 @@ use lib.ListN.{length, drop, getD, length-append, length-take}
 use Rattle.search.specs.Choice.{_when_else_}
 use Rattle.search.specs.Lists.{keep}
 use Rattle.search.proofs.Choice.{when-cases, lt-or-le}
+use Rattle.search.proofs.Rest.{rest}
 use Rattle.table.specs.Find.{rowOf, findOf}
 use Rattle.table.specs.Read.{tableOf}
 use Rattle.table.specs.code.Taken.{Taken}
@@ -21,7 +22,6 @@ use Rattle.merging.specs.Rule.{byStates, takenOf}
 use Rattle.merging.specs.Merge.{isRecord}
 use Rattle.merging.specs.code.Parts.{AllTaken}
 use Rattle.merging.specs.code.Size.{statesOf}
-use Rattle.merging.proofs.Rest.{rest}
 use Rattle.merging.proofs.Lookup.{state-used, state-unused}
 
 -- a state is no longer than a record can be

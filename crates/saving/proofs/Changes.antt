@@ -12,7 +12,7 @@ use borrow.Author.Tests.{le-ltb, eq-eqb, eqb-true, not-false}
 use Rattle.table.specs.Bytes.{Bytes}
 use Rattle.table.specs.Record.{formAt, idAt, headLength, lengthAt}
 use Rattle.table.specs.Find.{rowOf, rows}
-use Rattle.table.specs.Fault.{markOf}
+use Rattle.table.specs.Fault.{markOf, isChain}
 use Rattle.table.specs.Read.{accepted, readTable, tableOf}
 use Rattle.table.specs.Place.{lengthOf, placeOf}
 use Rattle.table.specs.declared.Mark.{Mark}
@@ -20,7 +20,8 @@ use Rattle.table.specs.declared.Mark.the-variants.{Chain, Task, End, Unknown}
 use Rattle.table.specs.declared.Table.{Table}
 use Rattle.search.proofs.Choice.{true-not-false}
 use Rattle.table.proofs.Firsts.{none-or}
-use Rattle.saving.specs.Save.{readFault, seenOf, isChain, cut, unfit, resultOf}
+use Rattle.table.proofs.Marks.{chain-told}
+use Rattle.saving.specs.Save.{readFault, seenOf, cut, unfit, resultOf}
 use Rattle.slices.specs.Stored.{recordOf}
 use Rattle.slices.specs.Slices.{splice}
 use Rattle.slices.proofs.Sameness.{same-yes, same-true}
@@ -34,12 +35,6 @@ use Rattle.slices.proofs.Parsed.{parts-rows}
 use Rattle.slices.proofs.Records.{recordsFrom, length-records, records-at, record-whole, record-id, record-alone, parts-of, parts-count, parts-record, parts-put}
 use Rattle.saving.proofs.After.{bytes-result}
 
-chain-mark : (m : Mark) → isChain m ≡ true → m ≡ Chain
-chain-mark Chain e = refl
-chain-mark Task e = absurd (true-not-false e refl)
-chain-mark End e = absurd (true-not-false e refl)
-chain-mark Unknown e = absurd (true-not-false e refl)
-
 -- a new record that is fit is whole, and bears the id
 pub fit-whole : (new : List ℕ) (id : ℕ) → unfit new id ≡ false → Whole new × (idAt new 0 ≡ id)
 unfolding unfit
@@ -47,7 +42,7 @@ fit-whole new id e =
     let e3 = none-or _ (not (eqb (idAt new 0) id)) e in
     let e2 = none-or _ (not (eqb (length new) (lengthAt new 0))) (e3 .0) in
     let e1 = none-or (cut new) (not (isChain (markOf (formAt new 0)))) (e2 .0) in (
-      record { mark = chain-mark _ (not-false _ (e1 .1)); long = eqb-true _ _ (not-false _ (e2 .1)) },
+      record { mark = chain-told _ (not-false _ (e1 .1)); long = eqb-true _ _ (not-false _ (e2 .1)) },
       eqb-true _ _ (not-false _ (e3 .1)),
     )
 

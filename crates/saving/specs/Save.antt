@@ -2,18 +2,16 @@
 use Prim.Native.Nat.{ℕ, max, _-_}
 use mathlib.Core.Path.{_≡_}
 use mathlib.Core.List.{List, [], _∷_, _++_}
-use mathlib.Core.Bool.{Bool, true, false, not, _||_}
+use mathlib.Core.Bool.{Bool, not, _||_}
 use lib.ListN.{length, take, drop, replicate}
 use lib.Dec.{ltb, eqb}
 use Rattle.search.specs.Choice.{_when_else_, byNumber}
 use Rattle.search.specs.Find.{first}
 use Rattle.table.specs.Record.{formAt, idAt, headLength, lengthAt}
 use Rattle.table.specs.Find.{rowOf}
-use Rattle.table.specs.Fault.{markOf}
+use Rattle.table.specs.Fault.{markOf, isChain}
 use Rattle.table.specs.Read.{numberOf as verdictNumber, byVerdict, readTable, tableOf}
 use Rattle.table.specs.Place.{lengthOf, placeOf}
-use Rattle.table.specs.declared.Mark.{Mark}
-use Rattle.table.specs.declared.Mark.the-variants.{Chain, Task, End, Unknown}
 use Rattle.slices.specs.Slices.{same, splice}
 use Rattle.slices.specs.Stored.{recordOf}
 use Rattle.saving.specs.declared.Saved.{Saved}
@@ -36,12 +34,6 @@ readFault s = verdictNumber (readTable s .verdict)
 -- the number of the first chain whose stored record equals the old one, the count of chains if none does
 unfoldable pub seenOf : List ℕ → List ℕ → ℕ
 seenOf s old = first (λ chain. same (recordOf s chain) old) 0 (tableOf s .count)
-
-abbrev pub isChain : Mark → Bool
-isChain Chain = true
-isChain Task = false
-isChain End = false
-isChain Unknown = false
 
 -- a record lacks bytes of its fixed part, which is as long as its own mark says (02, request 7)
 abbrev pub cut : List ℕ → Bool

@@ -11,7 +11,8 @@ ghost use Rattle.table.specs.Limits.{maxBytes};
 ghost use Rattle.table.specs.Read.{numberOf, readTable};
 ghost use Rattle.table.specs.code.Taken.{Taken};
 ghost use Rattle.table.specs.declared.Verdict.the-variants.{Accepted};
-ghost use Rattle.saving.specs.Save.{seenOf, isChain, cut as cutOf, unfit as unfitOf, resultOf, resultFault, replaceFault, changeFault};
+ghost use Rattle.table.specs.Fault.{isChain};
+ghost use Rattle.saving.specs.Save.{seenOf, cut as cutOf, unfit as unfitOf, resultOf, resultFault, replaceFault, changeFault};
 ghost use Rattle.slices.specs.Slices.{splice};
 ghost use Rattle.saving.specs.code.Ready.{Ready};
 

@@ -1,5 +1,6 @@
 pub mod Choice
 pub mod Find
 pub mod Lists
+pub mod Rest
 pub mod Keeping
 pub mod Pairing

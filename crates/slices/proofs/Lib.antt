@@ -4,8 +4,11 @@ pub mod Writes
 pub mod Bytes
 pub mod Moved
 pub mod Parts
+pub mod Cuts
 pub mod Parsed
 pub mod Stored
 pub mod Records
 pub mod Ends
 pub mod Sound
+pub mod Lengths
+pub mod Together

@@ -2,21 +2,19 @@
 use Prim.Native.Nat.{ℕ, _+_, _-_, _<_, _≤_}
 use native.Mathlib.Omega.{arith}
 use native.Mathlib.Numerals.{add-one}
-use native.Mathlib.Decide.{ℕ-discrete}
 use mathlib.Core.Path.{_≡_, refl, ap, sym, subst, _∙_}
 use mathlib.Core.List.{List, [], _∷_, _++_, map, flatten, append-assoc, append-nil}
 use mathlib.Core.Bool.{_||_}
-use mathlib.Core.Logic.{⊎-elim}
 use lib.ListN.{length, drop, length-append, length-drop, length-set, List·getD-append}
 use lib.Seq.{getD-drop, drop-drop, drop-at, take-suc-set}
 use lib.Dec.{eqb, ltb}
 use Rattle.search.specs.Lists.{All}
-use Rattle.search.proofs.Choice.{when-cases, lt-or-le}
+use Rattle.search.proofs.Choice.{when-cases}
 use Rattle.table.specs.Limits.{maxChains}
 use Rattle.table.specs.Bytes.{word}
 use Rattle.table.specs.Record.{formAt, lengthAt, rowAt}
 use Rattle.table.specs.Find.{rows}
-use Rattle.table.specs.Fault.{markOf, chainFault, endFault}
+use Rattle.table.specs.Fault.{markOf, besideFault, endFault}
 use Rattle.table.specs.Read.{empty, plus, refusal, accepted, unless, byMark, records, limitOf, readTable}
 use Rattle.table.specs.declared.Reading.{Reading}
 use Rattle.table.specs.declared.Table.{Table}
@@ -25,17 +23,30 @@ use Rattle.table.specs.declared.Mark.the-variants.{Chain, Task, End, Unknown}
 use Rattle.table.specs.declared.Verdict.{Verdict}
 use Rattle.table.specs.declared.Verdict.the-variants.{Accepted, Refused}
 use Rattle.table.proofs.Firsts.{not-accepted}
-use Rattle.table.proofs.Faultless.{chain-right}
-use Rattle.table.proofs.Steps.{records-mark, records-other, records-full, records-chain}
+use Rattle.table.proofs.Faultless.{chain-right, BesideRight, beside-right}
+use Rattle.table.proofs.Steps.{records-mark, records-refused, records-beside}
 use Rattle.slices.proofs.Moved.{SameBytes, length-moved, mark-moved, row-moved}
 use Rattle.slices.proofs.Parts.{Whole, Parts, rowIn}
 
--- a record stands where the bytes go on with it
-pub stands : (s : List ℕ) (at : ℕ) (r rest : List ℕ) → drop at s ≡ r ++ rest → Whole r → SameBytes s r at 0 (lengthAt r 0)
-unfolding SameBytes
-stands s at r rest e w i h =
-    let f : 0 + i ≡ i = omega arith in
-    rw (f, ← getD-drop at s i 0, e) (List·getD-append r rest 0 i (omega (arith, w .long)))
+-- a record stands where the bytes go on with it: it is as long there as by itself, and what follows it goes on
+module _ (s : List ℕ) (at : ℕ) (r rest : List ℕ) (d : drop at s ≡ r ++ rest) (w : Whole r) where
+  pub stands : SameBytes s r at 0 (lengthAt r 0)
+  unfolding SameBytes
+  stands i h =
+      let f : 0 + i ≡ i = omega arith in
+      rw (f, ← getD-drop at s i 0, d) (List·getD-append r rest 0 i (omega (arith, w .long)))
+
+  pub stands-long : lengthAt s at ≡ length r
+  stands-long = length-moved s r at 0 stands ∙ sym (w .long)
+
+  pub stands-rest : drop (at + lengthAt s at) s ≡ rest
+  stands-rest = rw (stands-long, ← drop-drop (length r) at s, d) (drop-at r rest (length r) refl)
+
+  pub stands-mark : markOf (word 2 s at) ≡ Chain
+  stands-mark = ap markOf (mark-moved s r at 0 stands) ∙ w .mark
+
+  pub stands-inside : at + length r + length rest ≡ length s
+  stands-inside = omega (arith, length-drop at s, ap length d, length-append r rest, w .long)
 
 -- no fault was found where what follows one was
 unless-passed : (v : Verdict) (r : Reading) → unless refusal v r .verdict ≡ Accepted → (v ≡ Accepted) × (unless refusal v r ≡ r)
@@ -52,17 +63,16 @@ module _ (s : List ℕ) where
     passes : (r : Reading) → go at t ≡ r → r .verdict ≡ Accepted
     passes r e = subst (λ (x : Reading). x .verdict ≡ Accepted) e a
 
-    -- a chain's mark: it was the first record's, the chain was read without a fault, and reading went on after it
-    chain-read : markOf (word 2 s at) ≡ Chain → (t .count < maxChains) × (chainFault s at t ≡ Accepted) × (go at t ≡ go (at + lengthAt s at) (plus t (rowAt s at)))
-    chain-read m = elim (ℕ-discrete (formAt s at) (formAt s 0)) [ yes form ↦ alike form | no other ↦ absurd (not-accepted (passes (refusal 3 at) (records-other s at t there m (maxChains - t .count) other))) ]
+    -- a chain's mark: the chain was right beside those before it, and reading went on after it
+    pub chain-read : markOf (word 2 s at) ≡ Chain → BesideRight s at (formAt s 0) t × (t .count < maxChains) × (go at t ≡ go (at + lengthAt s at) (plus t (rowAt s at)))
+    chain-read m = by (besideFault s at (formAt s 0) t) refl
       where
-        alike : formAt s at ≡ formAt s 0 → (t .count < maxChains) × (chainFault s at t ≡ Accepted) × (go at t ≡ go (at + lengthAt s at) (plus t (rowAt s at)))
-        alike form = ⊎-elim
-            (λ h. let f = records-chain s at t there m form h in
-            let g = unless-passed (chainFault s at t) _ (passes _ f) in
-            (h, g .0, f ∙ g .1))
-            (λ h. absurd (not-accepted (passes (refusal 11 at) (records-full s at t there m form (omega arith)))))
-            (lt-or-le (t .count) maxChains)
+        by : (v : Verdict) → besideFault s at (formAt s 0) t ≡ v → BesideRight s at (formAt s 0) t × (t .count < maxChains) × (go at t ≡ go (at + lengthAt s at) (plus t (rowAt s at)))
+        by Accepted e =
+            let r = beside-right s at (formAt s 0) t e in
+            let room : t .count < maxChains = omega (arith, few, r .room) in
+            (r, room, records-beside s at t there m e room)
+        by (Refused n place) e = absurd (not-accepted (passes (refusal n place) (records-refused s at t there m (maxChains - t .count) e)))
 
     -- any other: it was the end's, and nothing was added
     end-read : (markOf (word 2 s at) ≡ Chain → ⊥) → go at t .table ≡ t
@@ -82,8 +92,7 @@ module _ (s : List ℕ) where
   ended at t n few a =
       let there : at + 2 ≤ length s = omega arith in
       end-read at t few there a
-      (λ m. let f = chain-read at t few there a m .1 in
-      omega (arith, chain-right s at t f .head .there))
+      (λ m. omega (arith, chain-right s at t (chain-read at t few there a m .0 .chain) .head .there))
 
   -- each record adds its row
   grown : (rs : List (List ℕ)) (at : ℕ) (t : Table) (e : List ℕ) → drop at s ≡ flatten rs ++ e → All Whole rs → length e ≡ 4
@@ -92,19 +101,16 @@ module _ (s : List ℕ) where
   grown [] at t e d w n few l a = rw (ended at t (omega (arith, length-drop at s, ap length d)) few a) (sym (append-nil (rows t)))
   grown (r ∷ rs) at t e d w n few l a =
       let d′ : drop at s ≡ r ++ (flatten rs ++ e) = d ∙ append-assoc r (flatten rs) e in
-      let h = stands s at r (flatten rs ++ e) d′ (w .0) in
-      let long : at + length r ≤ length s = omega (arith, length-drop at s, ap length d′, length-append r (flatten rs ++ e), length-append (flatten rs) e, w .0 .long) in
-      let c = chain-read at t few (omega (arith, w .0 .long)) a (ap markOf (mark-moved s r at 0 h) ∙ w .0 .mark) in
+      let there : at + 2 ≤ length s = omega (arith, stands-inside s at r (flatten rs ++ e) d′ (w .0), w .0 .long) in
+      let c = chain-read at t few there a (stands-mark s at r (flatten rs ++ e) d′ (w .0)) in
       let next = at + lengthAt s at in
       let more = plus t (rowAt s at) in
-      let size : lengthAt s at ≡ length r = length-moved s r at 0 h ∙ sym (w .0 .long) in
-      let rest : drop next s ≡ flatten rs ++ e = rw (size, ← drop-drop (length r) at s, d′) (drop-at r (flatten rs ++ e) (length r) refl) in
-      let on = grown rs next more e rest (w .1) n (omega (arith, c .0)) (simp length-set l) (passes at t few (omega (arith, w .0 .long)) a (go next more) (c .2)) in
-      let added : rows more ≡ rows t ++ (rowAt s at ∷ []) = rw (add-one, take-suc-set (t .row) (t .count) (rowAt s at) (omega (arith, l, c .0))) in
-      ap (λ (x : Reading). rows (x .table)) (c .2) ∙ on ∙ rw (added, row-moved s r at 0 h, append-assoc)
+      let on = grown rs next more e (stands-rest s at r (flatten rs ++ e) d′ (w .0)) (w .1) n (omega (arith, c .1)) (simp length-set l) (passes at t few there a (go next more) (c .2)) in
+      let added : rows more ≡ rows t ++ (rowAt s at ∷ []) = rw (add-one, take-suc-set (t .row) (t .count) (rowAt s at) (omega (arith, l, c .1))) in
+      ap (λ (x : Reading). rows (x .table)) (c .2) ∙ on ∙ rw (added, row-moved s r at 0 (stands s at r (flatten rs ++ e) d′ (w .0)), append-assoc)
 
 -- reading starts without a row
-started : (s : List ℕ) (t : Table) → readTable s ≡ accepted t → records maxChains s 0 empty ≡ accepted t
+pub started : (s : List ℕ) (t : Table) → readTable s ≡ accepted t → records maxChains s 0 empty ≡ accepted t
 unfolding readTable
 started s t =
     when-cases (λ r. r ≡ accepted t → records maxChains s 0 empty ≡ accepted t) (eqb (length s) 0 || ltb (limitOf (word 2 s 0)) (length s))

@@ -1,15 +1,14 @@
 -- The stored records of an accepted table: its bytes are these records one after the other. Assumes nothing.
 use Prim.Native.Nat.{ℕ, zero, suc, _+_, _<_, _≤_}
 use native.Mathlib.Omega.{arith}
-use mathlib.Core.Path.{_≡_, refl, ap, sym, _∙_}
+use mathlib.Core.Path.{_≡_, refl, ap, sym, subst, _∙_}
 use mathlib.Core.List.{List, [], _∷_, _++_, flatten, append-assoc}
 use lib.ListN.{length, getD, take, drop, set, take-append-drop, length-take, length-drop, length-map}
-use lib.Seq.{getD-take, getD-drop, take-take, drop-drop}
+use lib.Seq.{getD-take, take-take, drop-drop}
 use Rattle.search.specs.Lists.{sumOf, All}
 use Rattle.table.specs.Bytes.{Bytes}
 use Rattle.table.specs.Record.{formAt, idAt, lengthAt, rowAt, blank}
 use Rattle.table.specs.Find.{rowOf}
-use Rattle.table.specs.Fault.{markOf}
 use Rattle.table.specs.Read.{accepted, readTable}
 use Rattle.table.specs.Place.{lengthOf, placeOf}
 use Rattle.table.specs.declared.Row.{Row}
@@ -17,8 +16,8 @@ use Rattle.table.specs.declared.Table.{Table}
 use Rattle.table.proofs.Standing.{place-none, place-on}
 use Rattle.slices.specs.Stored.{recordOf, formIn}
 use Rattle.slices.specs.Slices.{splice}
-use Rattle.slices.proofs.Stored.{record-is, stored-good, stored-holds, record-size}
-use Rattle.slices.proofs.Moved.{SameBytes, length-moved, mark-moved, row-moved}
+use Rattle.slices.proofs.Stored.{record-is, stored-good, stored-holds}
+use Rattle.slices.proofs.Cuts.{cut, cut-row, cut-whole}
 use Rattle.slices.proofs.Parts.{Whole, Parts, rowIn, row-size, all-at, map-at, place-sum, stands-there, parts-splice}
 use Rattle.slices.proofs.Parsed.{parts-rows}
 
@@ -44,21 +43,17 @@ module _ (s : List ℕ) (t : Table) (read : readTable s ≡ accepted t) (bytes :
     unfolding rowAt
     size-there = ap lengthOf (stored-holds s t read bytes .makes chain h)
 
-    pub moved : SameBytes (recordOf s chain) s 0 (placeOf t chain) (lengthAt s (placeOf t chain))
-    unfolding SameBytes
-    moved i l =
-        let e : 0 + i ≡ i = omega arith in
-        let m : i < lengthOf (rowOf t chain) = omega (arith, size-there) in
-        rw (e, record-is s t read chain, getD-take (lengthOf (rowOf t chain)) (drop (placeOf t chain) s) i 0 m) (getD-drop (placeOf t chain) s i 0)
+    pub record-there : placeOf t chain + lengthAt s (placeOf t chain) ≤ length s
+    record-there = omega (arith, size-there, stored-holds s t read bytes .inside chain h)
+
+    pub record-cut : recordOf s chain ≡ cut s (placeOf t chain)
+    record-cut = record-is s t read chain ∙ ap (λ n. take n (drop (placeOf t chain) s)) (sym size-there)
 
     pub record-whole : Whole (recordOf s chain)
-    record-whole = record {
-      mark = ap markOf (mark-moved (recordOf s chain) s 0 (placeOf t chain) moved) ∙ stored-holds s t read bytes .marks chain h;
-      long = record-size s t read bytes chain h ∙ sym size-there ∙ sym (length-moved (recordOf s chain) s 0 (placeOf t chain) moved);
-    }
+    record-whole = subst Whole (sym record-cut) (cut-whole s (placeOf t chain) record-there (stored-holds s t read bytes .marks chain h))
 
     pub record-row : rowIn (recordOf s chain) ≡ rowOf t chain
-    record-row = row-moved (recordOf s chain) s 0 (placeOf t chain) moved ∙ stored-holds s t read bytes .makes chain h
+    record-row = ap rowIn record-cut ∙ cut-row s (placeOf t chain) record-there ∙ stored-holds s t read bytes .makes chain h
 
     pub record-id : idAt (recordOf s chain) 0 ≡ rowOf t chain .id
     unfolding rowAt

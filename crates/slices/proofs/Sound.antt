@@ -9,7 +9,7 @@ use mathlib.Core.Logic.{⊎-elim}
 use borrow.Author.Tests.{ltb-true}
 use lib.ListN.{length, getD, take, drop, length-append, length-drop, take-append-drop}
 use lib.Dec.{ltb}
-use lib.Seq.{getD-drop, drop-drop, drop-at, drop-cons, drop-length, take-suc, take-take}
+use lib.Seq.{getD-drop, drop-cons, drop-length, take-suc, take-take}
 use Rattle.search.specs.Lists.{sumOf, All}
 use Rattle.search.proofs.Choice.{lt-or-le}
 use Rattle.search.proofs.Lists.{sum-append}
@@ -34,11 +34,12 @@ use Rattle.table.proofs.Lists.{length-spaced}
 use Rattle.table.proofs.Goods.{distances-read, largests-read}
 use Rattle.table.proofs.Stands.{priority-at, cost-at}
 use Rattle.slices.specs.Stored.{recordOf, formIn, OneForm, Mixed}
-use Rattle.slices.proofs.Moved.{SameBytes, word-moved, tasks-moved, length-moved, mark-moved, id-moved, task-mark-moved, row-moved}
+use Rattle.slices.proofs.Moved.{SameBytes, word-moved, tasks-moved, mark-moved, id-moved, task-mark-moved, row-moved}
+use Rattle.slices.proofs.Cuts.{cut, cut-same, cut-row, cut-tasks, cut-whole}
 use Rattle.slices.proofs.Parts.{Whole, Parts, rowIn, all-at}
-use Rattle.slices.proofs.Parsed.{stands}
+use Rattle.slices.proofs.Parsed.{stands, stands-rest}
 use Rattle.slices.proofs.Stored.{accepted-read, stored-good, stored-holds}
-use Rattle.slices.proofs.Records.{moved, record-whole, record-row, parts-form}
+use Rattle.slices.proofs.Records.{record-there, record-cut, parts-form}
 
 -- a chain record by itself that an accepted table could hold
 pub record Sound (r : List ℕ) : Type 0 where
@@ -46,23 +47,26 @@ pub record Sound (r : List ℕ) : Type 0 where
   pub good : GoodRow (rowIn r)
   pub task-marks : (i : ℕ) → i < tasksAt r 0 → markOf (word 2 r (firstTask r 0 + 8 * i)) ≡ Task
 
--- each stored record of an accepted table is one
-module _ (s : List ℕ) (t : Table) (read : readTable s ≡ accepted t) (bytes : Bytes s) (chain : ℕ) (h : chain < t .count) where
-  marks-there : (i : ℕ) → i < tasksAt s (placeOf t chain) → markOf (word 2 s (firstTask s (placeOf t chain) + 8 * i)) ≡ Task
-  unfolding rowAt
-  marks-there =
-      subst (λ (r : Row). (i : ℕ) → i < r .tasks → markOf (word 2 s (firstTask s (placeOf t chain) + 8 * i)) ≡ Task)
-      (sym (stored-holds s t read bytes .makes chain h)) (stored-holds s t read bytes .task-marks chain h)
+-- one that is cut out of bytes is
+pub cut-sound : (s : List ℕ) (at : ℕ) → at + lengthAt s at ≤ length s → markOf (word 2 s at) ≡ Chain → GoodRow (rowAt s at)
+    → ((i : ℕ) → i < tasksAt s at → markOf (word 2 s (firstTask s at + 8 * i)) ≡ Task) → Sound (cut s at)
+cut-sound s at there mark good tasks = record {
+  whole = cut-whole s at there mark;
+  good = subst GoodRow (sym (cut-row s at there)) good;
+  task-marks = λ i l. let k : i < tasksAt s at = omega (arith, cut-tasks s at there) in
+      ap markOf (task-mark-moved (cut s at) s 0 at (cut-same s at there) i k) ∙ tasks i k;
+}
 
+-- so each stored record of an accepted table is
+module _ (s : List ℕ) (t : Table) (read : readTable s ≡ accepted t) (bytes : Bytes s) (chain : ℕ) (h : chain < t .count) where
   pub record-sound : Sound (recordOf s chain)
+  unfolding rowAt
   record-sound =
-      let same = moved s t read bytes chain h in
-      record {
-        whole = record-whole s t read bytes chain h;
-        good = subst GoodRow (sym (record-row s t read bytes chain h)) (stored-good s t read bytes .row chain h);
-        task-marks = λ i l. let k : i < tasksAt s (placeOf t chain) = omega (arith, tasks-moved (recordOf s chain) s 0 (placeOf t chain) same) in
-            ap markOf (task-mark-moved (recordOf s chain) s 0 (placeOf t chain) same i k) ∙ marks-there i k;
-      }
+      let holds = stored-holds s t read bytes in
+      let made = sym (holds .makes chain h) in
+      subst Sound (sym (record-cut s t read bytes chain h))
+      (cut-sound s (placeOf t chain) (record-there s t read bytes chain h) (holds .marks chain h) (subst GoodRow made (stored-good s t read bytes .row chain h))
+      (subst (λ (r : Row). (i : ℕ) → i < r .tasks → markOf (word 2 s (firstTask s (placeOf t chain) + 8 * i)) ≡ Task) made (holds .task-marks chain h)))
 
 -- as many tasks as records have
 abbrev pub tasksIn : List (List ℕ) → ℕ
@@ -147,10 +151,7 @@ module _ (rs : List (List ℕ)) (e s : List ℕ) (p : Parts s rs e) (sound : All
   goes-on : (n : ℕ) → n ≤ length rs → drop (recordStart s n) s ≡ rest n
   unfolding recordStart
   goes-on zero h = p .bytes
-  goes-on (suc n) h =
-      let d = goes-on n (omega arith) in
-      let size : lengthAt s (recordStart s n) ≡ length (recordAt n) = length-moved s (recordAt n) (recordStart s n) 0 (here n h d) ∙ sym (all-at Whole rs n [] (p .whole) h .long) in
-      rw (size, ← drop-drop (length (recordAt n)) (recordStart s n) s, d, rest-on n h) (drop-at (recordAt n) (rest (suc n)) (length (recordAt n)) refl)
+  goes-on (suc n) h = stands-rest s (recordStart s n) (recordAt n) (rest (suc n)) (goes-on n (omega arith) ∙ rest-on n h) (all-at Whole rs n [] (p .whole) h)
 
   -- at least the end record's four bytes follow
   long : (n : ℕ) → n ≤ length rs → recordStart s n + 4 ≤ length s

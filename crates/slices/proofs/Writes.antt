@@ -7,6 +7,8 @@ use mathlib.Core.List.{List, [], _∷_, _++_, append-assoc, append-nil}
 use lib.ListN.{length, take, drop, set, length-append, length-take, length-drop, length-set, take-append-drop, drop-of-length-le}
 use lib.Seq.{set-split, append-snoc, take-at, drop-append-add, drop-drop, length-take-le, take-all, take-length}
 use borrow.Rule.Slice.PartMut.{putMid}
+use Rattle.table.specs.Bytes.{bytesOf}
+use Rattle.table.proofs.Words.{length-bytes}
 use Rattle.slices.specs.code.Wrote.{Wrote}
 
 -- nothing
@@ -62,3 +64,13 @@ wrote-on {before} {mid} {after} {p} {q} {at} {next} {end} a b =
       long = b .long ∙ a .long;
       ends = omega (arith, a .ends, b .ends);
     }
+
+-- a number
+pub wrote-number : (before : List ℕ) (at n x : ℕ) (after : List ℕ) (next : ℕ) → next ≡ at + n → at + n ≤ length before
+    → after ≡ take at before ++ bytesOf n x ++ drop (at + n) before → Wrote before at (bytesOf n x) after next
+wrote-number before at n x after next e h w = wrote-put before at (bytesOf n x) after n next (length-bytes n x) e h w
+
+-- and one after what was put
+pub number-on : {before mid text after : List ℕ} {at here : ℕ} → Wrote before at text mid here → (n x next : ℕ) → next ≡ here + n → here + n ≤ length before
+    → after ≡ take here mid ++ bytesOf n x ++ drop (here + n) mid → Wrote before at (text ++ bytesOf n x) after next
+number-on {before} {mid} {text} {after} {at} {here} w n x next e h p = wrote-on w (wrote-number mid here n x after next e (omega (arith, w .long)) p)

@@ -4,7 +4,7 @@ use native.Mathlib.Omega.{arith}
 use native.Mathlib.Numerals.{add-one}
 use mathlib.Core.Path.{_≡_, refl, ap, sym, _∙_}
 use mathlib.Core.List.{List}
-use mathlib.Core.Bool.{false, not, _||_}
+use mathlib.Core.Bool.{false, _||_}
 use mathlib.Core.Logic.{⊎-elim}
 use borrow.Author.Count.{below-more}
 use borrow.Author.Tests.{ltb-false, lt-ltb, eqb-false, eqb-true, not-false}
@@ -19,8 +19,8 @@ use Rattle.table.specs.Limits.{maxChains, maxAllTasks}
 use Rattle.table.specs.Bytes.{word, Bytes}
 use Rattle.table.specs.Record.{blank, formAt, idAt, firstTask, lengthAt, rowAt}
 use Rattle.table.specs.Find.{rowOf, rows, findOf, used}
-use Rattle.table.specs.Fault.{markOf, chainFault, endFault}
-use Rattle.table.specs.Read.{empty, plus, refusal, accepted, unless, byMark, formed, start, records, limitOf, readTable}
+use Rattle.table.specs.Fault.{markOf, chainFault, besideFault, endFault}
+use Rattle.table.specs.Read.{empty, plus, refusal, accepted, unless, byMark, start, records, limitOf, readTable}
 use Rattle.table.specs.Place.{lengthOf, placeOf}
 use Rattle.table.specs.code.Good.{GoodRow, GoodTable}
 use Rattle.table.specs.code.Taken.{Taken, Holds}
@@ -32,7 +32,7 @@ use Rattle.table.specs.declared.Mark.the-variants.{Chain, Task, End, Unk
 use Rattle.table.specs.declared.Verdict.{Verdict}
 use Rattle.table.specs.declared.Verdict.the-variants.{Accepted, Refused}
 use Rattle.table.proofs.Firsts.{or-right, not-accepted, when-none}
-use Rattle.table.proofs.Faultless.{chain-right}
+use Rattle.table.proofs.Faultless.{chain-right, BesideRight, beside-right}
 use Rattle.table.proofs.Goods.{row-good}
 use Rattle.table.proofs.Standing.{place-none}
 use Rattle.table.proofs.Steps.{read-long}
@@ -72,7 +72,7 @@ kept-empty s = record {
 }
 
 -- an id that is not used is no earlier row's
-fresh : (t : Table) (id : ℕ) → used t id ≡ false → (chain : ℕ) → chain < t .count → rowOf t chain .id ≡ id → ⊥
+pub fresh : (t : Table) (id : ℕ) → used t id ≡ false → (chain : ℕ) → chain < t .count → rowOf t chain .id ≡ id → ⊥
 unfolding findOf
 fresh t id e chain h =
     let g : t .count ≤ findOf t id = ltb-false _ _ e in
@@ -180,25 +180,24 @@ end-sound s at t g mark e a =
       },
     )
 
-start-sound : (s : List ℕ) (at : ℕ) (t : Table) (chain : Reading) → RowsKept s at t → (markOf (word 2 s at) ≡ Chain → formAt s at ≡ formAt s 0 → GoodReading s chain)
-    → GoodReading s (start s at t chain)
-unfolding start formed
-start-sound s at t chain g f =
+start-sound : (s : List ℕ) (at : ℕ) (t : Table) (next : Reading) → RowsKept s at t → (markOf (word 2 s at) ≡ Chain → BesideRight s at (formAt s 0) t → GoodReading s next)
+    → GoodReading s (start s at t next)
+unfolding start
+start-sound s at t next g f =
     when-cases (GoodReading s) (ltb (length s) (at + 2)) (λ e. refused s 2 (length s)) (λ e. by (markOf (word 2 s at)) refl)
   where
-    by : (m : Mark) → markOf (word 2 s at) ≡ m → GoodReading s (byMark at m (formed s at chain) (unless refusal (endFault s at t) (accepted t)))
-    by Chain e = when-cases (GoodReading s) (not (eqb (formAt s at) (formAt s 0))) (λ h. refused s 3 at) (λ h. f e (eqb-true _ _ (not-false _ h)))
+    by : (m : Mark) → markOf (word 2 s at) ≡ m → GoodReading s (byMark at m (unless refusal (besideFault s at (formAt s 0) t) next) (unless refusal (endFault s at t) (accepted t)))
+    by Chain e = unless-sound s (besideFault s at (formAt s 0) t) next (λ h. f e (beside-right s at (formAt s 0) t h))
     by Task e = refused s 3 at
     by End e = unless-sound s (endFault s at t) (accepted t) (end-sound s at t g e)
     by Unknown e = refused s 3 at
 
 records-sound : (left : ℕ) (s : List ℕ) (at : ℕ) (t : Table) → Bytes s → RowsKept s at t → t .count + left ≤ maxChains → GoodReading s (records left s at t)
 unfolding records
-records-sound zero s at t bytes g h = start-sound s at t (refusal 11 at) g (λ m f. refused s 11 at)
+records-sound zero s at t bytes g h = start-sound s at t (refusal 11 at) g (λ m r. refused s 11 at)
 records-sound (suc left) s at t bytes g h =
     start-sound s at t _ g
-    (λ m f. unless-sound s (chainFault s at t) (records left s (at + lengthAt s at) (plus t (rowAt s at)))
-    (λ e. records-sound left s (at + lengthAt s at) (plus t (rowAt s at)) bytes (kept-plus s at t g bytes (omega arith) m f e) (omega arith)))
+    (λ m r. records-sound left s (at + lengthAt s at) (plus t (rowAt s at)) bytes (kept-plus s at t g bytes (omega arith) m (r .form) (r .chain)) (omega arith))
 
 sound : (s : List ℕ) → Bytes s → GoodReading s (readTable s)
 unfolding readTable

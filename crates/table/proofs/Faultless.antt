@@ -1,21 +1,22 @@
 -- What the absence of a fault says of a record. Assumes nothing.
 use Prim.Native.Nat.{ℕ, zero, suc, _+_, _*_, _-_, _<_, _≤_}
 use native.Mathlib.Omega.{arith}
-use mathlib.Core.Path.{_≡_, refl}
+use mathlib.Core.Path.{_≡_, refl, ap, _∙_}
 use mathlib.Core.List.{List}
-use mathlib.Core.Bool.{false}
+use mathlib.Core.Bool.{false, not}
 use lib.ListN.{length}
 use lib.Dec.{eqb}
-use borrow.Author.Tests.{ltb-false, eqb-false}
-use Rattle.table.specs.Limits.{maxDeadline, maxGap, maxDistances, maxTasks, maxAllTasks, maxCost}
+use borrow.Author.Tests.{ltb-false, eqb-true, eqb-false, eq-eqb, ne-eqb, not-false}
+use Rattle.search.proofs.Choice.{when-yes, when-no}
+use Rattle.table.specs.Limits.{maxChains, maxDeadline, maxGap, maxDistances, maxTasks, maxAllTasks, maxCost}
 use Rattle.table.specs.Bytes.{word}
 use Rattle.table.specs.Record.{formAt, idAt, kindAt, overloadAt, deadlineAt, gapPlace, gapAt, flagAt, headLength, listedAt, tasksAt, listPlace, largestPlace, firstTask, lengthAt, priorityAt, costAt, distancesAt, largestsAt}
 use Rattle.table.specs.Find.{used}
-use Rattle.table.specs.Fault.{outside, markOf, noTask, identityFault, timesFault, countsFault, headFault, fallFault, lastFault, gapFault, distancesFault, listFault, shortFault, largestFault, taskMarkFault, valuesFault, taskRestFault, taskFault, tasksFault, chainFault}
+use Rattle.table.specs.Fault.{outside, markOf, noTask, identityFault, timesFault, countsFault, headFault, fallFault, lastFault, gapFault, distancesFault, listFault, shortFault, largestFault, taskMarkFault, valuesFault, taskRestFault, taskFault, tasksFault, chainFault, besideFault}
 use Rattle.table.specs.declared.Table.{Table}
 use Rattle.table.specs.declared.Mark.{Mark}
 use Rattle.table.specs.declared.Mark.the-variants.{Chain, Task, End, Unknown}
-use Rattle.table.specs.declared.Verdict.the-variants.{Accepted}
+use Rattle.table.specs.declared.Verdict.the-variants.{Accepted, Refused}
 use Rattle.table.proofs.Firsts.{none-or, not-accepted, when-none, then-none}
 
 pub inside : (low high x : ℕ) → outside low high x ≡ false → (low ≤ x) × (x ≤ high)
@@ -146,3 +147,29 @@ chain-right s at t e =
     let tasks = tasks-right s (tasksAt s at) (firstTask s at) (e3 .1) in
     let last = tasks (tasksAt s at - 1) (omega (arith, head .tasks .0)) in
     record { head = head; list = list-right s at (e2 .0); largest = largest-right s at (e3 .0); tasks = tasks; there = omega (arith, last .there, head .tasks .0) }
+
+pub record BesideRight (s : List ℕ) (at f : ℕ) (t : Table) : Type 0 where
+  pub form : formAt s at ≡ f
+  pub room : t .count ≡ maxChains → ⊥
+  pub chain : chainFault s at t ≡ Accepted
+
+pub beside-right : (s : List ℕ) (at f : ℕ) (t : Table) → besideFault s at f t ≡ Accepted → BesideRight s at f t
+unfolding besideFault
+beside-right s at f t e =
+    let form = when-none _ _ _ _ e in
+    let room = when-none _ _ _ _ (form .1) in
+    record { form = eqb-true _ _ (not-false _ (form .0)); room = eqb-false _ _ (room .0); chain = room .1 }
+
+-- a fault of its form, one too many, and what is judged where there is neither
+module _ (s : List ℕ) (at f : ℕ) (t : Table) where
+  pub beside-other : (formAt s at ≡ f → ⊥) → besideFault s at f t ≡ Refused 3 at
+  unfolding besideFault
+  beside-other h = when-yes _ _ (ap not (ne-eqb _ _ h))
+
+  pub beside-full : formAt s at ≡ f → t .count ≡ maxChains → besideFault s at f t ≡ Refused 11 at
+  unfolding besideFault
+  beside-full e n = when-no _ _ (ap not (eq-eqb _ _ e)) ∙ when-yes _ _ (eq-eqb _ _ n)
+
+  pub beside-is : formAt s at ≡ f → (t .count ≡ maxChains → ⊥) → besideFault s at f t ≡ chainFault s at t
+  unfolding besideFault
+  beside-is e h = when-no _ _ (ap not (eq-eqb _ _ e)) ∙ when-no _ _ (ne-eqb _ _ h)

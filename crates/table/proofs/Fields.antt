@@ -17,8 +17,8 @@ use Rattle.table.specs.Limits.{maxChains, maxBytes, maxTasks, maxAllTask
 use Rattle.table.specs.Bytes.{word}
 use Rattle.table.specs.Record.{blank, formAt, idAt, gapPlace, gapAt, flagAt, headLength, listedAt, tasksAt, listPlace, distancesAt, knownAt, largestPlace, largestsAt, firstTask, lengthAt, rowAt}
 use Rattle.table.specs.Find.{rowOf, findOf, used}
-use Rattle.table.specs.Fault.{_then_, outside, markOf, noTask, identityFault, timesFault, countsFault, headFault, fallFault, lastFault, gapShort, gapFault, distancesFault, listFault, shortFault, largestFault, taskMarkFault, valuesFault, taskRestFault, taskFault, tasksFault, chainFault, endFault}
-use Rattle.table.specs.Read.{empty, plus, refusal, accepted, unless, byMark, formed, start, records, limitOf, readTable}
+use Rattle.table.specs.Fault.{_then_, outside, markOf, noTask, identityFault, timesFault, countsFault, headFault, fallFault, lastFault, gapShort, gapFault, distancesFault, listFault, shortFault, largestFault, taskMarkFault, valuesFault, taskRestFault, taskFault, tasksFault, chainFault, besideFault, endFault}
+use Rattle.table.specs.Read.{empty, plus, refusal, accepted, unless, byMark, start, records, limitOf, readTable}
 use Rattle.table.specs.Field.{recordStart, tasksBefore, ChainMark, Chains, EndMark, EndRecord, ChainRecord, ListThere, LargestThere, taskPlace, TaskThere, beforeOf, FirstFall, Rises, Blames, TableRefusal, Placed}
 use Rattle.table.specs.declared.Row.{Row}
 use Rattle.table.specs.declared.Table.{Table}
@@ -31,7 +31,7 @@ use Rattle.table.proofs.Lists.{length-spaced}
 use Rattle.table.proofs.Firsts.{or-right, or-cases, not-accepted, when-none}
 use Rattle.table.proofs.Steps.{read-long}
 use Rattle.table.proofs.Widths.{known-most, beyond-both}
-use Rattle.table.proofs.Faultless.{head-right, list-right, largest-right, not-zero}
+use Rattle.table.proofs.Faultless.{head-right, list-right, largest-right, not-zero, BesideRight, beside-right}
 
 -- a verdict that refuses points at such a field
 abbrev Points : List ℕ → Verdict → Type 0
@@ -297,17 +297,30 @@ unfolding unless PointsAt
 unless-points s Accepted r p q = q refl
 unless-points s (Refused n place) r p q = p
 
-start-points : (s : List ℕ) (n : ℕ) (t : Table) (chain : Reading) → Walked s n t → n ≤ maxChains
-    → (recordStart s n + 2 ≤ length s → ChainMark s (recordStart s n) → PointsAt s chain) → PointsAt s (start s (recordStart s n) t chain)
-unfolding start formed PointsAt
-start-points s n t chain w few f =
+-- a chain beside those before it: its form, one too many, or itself
+beside-points : (s : List ℕ) (n : ℕ) (t : Table) → Walked s n t → n ≤ maxChains → recordStart s n + 2 ≤ length s → markOf (word 2 s (recordStart s n)) ≡ Chain
+    → Points s (besideFault s (recordStart s n) (formAt s 0) t)
+unfolding besideFault
+beside-points s n t w few there mark =
+    when-cases (Points s) (not (eqb (formAt s (recordStart s n)) (formAt s 0)))
+    (λ h. Blames.atForm n (record { few = few; before = w .chains; there = there; chain = mark; other = eqb-false _ _ (not-true _ h) }))
+    (λ h. let m : ChainMark s (recordStart s n) = record { chain = mark; form = eqb-true _ _ (not-false _ h) } in
+    when-cases (Points s) (eqb (t .count) maxChains)
+    (λ e. let f : n ≡ maxChains = sym (w .count) ∙ eqb-true _ _ e in
+    subst (λ k. Chains s (suc k) → recordStart s k + 2 ≤ length s → Blames s 11 (recordStart s k)) (sym f) (λ c h. Blames.atSeventeenth c h) (chain-marks s n t w m) there)
+    (λ e. let f : t .count ≡ maxChains → ⊥ = eqb-false _ _ e in chain-points s n t w (omega (arith, w .count)) m))
+
+start-points : (s : List ℕ) (n : ℕ) (t : Table) (next : Reading) → Walked s n t → n ≤ maxChains
+    → (ChainMark s (recordStart s n) → BesideRight s (recordStart s n) (formAt s 0) t → PointsAt s next) → PointsAt s (start s (recordStart s n) t next)
+unfolding start PointsAt
+start-points s n t next w few f =
     when-cases (PointsAt s) (ltb (length s) (recordStart s n + 2)) (λ e. Blames.inMark n few (w .chains) (ltb-true _ _ e)) (λ e. by (ltb-false _ _ e) (markOf (word 2 s (recordStart s n))) refl)
   where
-    by : recordStart s n + 2 ≤ length s → (m : Mark) → markOf (word 2 s (recordStart s n)) ≡ m → PointsAt s (byMark (recordStart s n) m (formed s (recordStart s n) chain) (unless refusal (endFault s (recordStart s n) t) (accepted t)))
+    by : recordStart s n + 2 ≤ length s → (m : Mark) → markOf (word 2 s (recordStart s n)) ≡ m
+        → PointsAt s (byMark (recordStart s n) m (unless refusal (besideFault s (recordStart s n) (formAt s 0) t) next) (unless refusal (endFault s (recordStart s n) t) (accepted t)))
     by there Chain e =
-        when-cases (PointsAt s) (not (eqb (formAt s (recordStart s n)) (formAt s 0)))
-        (λ h. Blames.atForm n (record { few = few; before = w .chains; there = there; chain = e; other = eqb-false _ _ (not-true _ h) }))
-        (λ h. f there (record { chain = e; form = eqb-true _ _ (not-false _ h) }))
+        unless-points s (besideFault s (recordStart s n) (formAt s 0) t) next (beside-points s n t w few there e)
+        (λ h. let r = beside-right s (recordStart s n) (formAt s 0) t h in f (record { chain = e; form = r .form }) r)
     by there End e = unless-points s (endFault s (recordStart s n) t) (accepted t) (end-points s n t w few e) (λ g. tt)
     by there Task e = Blames.atMark n (record { few = few; before = w .chains; there = there; unknown = (λ g. let h = sym e ∙ g in let z : _≡_ {A = ℕ} 0 1 = cc in omega arith, λ g. let h = sym e ∙ g in let z : _≡_ {A = ℕ} 0 1 = cc in omega arith) })
     by there Unknown e = Blames.atMark n (record { few = few; before = w .chains; there = there; unknown = (λ g. let h = sym e ∙ g in let z : _≡_ {A = ℕ} 0 1 = cc in omega arith, λ g. let h = sym e ∙ g in let z : _≡_ {A = ℕ} 0 1 = cc in omega arith) })
@@ -315,13 +328,10 @@ start-points s n t chain w few f =
 records-points : (left : ℕ) (s : List ℕ) (n : ℕ) (t : Table) → Walked s n t → n + left ≡ maxChains → PointsAt s (records left s (recordStart s n) t)
 unfolding records recordStart PointsAt
 records-points zero s n t w e =
-    start-points s n t (refusal 11 (recordStart s n)) w (omega arith)
-    (λ there mark. let f : n ≡ maxChains = omega arith in
-    subst (λ k. Chains s (suc k) → recordStart s k + 2 ≤ length s → Blames s 11 (recordStart s k)) (sym f) (λ c h. Blames.atSeventeenth c h) (chain-marks s n t w mark) there)
+    start-points s n t (refusal 11 (recordStart s n)) w (omega arith) (λ mark r. absurd (r .room (w .count ∙ omega arith)))
 records-points (suc left) s n t w e =
     start-points s n t _ w (omega arith)
-    (λ there mark. unless-points s (chainFault s (recordStart s n) t) _ (chain-points s n t w (omega arith) mark)
-    (λ f. records-points left s (suc n) (plus t (rowAt s (recordStart s n))) (walked-on s n t w (omega arith) mark) (omega arith)))
+    (λ mark r. records-points left s (suc n) (plus t (rowAt s (recordStart s n))) (walked-on s n t w (omega arith) mark) (omega arith))
 
 walked-none : (s : List ℕ) → Walked s 0 empty
 unfolding tasksBefore

@@ -9,13 +9,21 @@ use mathlib.Core.List.{List}
 use lib.Dec.{eqb}
 use lib.ListN.{length, take, drop}
 use Rattle.search.specs.Choice.{_when_else_}
+use Rattle.search.proofs.Choice.{true-not-false}
 use Rattle.table.specs.Bytes.{word, bytesOf, Bytes}
 use Rattle.table.specs.Record.{gapForm, largestForm, taskMark, endMark, taskRecord, priorityAt, costAt}
-use Rattle.table.specs.Fault.{markOf}
+use Rattle.table.specs.Fault.{markOf, isChain}
 use Rattle.table.specs.declared.Mark.{Mark}
 use Rattle.table.specs.declared.Mark.the-variants.{Chain, Task, End, Unknown}
 use Rattle.table.proofs.Firsts.{or-cases}
 use Rattle.table.proofs.Words.{word-back, take-next}
+
+-- what is told to be a chain's is
+pub chain-told : (m : Mark) → isChain m ≡ true → m ≡ Chain
+chain-told Chain e = refl
+chain-told Task e = absurd (true-not-false e refl)
+chain-told End e = absurd (true-not-false e refl)
+chain-told Unknown e = absurd (true-not-false e refl)
 
 -- a chain's mark is that of a form
 pub chain-form : (w : ℕ) → markOf w ≡ Chain → (w ≡ gapForm) ⊎ (w ≡ largestForm)

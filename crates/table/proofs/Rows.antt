@@ -4,7 +4,7 @@ use native.Mathlib.Omega.{arith}
 use native.Mathlib.Numerals.{add-one}
 use mathlib.Core.Path.{_≡_, refl, ap, ap₂, sym, _∙_}
 use mathlib.Core.List.{List}
-use mathlib.Core.Bool.{not, _||_}
+use mathlib.Core.Bool.{_||_}
 use mathlib.Core.Logic.{⊎-elim}
 use borrow.Author.Count.{below-more}
 use lib.ListN.{length, take, length-set, length-replicate, getD-replicate}
@@ -17,8 +17,8 @@ use Rattle.table.specs.Limits.{maxChains, maxTasks}
 use Rattle.table.specs.Bytes.{word}
 use Rattle.table.specs.Record.{blank, formAt, lengthAt, rowAt}
 use Rattle.table.specs.Find.{rowOf}
-use Rattle.table.specs.Fault.{markOf, chainFault, endFault}
-use Rattle.table.specs.Read.{empty, plus, refusal, accepted, unless, byMark, formed, start, records, limitOf, readTable}
+use Rattle.table.specs.Fault.{markOf, besideFault, endFault}
+use Rattle.table.specs.Read.{empty, plus, refusal, accepted, unless, byMark, start, records, limitOf, readTable}
 use Rattle.table.specs.code.Good.{GoodTable}
 use Rattle.table.specs.declared.Row.{Row}
 use Rattle.table.specs.declared.Table.{Table}
@@ -90,18 +90,17 @@ module _ (P : Reading → Type 0) (faulty : (n place : ℕ) → P (refusal n pla
   mark-is at End chain end p q = q
   mark-is at Unknown chain end p q = faulty 3 at
 
-  start-is : (s : List ℕ) (at : ℕ) (t : Table) (chain : Reading) → P chain → P (start s at t chain)
-  unfolding start formed
-  start-is s at t chain p =
+  start-is : (s : List ℕ) (at : ℕ) (t : Table) (next : Reading) → P next → P (start s at t next)
+  unfolding start
+  start-is s at t next p =
       when-cases P (ltb (length s) (at + 2)) (λ e. faulty 2 (length s))
-      (λ e. mark-is at (markOf (word 2 s at)) (formed s at chain) (unless refusal (endFault s at t) (accepted t))
-      (when-cases P (not (eqb (formAt s at) (formAt s 0))) (λ f. faulty 3 at) (λ f. p)) (unless-is (endFault s at t) (accepted t) (right t)))
+      (λ e. mark-is at (markOf (word 2 s at)) (unless refusal (besideFault s at (formAt s 0) t) next) (unless refusal (endFault s at t) (accepted t))
+      (unless-is (besideFault s at (formAt s 0) t) next p) (unless-is (endFault s at t) (accepted t) (right t)))
 
   records-is : (left : ℕ) (s : List ℕ) (at : ℕ) (t : Table) → P (records left s at t)
   unfolding records
   records-is zero s at t = start-is s at t (refusal 11 at) (faulty 11 at)
-  records-is (suc left) s at t =
-      start-is s at t _ (unless-is (chainFault s at t) _ (records-is left s (at + lengthAt s at) (plus t (rowAt s at))))
+  records-is (suc left) s at t = start-is s at t _ (records-is left s (at + lengthAt s at) (plus t (rowAt s at)))
 
   pub reading-is : (s : List ℕ) → P (readTable s)
   unfolding readTable

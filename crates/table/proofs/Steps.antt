@@ -1,21 +1,23 @@
 -- Laws of `records`: what the record at a place does. Assumes nothing.
 use Prim.Native.Nat.{ℕ, zero, suc, _+_, _-_, _<_, _≤_}
 use native.Mathlib.Omega.{arith}
-use mathlib.Core.Path.{_≡_, refl}
+use mathlib.Core.Path.{_≡_, refl, _∙_}
 use mathlib.Core.List.{List}
 use mathlib.Core.Bool.{true, false, _||_}
 use lib.ListN.{length}
 use lib.Dec.{ltb, eqb}
-use borrow.Author.Tests.{lt-ltb, le-ltb, eq-eqb, ne-eqb}
+use borrow.Author.Tests.{lt-ltb, le-ltb}
 use Rattle.search.specs.Choice.{_when_else_}
 use Rattle.table.specs.Limits.{maxChains}
 use Rattle.table.specs.Bytes.{word}
 use Rattle.table.specs.Record.{formAt, rowAt, lengthAt}
-use Rattle.table.specs.Fault.{markOf, chainFault, endFault}
-use Rattle.table.specs.Read.{empty, plus, refusal, accepted, unless, byMark, formed, start, records, limitOf, readTable}
+use Rattle.table.specs.Fault.{markOf, besideFault, endFault}
+use Rattle.table.specs.Read.{empty, plus, refusal, accepted, unless, byMark, start, records, limitOf, readTable}
 use Rattle.table.specs.declared.Table.{Table}
 use Rattle.table.specs.declared.Mark.{Mark}
 use Rattle.table.specs.declared.Mark.the-variants.{Chain, Task, End, Unknown}
+use Rattle.table.specs.declared.Verdict.the-variants.{Accepted, Refused}
+use Rattle.table.proofs.Firsts.{unless-none}
 
 -- the length is judged first
 pub read-long : (s : List ℕ) → (eqb (length s) 0 || ltb (limitOf (word 2 s 0)) (length s)) ≡ true → readTable s ≡ refusal 1 0
@@ -46,20 +48,18 @@ module _ (s : List ℕ) (at : ℕ) (t : Table) where
     records-mark (suc left) Unknown e h = rw (le-ltb _ _ there, e)
 
     module _ (chain : markOf (word 2 s at) ≡ Chain) where
-      pub records-other : (left : ℕ) → (formAt s at ≡ formAt s 0 → ⊥) → records left s at t ≡ refusal 3 at
-      unfolding records start formed _when_else_
-      records-other zero h = rw (le-ltb _ _ there, chain, ne-eqb _ _ h)
-      records-other (suc left) h = rw (le-ltb _ _ there, chain, ne-eqb _ _ h)
+      pub records-refused : (left : ℕ) {n place : ℕ} → besideFault s at (formAt s 0) t ≡ Refused n place → records left s at t ≡ refusal n place
+      unfolding records start unless _when_else_
+      records-refused zero h = rw (le-ltb _ _ there, chain, h)
+      records-refused (suc left) h = rw (le-ltb _ _ there, chain, h)
 
-      module _ (form : formAt s at ≡ formAt s 0) where
-        pub records-full : t .count ≡ maxChains → records (maxChains - t .count) s at t ≡ refusal 11 at
-        unfolding records start formed _when_else_
-        records-full e = rw (e, le-ltb _ _ there, chain, eq-eqb _ _ form)
+      pub records-chain : t .count < maxChains
+          → records (maxChains - t .count) s at t ≡ unless refusal (besideFault s at (formAt s 0) t) (records (maxChains - (t .count + 1)) s (at + lengthAt s at) (plus t (rowAt s at)))
+      unfolding records start _when_else_
+      records-chain l =
+          let e : maxChains - t .count ≡ suc (maxChains - (t .count + 1)) = omega arith in
+          rw (e, le-ltb _ _ there, chain)
 
-        pub records-chain : t .count < maxChains
-            → records (maxChains - t .count) s at t
-            ≡ unless refusal (chainFault s at t) (records (maxChains - (t .count + 1)) s (at + lengthAt s at) (plus t (rowAt s at)))
-        unfolding records start formed _when_else_
-        records-chain h =
-            let e : maxChains - t .count ≡ suc (maxChains - (t .count + 1)) = omega arith in
-            rw (e, le-ltb _ _ there, chain, eq-eqb _ _ form)
+      pub records-beside : besideFault s at (formAt s 0) t ≡ Accepted → t .count < maxChains
+          → records (maxChains - t .count) s at t ≡ records (maxChains - (t .count + 1)) s (at + lengthAt s at) (plus t (rowAt s at))
+      records-beside h l = records-chain l ∙ unless-none refusal (besideFault s at (formAt s 0) t) _ h

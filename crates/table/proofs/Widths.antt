@@ -17,6 +17,10 @@ pub width-most : (form : ℕ) → gapWidth form ≤ 4
 unfolding gapWidth
 width-most form = when-cases (λ n. n ≤ 4) (eqb form largestForm) (λ e. omega arith) (λ e. omega arith)
 
+pub width-least : (form : ℕ) → 1 ≤ gapWidth form
+unfolding gapWidth
+width-least form = when-cases (λ n. 1 ≤ n) (eqb form largestForm) (λ e. omega arith) (λ e. omega arith)
+
 pub known-most : (form flag listed : ℕ) → known form flag listed ≤ listed
 unfolding known
 known-most form flag listed = when-cases (λ n. n ≤ listed) (eqb form largestForm && eqb flag 1) (λ e. omega arith) (λ e. omega arith)

@@ -2,11 +2,11 @@
 -- the offset of the first byte of the field at fault; where bytes are missing, that is the table's length (02, request 1).
 use Prim.Native.Nat.{ℕ, zero, suc, max, _+_, _*_, _-_}
 use mathlib.Core.List.{List, [], _∷_}
-use mathlib.Core.Bool.{Bool, false, not, _&&_, _||_}
+use mathlib.Core.Bool.{Bool, true, false, not, _&&_, _||_}
 use lib.ListN.{length, getD}
 use lib.Dec.{ltb, eqb}
 use Rattle.search.specs.Choice.{_when_else_}
-use Rattle.table.specs.Limits.{maxDeadline, maxGap, maxDistances, maxDistance, maxLargest, maxTasks, maxAllTasks, maxCost}
+use Rattle.table.specs.Limits.{maxChains, maxDeadline, maxGap, maxDistances, maxDistance, maxLargest, maxTasks, maxAllTasks, maxCost}
 use Rattle.table.specs.Bytes.{word}
 use Rattle.table.specs.Record.{gapForm, largestForm, taskMark, endMark, formAt, idPlace, idAt, kindPlace, kindAt, overloadPlace, overloadAt, deadlinePlace, deadlineAt, gapPlace, gapAt, flagAt, headLength, listedPlace, listedAt, tasksPlace, tasksAt, listPlace, distancesAt, largestPlace, largestsAt, firstTask, priorityPlace, priorityAt, costPlace, costAt, countPlace, countAt, afterEnd}
 use Rattle.table.specs.Find.{used}
@@ -29,6 +29,12 @@ outside low high x = ltb x low || ltb high x
 -- what a mark, as a number, stands for: a chain of either form, a task, the end, or none of them
 unfoldable pub markOf : ℕ → Mark
 markOf m = Chain when eqb m gapForm || eqb m largestForm else Task when eqb m taskMark else End when eqb m endMark else Unknown
+
+abbrev pub isChain : Mark → Bool
+isChain Chain = true
+isChain Task = false
+isChain End = false
+isChain Unknown = false
 
 -- a mark at `at`, where a task's must stand
 abbrev pub noTask : Mark → ℕ → Verdict
@@ -136,6 +142,13 @@ tasksFault s (suc n) at = taskFault s at then tasksFault s n (at + 8)
 -- a chain, its mark known: the fixed part, the list, the largest distances, each task
 unfoldable pub chainFault : List ℕ → ℕ → Table → Verdict
 chainFault s at t = headFault s at t then listFault s at then largestFault s at then tasksFault s (tasksAt s at) (firstTask s at)
+
+-- a chain, its mark known, beside the rows of t, which have this form: its form, then whether it is one too many, then itself
+unfoldable pub besideFault : List ℕ → ℕ → ℕ → Table → Verdict
+besideFault s at form t =
+    Refused 3 at when not (eqb (formAt s at) form) else
+    Refused 11 at when eqb (t .count) maxChains else
+    chainFault s at t
 
 -- the end, its mark known: whole, then the number of chains, and nothing after it
 unfoldable pub endFault : List ℕ → ℕ → Table → Verdict

@@ -1,4 +1,4 @@
--- The limits of document 01, 'What the analyzer covers', and document 02, request 7, each stated once; `Table::limits` ties the code's
+-- The limits of document 01, 'What the analyzer covers', and document 02, requests 7 and 8, each stated once; `Table::limits` ties the code's
 -- constants to them.
 use Prim.Native.Nat.{ℕ}
 use Rattle.table.specs.declared.Limits.{Limits}
@@ -70,6 +70,10 @@ maxBytes = 1748
 abbrev pub maxGapBytes : ℕ
 maxGapBytes = 1284
 
+-- bytes of what a table is salvaged from (02, request 8)
+abbrev pub maxInput : ℕ
+maxInput = 4096
+
 -- all of them
 abbrev pub limits : Limits
 limits =
@@ -91,4 +95,5 @@ limits =
       capacity = maxCapacity;
       bytes = maxBytes;
       gapbytes = maxGapBytes;
+      input = maxInput;
     }

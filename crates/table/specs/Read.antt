@@ -2,14 +2,14 @@
 -- request 1).
 use Prim.Native.Nat.{ℕ, zero, suc, _+_}
 use mathlib.Core.List.{List}
-use mathlib.Core.Bool.{not, _||_}
+use mathlib.Core.Bool.{_||_}
 use lib.ListN.{length, set, replicate}
 use lib.Dec.{ltb, eqb}
 use Rattle.search.specs.Choice.{_when_else_}
 use Rattle.table.specs.Limits.{maxChains, maxBytes, maxGapBytes}
 use Rattle.table.specs.Bytes.{word}
 use Rattle.table.specs.Record.{largestForm, formAt, blank, rowAt, lengthAt}
-use Rattle.table.specs.Fault.{markOf, chainFault, endFault}
+use Rattle.table.specs.Fault.{markOf, besideFault, endFault}
 use Rattle.table.specs.declared.Row.{Row}
 use Rattle.table.specs.declared.Table.{Table}
 use Rattle.table.specs.declared.Mark.{Mark}
@@ -59,21 +59,16 @@ byMark at End chain end = end
 byMark at Task chain end = refusal 3 at
 byMark at Unknown chain end = refusal 3 at
 
--- a chain record at `at` has the form of the first record
-unfoldable pub formed : List ℕ → ℕ → Reading → Reading
-formed s at chain = refusal 3 at when not (eqb (formAt s at) (formAt s 0)) else chain
-
--- the record that starts at `at`, after the rows of t, where `chain` is what a chain of the first record's form leads to
+-- the record that starts at `at`, after the rows of t, where `next` is what a chain beside them leads to; its form is the first record's
 unfoldable pub start : List ℕ → ℕ → Table → Reading → Reading
-start s at t chain =
+start s at t next =
     refusal 2 (length s) when ltb (length s) (at + 2) else
-    byMark at (markOf (word 2 s at)) (formed s at chain) (unless refusal (endFault s at t) (accepted t))
+    byMark at (markOf (word 2 s at)) (unless refusal (besideFault s at (formAt s 0) t) next) (unless refusal (endFault s at t) (accepted t))
 
 -- the records from `at` on, after the rows of t, with room for `left` chains more
 unfoldable pub records : ℕ → List ℕ → ℕ → Table → Reading
 records zero s at t = start s at t (refusal 11 at)
-records (suc left) s at t =
-    start s at t (unless refusal (chainFault s at t) (records left s (at + lengthAt s at) (plus t (rowAt s at))))
+records (suc left) s at t = start s at t (records left s (at + lengthAt s at) (plus t (rowAt s at)))
 
 -- how many bytes a table may have, by its first mark
 unfoldable pub limitOf : ℕ → ℕ

@@ -29,7 +29,7 @@ ghost use Rattle.table.specs.Limits.{maxChains, maxTasks, maxAllTasks, m
 ghost use Rattle.table.specs.Bytes.{word};
 ghost use Rattle.table.specs.Record.{formAt, headLength, gapAt, listedAt, listPlace, largestPlace, spaced};
 ghost use Rattle.table.specs.Find.{used};
-ghost use Rattle.table.specs.Fault.{outside as outsideOf, markOf, identityFault, timesFault, countsFault, headFault, fallFault, lastFault, gapShort, gapFault, distancesFault, listFault, shortFault, largestFault, taskMarkFault, valuesFault, taskFault, tasksFault, chainFault, endFault};
+ghost use Rattle.table.specs.Fault.{outside as outsideOf, markOf, identityFault, timesFault, countsFault, headFault, fallFault, lastFault, gapShort, gapFault, distancesFault, listFault, shortFault, largestFault, taskMarkFault, valuesFault, taskFault, tasksFault, chainFault, besideFault, endFault};
 ghost use Rattle.table.specs.code.Before.{Keeps};
 ghost use Rattle.table.specs.declared.Table.{Table};
 
@@ -377,7 +377,7 @@ fn tasks_fault(s: &[u8], at: usize, n: usize) -> Verdict
 }
 
 // The first fault of the chain record at `at`, its mark known, after the chains before it.
-pub fn chain_fault(s: &[u8], at: usize, ids: &[u16; Table::CHAINS], before: Before) -> Verdict
+fn chain_fault(s: &[u8], at: usize, ids: &[u16; Table::CHAINS], before: Before) -> Verdict
     requires { ⌜ (at + 2 ≤ length (now s)) × (before .count ≤ maxChains) × (before .tasks ≤ maxAllTasks) ⌝ }
     ensures { λ r. ⌜ ((t : Table) → Keeps (now (ids .entry)) before t → r ≡ chainFault (now (s .entry)) at t) ⌝ }
 {
@@ -407,6 +407,27 @@ pub fn chain_fault(s: &[u8], at: usize, ids: &[u16; Table::CHAINS], before: Befo
         }
         Verdict::Refused(_, _) => head,
     }
+}
+
+// The first fault of the chain record at `at`, its mark known, beside the chains before it, which have this form. Whatever takes a chain
+// from bytes asks this.
+pub fn beside_fault(
+    s: &[u8],
+    at: usize,
+    form: u16,
+    ids: &[u16; Table::CHAINS],
+    before: Before,
+) -> Verdict
+    requires { ⌜ (at + 2 ≤ length (now s)) × (before .count ≤ maxChains) × (before .tasks ≤ maxAllTasks) ⌝ }
+    ensures { λ r. ⌜ ((t : Table) → Keeps (now (ids .entry)) before t → r ≡ besideFault (now (s .entry)) at form t) ⌝ }
+{
+    if form_at(s, at) != form {
+        return Verdict::Refused(3, at);
+    }
+    if before.count == Table::CHAINS {
+        return Verdict::Refused(11, at);
+    }
+    chain_fault(s, at, ids, before)
 }
 
 // The fault of the end record at `at`, its mark known, after so many chains.

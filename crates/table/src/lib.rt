@@ -14,6 +14,7 @@ mod reader;
 mod record;
 mod wide;
 
+pub use before::Before;
 pub use bytes::put_u16;
 pub use bytes::put_u32;
 pub use bytes::u16_at;
@@ -21,6 +22,7 @@ pub use bytes::u32_at;
 pub use bytes::u64_at;
 pub use decode::read;
 pub use decode::row_at;
+pub use fault::beside_fault;
 pub use fault::mark_of;
 pub use fault::outside;
 pub use places::count;
@@ -48,6 +50,7 @@ pub use record::overload_at;
 pub use record::priority_at;
 pub use record::record_length;
 pub use record::tasks_at;
+pub use record::tasks_part;
 pub use wide::u16_from_u8;
 pub use wide::u32_from_u8;
 pub use wide::u32_from_u16;
@@ -111,6 +114,7 @@ pub struct Limits {
     pub capacity: u64,
     pub bytes: usize,
     pub gapbytes: usize,
+    pub input: usize,
 }
 
 // What the two bytes of a mark, as a number, stand for.
@@ -184,6 +188,9 @@ impl Table {
 
     pub const GAP_BYTES: usize = 1_284;
 
+    // Of what a table is salvaged from.
+    pub const INPUT: usize = 4_096;
+
     // Every limit as one value: its contract ties each constant to the number of that name in specs/.
     pub fn limits() -> Limits
         ensures { λ r. ⌜ r ≡ allLimits ⌝ }
@@ -206,6 +213,7 @@ impl Table {
             capacity: Table::CAPACITY,
             bytes: Table::BYTES,
             gapbytes: Table::GAP_BYTES,
+            input: Table::INPUT,
         }
     }
 

@@ -4,7 +4,7 @@ use crate::Table;
 use crate::Verdict;
 use crate::before::Before;
 use crate::bytes::u16_at;
-use crate::fault::chain_fault;
+use crate::fault::beside_fault;
 use crate::fault::end_fault;
 use crate::fault::mark_of;
 use crate::record::form_at;
@@ -41,13 +41,7 @@ pub fn judge(s: &[u8]) -> Verdict
     while at + 2 <= s.len() {
         match mark_of(u16_at(s, at)) {
             Mark::Chain => {
-                if form_at(s, at) != form_at(s, 0) {
-                    return Verdict::Refused(3, at);
-                }
-                if before.count == Table::CHAINS {
-                    return Verdict::Refused(11, at);
-                }
-                let chain = chain_fault(s, at, &ids, before);
+                let chain = beside_fault(s, at, form_at(s, 0), &ids, before);
                 match chain {
                     Verdict::Accepted => {
                         let count = before.count;

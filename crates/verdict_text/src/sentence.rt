@@ -1,4 +1,4 @@
-// What is wrong, for each number that a table, a merge or a conversion is refused with: the sentences of include/mishtodran.h.
+// What is wrong, for each number that a table, a merge, a conversion or a salvage is refused with: the sentences of include/mishtodran.h.
 use crate::output::put;
 
 // What is wrong with a result. Any other number has no sentence.
@@ -12,6 +12,11 @@ fn put_result_sentence(to: i32, number: u32) -> bool {
         34 => put(
             to,
             b"some chain has no such form, or the table already has it",
+        ),
+        35 => put(to, b"the input is longer than 4,096 bytes"),
+        36 => put(
+            to,
+            b"there is no chain record in the input that could be kept",
         ),
         _ => true,
     }

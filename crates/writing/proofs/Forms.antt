@@ -1,30 +1,24 @@
--- What the form of a row decides: its mark, the gap or the flag, the largest distances, how long its record and its table are. Assumes
--- nothing.
-use Prim.Native.Nat.{ℕ, _+_, _*_, _<_, _≤_}
+-- What the form of a row decides: its mark, the gap or the flag, the largest distances. Assumes nothing.
+use Prim.Native.Nat.{ℕ, _<_}
 use native.Mathlib.Omega.{arith}
 use mathlib.Core.Path.{_≡_, refl, ap, sym, _∙_}
 use mathlib.Core.Bool.{Bool, true, false, _&&_}
-use mathlib.Core.Logic.{_⊎_, inl, inr, ⊎-elim}
-use borrow.Author.Tests.{eqb-true, eqb-false, eq-eqb, ne-eqb}
+use mathlib.Core.Logic.{⊎-elim}
+use borrow.Author.Tests.{eqb-true, eq-eqb, ne-eqb}
 use lib.Dec.{eqb}
 use lib.ListN.{length}
 use Rattle.search.specs.Choice.{_when_else_}
-use Rattle.search.proofs.Choice.{when-yes, when-no, when-cases, true-or-false}
-use Rattle.table.specs.Limits.{maxDistances}
+use Rattle.search.proofs.Choice.{when-yes, when-no, when-cases}
 use Rattle.table.specs.Bytes.{bytesOf, Bytes}
-use Rattle.table.specs.Record.{gapForm, largestForm, gapWidth, known, recordLength}
+use Rattle.table.specs.Record.{gapForm, largestForm, gapWidth, known}
 use Rattle.table.specs.Fault.{markOf}
 use Rattle.table.specs.declared.Mark.the-variants.{Chain}
 use Rattle.table.proofs.Firsts.{or-left, or-right, or-cases}
-use Rattle.table.proofs.Forms.{wide, narrow, known-lacks}
+use Rattle.table.proofs.Forms.{wide, narrow}
 use Rattle.table.proofs.Marks.{chain-form}
-use Rattle.table.proofs.Widths.{known-most}
 use Rattle.table.proofs.Words.{length-bytes, bytes-of}
+use Rattle.slices.proofs.Lengths.{form-or}
 use Rattle.writing.specs.Rows.{isForm, formMark, gapOf, flagOf, gapBytes}
-
--- `CG`, or another form
-pub form-or : (form : ℕ) → (form ≡ largestForm) ⊎ (form ≡ largestForm → ⊥)
-form-or form = ⊎-elim (λ e. inl (eqb-true form largestForm e)) (λ e. inr (eqb-false form largestForm e)) (true-or-false (eqb form largestForm))
 
 -- The mark
 
@@ -91,12 +85,3 @@ module _ (form : ℕ) where
       by : (b : Bool) → (listed when b && eqb (flag when b else 0) 1 else 0) ≡ (listed when b && eqb flag 1 else 0)
       by true = refl
       by false = refl
-
-  -- How long the record is
-
-  module _ (flag listed tasks : ℕ) (few : listed ≤ maxDistances) where
-    pub gap-record : (form ≡ largestForm → ⊥) → recordLength form flag listed tasks ≤ 48 + 8 * tasks
-    gap-record h = omega (arith, wide form h, known-lacks form flag listed h)
-
-    pub any-record : recordLength form flag listed tasks ≤ 77 + 8 * tasks
-    any-record = ⊎-elim (λ e. omega (arith, narrow form e, known-most form flag listed)) (λ h. omega (arith, gap-record h)) (form-or form)

@@ -21,8 +21,10 @@ use Rattle.table.specs.declared.Row.{Row}
 use Rattle.table.specs.declared.Table.{Table}
 use Rattle.table.specs.declared.Reading.{Reading}
 use Rattle.table.specs.declared.Mark.the-variants.{Chain, End, Unknown}
+use Rattle.table.specs.declared.Verdict.{Verdict}
 use Rattle.table.specs.declared.Verdict.the-variants.{Accepted, Refused}
-use Rattle.table.proofs.Steps.{records-mark, records-other, records-full, records-chain}
+use Rattle.table.proofs.Faultless.{beside-other, beside-full, beside-is}
+use Rattle.table.proofs.Steps.{records-mark, records-refused, records-chain}
 use Rattle.table.proofs.Marks.{markNumber}
 use Rattle.table.proofs.Words.{end-length, end-mark-word, end-count}
 use Rattle.writing.specs.Rows.{isForm, formMark, rowBytes, tableBytes, cleared, Typed}
@@ -119,7 +121,7 @@ module _ (s : List ℕ) (at : ℕ) (j : Tally) (r : Row) (mark : word 2 s at ≡
     other-form is (Formed.some e k) w =
         let own = mark ∙ mark-own (r .form) is in
         let other = eqb-false (r .form) (j .form) (not-true _ (sym (form-later (j .form) (r .form) (is-some (j .form) k)) ∙ w)) in
-        records-other s at t there (ap markOf own ∙ form-chain (r .form) is) left (λ z. other (sym own ∙ z ∙ e))
+        records-refused s at t there (ap markOf own ∙ form-chain (r .form) is) left (beside-other s at (formAt s 0) t (λ z. other (sym own ∙ z ∙ e)))
 
     wrong-form : Formed s at (j .form) → formWrong (j .form) (r .form) ≡ true → records left s at t ≡ refusal 3 at
     wrong-form k w = ⊎-elim (λ e. other-form e k w) (λ e. no-form e) (true-or-false (isForm (r .form)))
@@ -184,7 +186,9 @@ module _ (s : List ℕ) (total : ℕ) where
       let chain : markOf (word 2 s at) ≡ Chain = ap markOf (st .form) ∙ form-chain (r .form) (form .0) in
       ⊎-elim
       (λ l.
-      let next = records-chain s at t here chain (form .1) (rw (← keeps .count) l) in
+      let room : t .count < maxChains = rw (← keeps .count) l in
+      let more = records (maxChains - (t .count + 1)) s (at + lengthAt s at) (plus t (rowAt s at)) in
+      let next = records-chain s at t here chain room ∙ ap (λ (v : Verdict). unless refusal v more) (beside-is s at (formAt s 0) t (form .1) (λ z. omega (arith, room, z))) in
       subst (λ (x : Reading). Says (x .verdict) number) (sym next)
       (subst (Says _) (number-on j r sound w l (take m rs)) (says-unless _ (row-says at t j r st (f .0) keeps) (λ z.
       let size = read-length at t j r st (f .0) keeps z in
@@ -193,7 +197,7 @@ module _ (s : List ℕ) (total : ℕ) where
       (Formed.some (sym (form .1) ∙ st .form) (form .0)) (keeps-on at t j r st (f .0) keeps z l)))))
       (λ l.
       let full : j .count ≡ maxChains = omega arith in
-      subst (λ (x : Reading). Says (x .verdict) number) (sym (records-full s at t here chain (form .1) (sym (keeps .count) ∙ full)))
+      subst (λ (x : Reading). Says (x .verdict) number) (sym (records-refused s at t here chain (maxChains - t .count) (beside-full s at (formAt s 0) t (form .1) (sym (keeps .count) ∙ full))))
       (subst (Says (Refused 11 at)) (sym (fault-stays j r (take m rs) 10 (with-full j r sound w full))) (Says.fault 10 at)))
       (lt-or-le (j .count) maxChains))
       (true-or-false (formWrong (j .form) (r .form)))

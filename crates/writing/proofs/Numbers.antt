@@ -24,12 +24,12 @@ use Rattle.table.proofs.Firsts.{or-left, or-right, or-none, none-or, or-cases}
 use Rattle.table.proofs.Faultless.{inside}
 use Rattle.table.proofs.Forms.{short-here, short-on, short-end}
 use Rattle.table.proofs.Lists.{fall-here, fall-on, fall-end, gap-end}
+use Rattle.slices.proofs.Lengths.{gap-record, any-record}
 use Rattle.writing.specs.Rows.{isForm, Typed}
 use Rattle.writing.specs.code.Tally.{noForm, formWrong, countsNumber, listNumber, taskWrong, tasksNumber, firstNumber, rowNumber, faulted, counted, judgedWith, Small, JudgedWith}
 use Rattle.writing.specs.declared.judged.Tally.{Tally}
 use Rattle.writing.proofs.Ids.{or-assoc, or-last}
 use Rattle.writing.proofs.Lefts.{left-on, left-none}
-use Rattle.writing.proofs.Forms.{gap-record, any-record}
 
 -- a number refuses, 0 does not
 pub by-fault : {A : Type 0} (refuse : ℕ → A) (n : ℕ) (answer : A) → (n ≡ 0 → ⊥) → byNumber refuse n answer ≡ refuse n

@@ -26,6 +26,7 @@ use Rattle.table.proofs.Words.{bytes-of, end-length}
 use Rattle.table.proofs.Goods.{pad-at}
 use Rattle.table.proofs.Steps.{read-on}
 use Rattle.slices.proofs.Bytes.{bytes-append, bytes-flatten}
+use Rattle.slices.proofs.Lengths.{form-or}
 use Rattle.slices.proofs.Parts.{Whole, rowIn, all-take}
 use Rattle.slices.proofs.Parsed.{parts-rows}
 use Rattle.table.specs.Record.{taskRecord}
@@ -33,7 +34,7 @@ use Rattle.writing.specs.Rows.{isForm, formMark, gapBytes, countByte, he
 use Rattle.writing.specs.Write as write
 use Rattle.writing.specs.code.Tally.{formWrong, rowNumber, unjudged, judgedWith, judgedAll, Small, JudgedWith, mostJudged, JudgedRows}
 use Rattle.writing.specs.declared.judged.Tally.{Tally}
-use Rattle.writing.proofs.Forms.{form-or, mark-own, form-chain, are-bytes, lacks-none, known-flag}
+use Rattle.writing.proofs.Forms.{mark-own, form-chain, are-bytes, lacks-none, known-flag}
 use Rattle.writing.proofs.Numbers.{number-none, with-before, with-other, with-many, with-fault, with-none}
 use Rattle.writing.proofs.Pieces.{row-length}
 use Rattle.writing.proofs.Fields.{Stored, mark-stored, stored}

@@ -5,18 +5,17 @@ use native.Mathlib.Numerals.{add-one}
 use mathlib.Core.Path.{_≡_, refl, ap, sym, subst, _∙_}
 use mathlib.Core.List.{List, [], _++_, append-assoc, append-nil}
 use mathlib.Core.Bool.{Bool, true, false}
-use lib.ListN.{length, take, drop}
 use mathlib.Core.Logic.{⊎-elim}
 use borrow.Author.Tests.{lt-ltb, le-ltb}
 use lib.Dec.{ltb}
 use Rattle.search.specs.Choice.{_when_else_, byNumber}
 use Rattle.search.proofs.Choice.{when-yes, when-no, lt-or-le}
 use Rattle.slices.specs.code.Wrote.{Wrote}
-use Rattle.slices.proofs.Writes.{wrote-on, wrote-put}
+use Rattle.slices.proofs.Writes.{wrote-on}
 use Rattle.table.specs.Limits.{maxDistances, maxTasks}
 use Rattle.table.specs.Bytes.{bytesOf}
 use Rattle.table.specs.declared.Row.{Row}
-use Rattle.table.proofs.Words.{length-bytes, bytes-join}
+use Rattle.table.proofs.Words.{bytes-join}
 use Rattle.table.specs.Record.{taskRecord}
 use Rattle.writing.specs.Rows.{isForm, gapBytes, countByte, headBytes, distanceBytes, pieces, listBytes}
 use Rattle.writing.specs.code.Tally.{firstNumber}
@@ -25,16 +24,6 @@ use Rattle.writing.specs.declared.judged.Tally.{Tally}
 use Rattle.writing.specs.declared.Written.the-variants.{Used, Refused}
 use Rattle.writing.proofs.Forms.{mark-own}
 use Rattle.writing.proofs.Pieces.{more-pieces}
-
--- a number
-pub wrote-number : (before : List ℕ) (at n x : ℕ) (after : List ℕ) (next : ℕ) → next ≡ at + n → at + n ≤ length before
-    → after ≡ take at before ++ bytesOf n x ++ drop (at + n) before → Wrote before at (bytesOf n x) after next
-wrote-number before at n x after next e h w = wrote-put before at (bytesOf n x) after n next (length-bytes n x) e h w
-
--- and one after what was put
-pub number-on : {before mid text after : List ℕ} {at here : ℕ} → Wrote before at text mid here → (n x next : ℕ) → next ≡ here + n → here + n ≤ length before
-    → after ≡ take here mid ++ bytesOf n x ++ drop (here + n) mid → Wrote before at (text ++ bytesOf n x) after next
-number-on {before} {mid} {text} {after} {at} {here} w n x next e h p = wrote-on w (wrote-number mid here n x after next e (omega (arith, w .long)) p)
 
 -- a task record is two numbers of four bytes, the two counts are one of two
 pub task-bytes : (priority cost : ℕ) → bytesOf 4 (19284 + 65536 * priority) ++ bytesOf 4 cost ≡ taskRecord priority cost

@@ -8,9 +8,8 @@ use denote.Ref.{now}
 use Rattle.table.specs.Bytes.{bytesOf}
 use Rattle.table.specs.Record.{gapWidth}
 use Rattle.slices.specs.code.Wrote.{Wrote}
-use Rattle.slices.proofs.Writes.{wrote-on}
+use Rattle.slices.proofs.Writes.{wrote-on, wrote-number}
 use Rattle.writing.specs.Rows.{gapBytes}
-use Rattle.writing.proofs.Puts.{wrote-number}
 use Rattle.converting.specs.code.Copied.{startBytes}
 use borrow.Author.Needs.{needs}
 use Rattle.converting.proofs.record.put_start.Statement.{statement}

@@ -9,13 +9,13 @@ use lib.Seq.{drop-length}
 use borrow.Author.Needs.{needs}
 use native.Mathlib.Omega.{arith}
 use Rattle.search.specs.Choice.{_when_else_}
+use Rattle.search.proofs.Rest.{rest}
 use Rattle.merging.specs.Versions.{Versions}
 use Rattle.merging.specs.Rule.{conflictOf, lesser, least}
 use Rattle.merging.specs.Merge.{versions}
 use Rattle.merging.specs.declared.states.Weight.{Weight}
 use Rattle.merging.specs.code.Seeks.{RecordAt}
 use Rattle.merging.proofs.Leasts.{lesser-left, lesser-right, lesser-on}
-use Rattle.merging.proofs.Rest.{rest}
 use Rattle.merging.proofs.Seeks.{first-record}
 use Rattle.merging.proofs.Weights.{weight-conflict, only-counted}
 use Rattle.merging.proofs.conflicts.least_conflict.Statement.{statement}

@@ -9,8 +9,8 @@ use borrow.Author.Needs.{needs}
 use borrow.Author.Tests.{eq-eqb, ne-eqb}
 use native.Mathlib.Omega.{arith}
 use Rattle.search.specs.Lists.{some}
+use Rattle.search.proofs.Rest.{rest}
 use Rattle.merging.specs.Rule.{among}
-use Rattle.merging.proofs.Rest.{rest}
 use Rattle.merging.proofs.order.among.Statement.{statement}
 use Rattle.merging.proofs.order.among.Tie as tie
 

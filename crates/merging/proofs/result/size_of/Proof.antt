@@ -12,6 +12,7 @@ use native.Mathlib.Omega.{arith}
 use Rattle.search.specs.Choice.{_when_else_}
 use Rattle.search.specs.Lists.{keep}
 use Rattle.search.proofs.Choice.{when-cases}
+use Rattle.search.proofs.Rest.{rest}
 use Rattle.table.proofs.Standing.{longestRecord}
 use Rattle.merging.specs.Versions.{Versions, three}
 use Rattle.merging.specs.Rule.{takenOf, conflictOf, lesser, least}
@@ -20,7 +21,6 @@ use Rattle.merging.specs.declared.states.Weight.{Weight}
 use Rattle.merging.specs.declared.result.Size.{Size}
 use Rattle.merging.specs.code.Size.{statesOf, leastOf}
 use Rattle.merging.specs.code.Seeks.{RecordAt}
-use Rattle.merging.proofs.Rest.{rest}
 use Rattle.merging.proofs.Seeks.{first-record}
 use Rattle.merging.proofs.Leasts.{lesser-left, lesser-right, lesser-on}
 use Rattle.merging.proofs.Weights.{weight-bytes, weight-conflict, above-zero}

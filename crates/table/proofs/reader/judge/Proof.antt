@@ -12,19 +12,20 @@ use borrow.Author.Tests.{eq-eqb, ne-eqb, ltb-false}
 use Rattle.table.specs.Limits.{maxChains, maxAllTasks, maxBytes}
 use Rattle.table.specs.Bytes.{word}
 use Rattle.table.specs.Record.{formAt, idAt, lengthAt, rowAt}
-use Rattle.table.specs.Fault.{markOf, chainFault, endFault}
+use Rattle.table.specs.Fault.{markOf, besideFault, endFault}
 use Rattle.table.specs.Read.{empty, plus, accepted, refusal, unless, byMark, records, limitOf, readTable}
 use Rattle.table.specs.code.Before.{Keeps}
 use Rattle.table.specs.declared.Table.{Table}
 use Rattle.table.specs.declared.Reading.{Reading}
 use Rattle.table.specs.declared.Mark.{Mark}
 use Rattle.table.specs.declared.Mark.the-variants.{Chain, Task, End, Unknown}
+use Rattle.table.specs.declared.Verdict.the-variants.{Accepted, Refused}
 use Rattle.table.specs.declared.before.Before.{Before}
 use Rattle.table.proofs.Widths.{limit-most}
 use Rattle.table.proofs.Earlier.{before-more}
-use Rattle.table.proofs.Firsts.{or-left, or-right, or-none, unless-fault, unless-none, ends-verdict}
-use Rattle.table.proofs.Faultless.{ChainRight, chain-right}
-use Rattle.table.proofs.Steps.{read-long, read-on, records-short, records-mark, records-other, records-full, records-chain}
+use Rattle.table.proofs.Firsts.{or-left, or-right, or-none, ends-verdict}
+use Rattle.table.proofs.Faultless.{ChainRight, chain-right, BesideRight, beside-right}
+use Rattle.table.proofs.Steps.{read-long, read-on, records-short, records-mark, records-refused, records-beside}
 use borrow.Author.Needs.{needs}
 use Rattle.table.proofs.reader.judge.Statement.{statement}
 use Rattle.table.proofs.reader.judge.Tie as tie
@@ -80,46 +81,36 @@ module _ (c : tie.After-mark-of Inv-loop μ-loop) where
   mark : markOf (word 2 (bytes l) (l .loop .at)) ≡ c .mark-of .result
   mark = ap markOf (sym (c .before .u16-at .ensures)) ∙ sym (c .mark-of .ensures)
 
-  other-form : c .mark-of .result ≡ Chain → (formAt (bytes l) (l .loop .at) ≡ formAt (bytes l) 0 → ⊥) → readTable (bytes l) ≡ refusal 3 (l .loop .at)
-  other-form e h = whole l ∙ records-other (bytes l) (l .loop .at) (sofar l) (c .before .before .loop-test .taken) (mark ∙ e) (maxChains - sofar l .count) h
-
-  full : c .mark-of .result ≡ Chain → formAt (bytes l) (l .loop .at) ≡ formAt (bytes l) 0 → sofar l .count ≡ maxChains → readTable (bytes l) ≡ refusal 11 (l .loop .at)
-  full e f n = whole l ∙ records-full (bytes l) (l .loop .at) (sofar l) (c .before .before .loop-test .taken) (mark ∙ e) f n
-
-  -- what a chain without a fault leads to
-  abbrev rest : Reading
-  rest = records (maxChains - (sofar l .count + 1)) (bytes l) (l .loop .at + lengthAt (bytes l) (l .loop .at)) (plus (sofar l) (rowAt (bytes l) (l .loop .at)))
-
-  chain : c .mark-of .result ≡ Chain → formAt (bytes l) (l .loop .at) ≡ formAt (bytes l) 0 → sofar l .count < maxChains
-      → readTable (bytes l) ≡ unless refusal (chainFault (bytes l) (l .loop .at) (sofar l)) rest
-  chain e f n = whole l ∙ records-chain (bytes l) (l .loop .at) (sofar l) (c .before .before .loop-test .taken) (mark ∙ e) f n
+  refused : c .mark-of .result ≡ Chain → {n place : ℕ} → besideFault (bytes l) (l .loop .at) (formAt (bytes l) 0) (sofar l) ≡ Refused n place → readTable (bytes l) ≡ refusal n place
+  refused e h = whole l ∙ records-refused (bytes l) (l .loop .at) (sofar l) (c .before .before .loop-test .taken) (mark ∙ e) (maxChains - sofar l .count) h
 
   other : (m : Mark) → c .mark-of .result ≡ m → (m ≡ Chain → ⊥)
       → readTable (bytes l) ≡ byMark (l .loop .at) m (refusal 11 (l .loop .at)) (unless refusal (endFault (bytes l) (l .loop .at) (sofar l)) (accepted (sofar l)))
   other m e h = whole l ∙ records-mark (bytes l) (l .loop .at) (sofar l) (c .before .before .loop-test .taken) (maxChains - sofar l .count) m (mark ∙ e) h
 
--- it has the first record's form
-module _ (c : tie.Else3 Inv-loop μ-loop) where
+-- no fault: the record is right beside them
+module _ (c : tie.After-enum-told2 Inv-loop μ-loop) where
   abbrev marked : tie.After-mark-of Inv-loop μ-loop
-  marked = c .before .before .before .before .before
+  marked = c .before .before .before .before .before .before .before
 
-  form : formAt (bytes (l marked)) (l marked .loop .at) ≡ formAt (bytes (l marked)) 0
-  form = sym (c .before .before .form-at .ensures) ∙ c .if3 .left ∙ c .before .form-at2 .ensures
+  abbrev before : tie.At-loop Inv-loop μ-loop
+  before = l marked
 
   told : marked .mark-of .result ≡ Chain
-  told = c .before .before .before .enum-told .given .1
+  told = c .before .before .before .before .before .enum-told .given .1
 
--- there is room for a chain more
-room : (c : tie.Else4 Inv-loop μ-loop) → sofar (l (marked (c .before .before))) .count < maxChains
-room c = let m = l (marked (c .before .before)) in omega (arith, counts m, m .loop .inv .1 .few, c .if4 .left)
+  beside-is : besideFault (bytes before) (before .loop .at) (formAt (bytes before) 0) (sofar before) ≡ Accepted
+  beside-is = ap (λ f. besideFault (bytes before) (before .loop .at) f (sofar before)) (sym (c .before .before .before .before .form-at .ensures)) ∙ sym (c .before .before .beside-fault .ensures _ (before .loop .inv .1 .known)) ∙ c .enum-told2 .given .1
 
--- no fault: the record is right
-module _ (c : tie.After-enum-told2 Inv-loop μ-loop) where
-  abbrev before : tie.At-loop Inv-loop μ-loop
-  before = l (marked (c .before .before .before .before .before .before))
+  fits : BesideRight (bytes before) (before .loop .at) (formAt (bytes before) 0) (sofar before)
+  fits = beside-right _ _ _ _ beside-is
 
   right : ChainRight (bytes before) (before .loop .at) (sofar before)
-  right = chain-right _ _ _ (sym (c .before .before .chain-fault .ensures _ (before .loop .inv .1 .known)) ∙ c .enum-told2 .given .1)
+  right = chain-right _ _ _ (fits .chain)
+
+  -- there is room for a chain more
+  room : before .loop .before .count < maxChains
+  room = omega (arith, counts before, before .loop .inv .1 .few, fits .room)
 
 limit-requires : tie.Need-limit-requires Inv-loop μ-loop
 limit-requires c κs = search needs
@@ -145,21 +136,11 @@ enum-told c = search needs
 form-at-requires : tie.Need-form-at-requires Inv-loop μ-loop
 form-at-requires c κs = search needs
 
-form-at-requires-2 : tie.Need-form-at-requires-2 Inv-loop μ-loop
-form-at-requires-2 c κs = search needs
-
-returns-2 : tie.Need-returns-2 Inv-loop μ-loop
-returns-2 c =
-    let m = c .before .before .before .before .before in
-    sym (verdict (other-form m (c .before .before .before .enum-told .given .1) (λ e. c .if3 .taken (c .before .before .form-at .ensures ∙ e ∙ sym (c .before .form-at2 .ensures)))))
-
-returns-3 : tie.Need-returns-3 Inv-loop μ-loop
-returns-3 c =
-    let f = c .before .before in
-    sym (verdict (full (marked f) (told f) (form f) (counts (l (marked f)) ∙ c .if4 .taken)))
-
-chain-fault-requires : tie.Need-chain-fault-requires Inv-loop μ-loop
-chain-fault-requires c κs = let m = marked (c .before .before .before) in let i = l m .loop .inv .1 in (m .before .before .loop-test .taken, i .few, i .all)
+beside-fault-requires : tie.Need-beside-fault-requires Inv-loop μ-loop
+beside-fault-requires c κs =
+    let test = c .before .before .before .before .before .before in
+    let i = test .before .loop .inv .1 in
+    (test .loop-test .taken, i .few, i .all)
 
 enum-told-2 : tie.Need-enum-told-2 Inv-loop μ-loop
 enum-told-2 c = search needs
@@ -171,7 +152,7 @@ mul-ids : tie.Need-mul-ids Inv-loop μ-loop
 mul-ids c = omega (arith, before (c .before) .loop .inv .1 .few)
 
 array-write-ids : tie.Need-array-write-ids Inv-loop μ-loop
-array-write-ids c = let i = before (c .before) .loop .inv .1 in omega (arith, i .few, i .size, c .before .before .before .before .before .if4 .left)
+array-write-ids c = omega (arith, before (c .before) .loop .inv .1 .size, room (c .before))
 
 add-before : tie.Need-add-before Inv-loop μ-loop
 add-before c = omega (arith, before (c .before) .loop .inv .1 .few)
@@ -196,30 +177,26 @@ add-at-2 : tie.Need-add-at-2 Inv-loop μ-loop
 add-at-2 c = let p = c .before .before .before .before in rw (next p) (omega (arith, right (p .before .before) .there, short (before (p .before .before))))
 
 loop-less : tie.Need-loop-less Inv-loop μ-loop
-loop-less c = let p = c .before .before .before .before in omega (arith, before (p .before .before) .loop .inv .1 .few, p .before .before .before .before .before .before .if4 .left)
+loop-less c = omega (arith, room (c .before .before .before .before .before .before))
 
 loop-again : tie.Need-loop-again Inv-loop μ-loop
 unfolding rowAt
 loop-again c =
     let p = c .before .before .before .before in
-    let told2 = p .before .before in
-    let e = told2 .before .before .before .before in
-    let m = marked (e .before .before) in
-    let l = before told2 in
+    let right-there = p .before .before in
+    let l = before right-there in
     let t = sofar l in
     let at = l .loop .at in
     let i = l .loop .inv .1 in
-    let r = right told2 in
-    let f = told2 .before .before .chain-fault in
-    let none = unless-none refusal (chainFault (bytes l) at t) (rest m) (sym (f .ensures t (i .known)) ∙ told2 .enum-told2 .given .1) in
-    let whole-is = chain m (told (e .before .before)) (form (e .before .before)) (room e) in
+    let r = right right-there in
+    let on = records-beside (bytes l) at t (marked right-there .before .before .loop-test .taken) (mark (marked right-there) ∙ told right-there) (beside-is right-there) (omega (arith, counts l, room right-there)) in
     rw (p .before .id-at .ensures, next p, p .tasks-part .ensures .1) (
       plus t (rowAt (bytes l) at),
       record {
-        few = omega (arith, i .few, e .if4 .left);
+        few = omega (arith, room right-there);
         all = omega (arith, r .head .all, totals l);
         inside = r .there;
-        left = sym none ∙ sym whole-is ∙ whole l ∙ i .left;
+        left = sym on ∙ i .left;
         size = length-set (l .loop .ids) (l .loop .before .count) (idAt (bytes l) at) ∙ i .size;
         known = before-more t (rowAt (bytes l) at) (i .known);
       },
@@ -228,14 +205,13 @@ loop-again c =
 enum-told-3 : tie.Need-enum-told-3 Inv-loop μ-loop
 enum-told-3 c = search needs
 
-returns-4 : tie.Need-returns-4 Inv-loop μ-loop
-returns-4 c = let e = c .before .before .before .before in
-    let m = marked (e .before .before) in
-    let b = m .before .before .before in
+returns-2 : tie.Need-returns-2 Inv-loop μ-loop
+returns-2 c =
+    let m = c .before .before .before .before .before .before .before in
+    let b = l m in
     let given = c .enum-told3 .given .1 in
-    let fault = sym (c .before .before .chain-fault .ensures (sofar b) (b .loop .inv .1 .known)) ∙ given in
-    let read = chain m (told (e .before .before)) (form (e .before .before)) (room e) in
-    given ∙ sym (verdict (read ∙ unless-fault refusal (chainFault (bytes b) (b .loop .at) (sofar b)) (rest m) fault))
+    let fault = ap (λ f. besideFault (bytes b) (b .loop .at) f (sofar b)) (sym (c .before .before .before .before .form-at .ensures)) ∙ sym (c .before .before .beside-fault .ensures (sofar b) (b .loop .inv .1 .known)) ∙ given in
+    given ∙ sym (verdict (refused m (c .before .before .before .before .before .enum-told .given .1) fault))
 
 enum-told-4 : tie.Need-enum-told-4 Inv-loop μ-loop
 enum-told-4 c = search needs
@@ -243,25 +219,25 @@ enum-told-4 c = search needs
 end-fault-requires : tie.Need-end-fault-requires Inv-loop μ-loop
 end-fault-requires c κs = search needs
 
-returns-5 : tie.Need-returns-5 Inv-loop μ-loop
-returns-5 c = let l = c .before .before .before .before .before .before in
+returns-3 : tie.Need-returns-3 Inv-loop μ-loop
+returns-3 c = let l = c .before .before .before .before .before .before in
     c .end-fault .ensures (sofar l) (counts l)
     ∙ sym (verdict (other (c .before .before .before) End (c .before .enum-told4 .given .1) (λ e. let z : _≡_ {A = ℕ} 0 1 = cc in omega arith)) ∙ ends-verdict (endFault (bytes l) (l .loop .at) (sofar l)) (sofar l))
 
 enum-told-5 : tie.Need-enum-told-5 Inv-loop μ-loop
 enum-told-5 c = search needs
 
-returns-6 : tie.Need-returns-6 Inv-loop μ-loop
-returns-6 c = sym (verdict (other (c .before .before) Task (c .enum-told5 .given .1) (λ e. let z : _≡_ {A = ℕ} 0 1 = cc in omega arith)))
+returns-4 : tie.Need-returns-4 Inv-loop μ-loop
+returns-4 c = sym (verdict (other (c .before .before) Task (c .enum-told5 .given .1) (λ e. let z : _≡_ {A = ℕ} 0 1 = cc in omega arith)))
 
 enum-told-6 : tie.Need-enum-told-6 Inv-loop μ-loop
 enum-told-6 c = search needs
 
-returns-7 : tie.Need-returns-7 Inv-loop μ-loop
-returns-7 c = sym (verdict (other (c .before .before) Unknown (c .enum-told6 .given .1) (λ e. let z : _≡_ {A = ℕ} 0 1 = cc in omega arith)))
+returns-5 : tie.Need-returns-5 Inv-loop μ-loop
+returns-5 c = sym (verdict (other (c .before .before) Unknown (c .enum-told6 .given .1) (λ e. let z : _≡_ {A = ℕ} 0 1 = cc in omega arith)))
 
-returns-8 : tie.Need-returns-8 Inv-loop μ-loop
-returns-8 c = let l = c .before in
+returns-6 : tie.Need-returns-6 Inv-loop μ-loop
+returns-6 c = let l = c .before in
     sym (verdict (whole l ∙ records-short (bytes l) (l .loop .at) (sofar l) (maxChains - sofar l .count) (c .loop-test .left)))
 
 pub judge-spec : {M : Type 1} → statement M
@@ -278,10 +254,7 @@ judge-spec =
     mark-of-requires
     enum-told
     form-at-requires
-    form-at-requires-2
-    returns-2
-    returns-3
-    chain-fault-requires
+    beside-fault-requires
     enum-told-2
     id-at-requires
     mul-ids
@@ -295,12 +268,12 @@ judge-spec =
     loop-less
     loop-again
     enum-told-3
-    returns-4
+    returns-2
     enum-told-4
     end-fault-requires
-    returns-5
+    returns-3
     enum-told-5
-    returns-6
+    returns-4
     enum-told-6
-    returns-7
-    returns-8)
+    returns-5
+    returns-6)

@@ -4,7 +4,8 @@ use native.Mathlib.Omega.{arith}
 use mathlib.Core.Path.{subst}
 use denote.Ref.{now}
 use Rattle.slices.specs.code.Wrote.{Wrote}
-use Rattle.writing.proofs.Puts.{wrote-number, count-bytes}
+use Rattle.slices.proofs.Writes.{wrote-number}
+use Rattle.writing.proofs.Puts.{count-bytes}
 use borrow.Author.Needs.{needs}
 use Rattle.writing.proofs.put.put_counts.Statement.{statement}
 use Rattle.writing.proofs.put.put_counts.Tie as tie

@@ -7,8 +7,7 @@ use lib.ListN.{getD}
 use borrow.Author.Tests.{lt-ltb, le-ltb}
 use Rattle.search.proofs.Choice.{when-yes, when-no}
 use Rattle.slices.specs.code.Wrote.{Wrote}
-use Rattle.slices.proofs.Writes.{wrote-none}
-use Rattle.writing.proofs.Puts.{wrote-number}
+use Rattle.slices.proofs.Writes.{wrote-none, wrote-number}
 use borrow.Author.Needs.{needs}
 use Rattle.writing.proofs.put.put_distance.Statement.{statement}
 use Rattle.writing.proofs.put.put_distance.Tie as tie

@@ -7,10 +7,9 @@ use denote.Ref.{now}
 use lib.ListN.{set}
 use Rattle.table.specs.Bytes.{bytesOf}
 use Rattle.slices.specs.code.Wrote.{Wrote}
-use Rattle.slices.proofs.Writes.{wrote-byte}
+use Rattle.slices.proofs.Writes.{wrote-byte, wrote-number}
 use Rattle.table.proofs.Forms.{wide, narrow}
 use Rattle.writing.proofs.Forms.{flag-bytes, gap-bytes}
-use Rattle.writing.proofs.Puts.{wrote-number}
 use borrow.Author.Needs.{needs}
 use Rattle.writing.proofs.put.put_gap.Statement.{statement}
 use Rattle.writing.proofs.put.put_gap.Tie as tie

@@ -5,11 +5,11 @@ use mathlib.Core.Path.{_≡_, subst}
 use mathlib.Core.List.{_++_}
 use denote.Ref.{now}
 use Rattle.slices.specs.code.Wrote.{Wrote}
-use Rattle.slices.proofs.Writes.{wrote-on}
+use Rattle.slices.proofs.Writes.{wrote-on, wrote-number, number-on}
 use Rattle.table.specs.Bytes.{bytesOf}
 use Rattle.writing.specs.Rows.{gapBytes, countByte, headBytes}
 use Rattle.writing.proofs.Forms.{gap-length}
-use Rattle.writing.proofs.Puts.{wrote-number, number-on, head-bytes}
+use Rattle.writing.proofs.Puts.{head-bytes}
 use borrow.Author.Needs.{needs}
 use Rattle.writing.proofs.put.put_head.Statement.{statement}
 use Rattle.writing.proofs.put.put_head.Tie as tie

@@ -5,10 +5,10 @@ use mathlib.Core.Path.{_≡_, subst}
 use denote.Ref.{now}
 use lib.ListN.{getD}
 use Rattle.slices.specs.code.Wrote.{Wrote}
-use Rattle.slices.proofs.Writes.{wrote-none}
+use Rattle.slices.proofs.Writes.{wrote-none, wrote-number}
 use Rattle.writing.specs.Rows.{distanceBytes, listBytes}
 use Rattle.writing.proofs.Pieces.{list-length}
-use Rattle.writing.proofs.Puts.{wrote-number, pieces-none, pieces-on, distances-on}
+use Rattle.writing.proofs.Puts.{pieces-none, pieces-on, distances-on}
 use Rattle.writing.proofs.put.put_list.Statement.{statement}
 use Rattle.writing.proofs.put.put_list.Tie as tie
 

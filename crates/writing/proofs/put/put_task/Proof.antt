@@ -7,7 +7,8 @@ use denote.Ref.{now}
 use Rattle.slices.specs.code.Wrote.{Wrote}
 use Rattle.table.specs.Bytes.{bytesOf}
 use Rattle.table.specs.Record.{taskRecord}
-use Rattle.writing.proofs.Puts.{wrote-number, number-on, task-bytes}
+use Rattle.slices.proofs.Writes.{wrote-number, number-on}
+use Rattle.writing.proofs.Puts.{task-bytes}
 use borrow.Author.Needs.{needs}
 use Rattle.writing.proofs.put.put_task.Statement.{statement}
 use Rattle.writing.proofs.put.put_task.Tie as tie

@@ -1,0 +1,10 @@
+pub mod Walks
+pub mod Starts
+pub mod Stepping
+pub mod Stretches
+pub mod Results
+pub mod Back
+pub mod Covers
+pub mod Skips
+pub mod Answers
+pub mod Fits
