@@ -17,7 +17,7 @@ use Rattle.salvaging.specs.Steps.{Walks}
 use Rattle.salvaging.proofs.Stepping.{kept-walks, walks-only}
 use Rattle.salvaging.proofs.Results.{kept-there, kept-bytes, kept-accepted, kept-rows, kept-short, list-short}
 use Rattle.salvaging.proofs.Covers.{covered, skipped-apart}
-use Rattle.salvaging.proofs.Skips.{skipped-none}
+use Rattle.salvaging.proofs.Skips.{none-missed}
 use Rattle.salvaging.proofs.Back.{all-kept, comes-back, skips-end, skips-none, same-again}
 use Rattle.salvaging.proofs.Answers.{too-long, nothing-kept, no-room, has-room, leaves}
 use Rattle.demands.specs.Chains.{IsTable}
@@ -40,7 +40,7 @@ salvaging = record {
       (λ place there. (there, cut-long s place there)) (keptPlaces s) (kept-there s);
   table = λ {s} h. record { bytes = kept-bytes s (h .bytes); accepted = kept-accepted s (h .bytes) (h .some) };
   chains = λ {s} h. kept-rows s (h .bytes) (h .some);
-  none-missed = skipped-none;
+  none-missed = none-missed;
   walk = λ s places. (λ e. subst (Walks s 0 empty) e (kept-walks s), walks-only s places);
   back = λ {s} h. (table-salvageable h, comes-back s (h .bytes) (h .accepted));
   end-alone = λ {s} h. skips-end s (h .bytes) (h .accepted);

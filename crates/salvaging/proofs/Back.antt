@@ -4,9 +4,9 @@ use native.Mathlib.Omega.{arith}
 use native.Mathlib.Decide.{ℕ-discrete}
 use mathlib.Core.Path.{_≡_, refl, ap, ap₂, sym, subst, _∙_}
 use mathlib.Core.List.{List, [], _∷_, _++_, map, flatten, append-assoc}
-use lib.ListN.{length, getD, drop, set, length-drop, length-set, length-replicate}
-use lib.Seq.{getD-set-same, getD-set-other, take-at}
-use borrow.Author.Tests.{lt-ltb, le-ltb, eq-eqb, ne-eqb}
+use lib.ListN.{length, drop, length-drop, length-set, length-replicate}
+use lib.Seq.{take-at}
+use borrow.Author.Tests.{lt-ltb, eq-eqb, ne-eqb}
 use Rattle.search.specs.Lists.{All}
 use Rattle.search.proofs.Choice.{when-yes, when-no}
 use Rattle.table.specs.Limits.{maxChains}
@@ -29,7 +29,8 @@ use Rattle.salvaging.specs.Kept.{formBeside, keptPlaces}
 use Rattle.salvaging.specs.Skipped.{Stretch, between, skippedFrom, skipped}
 use Rattle.salvaging.specs.Salvage.{recordAt, tableKept}
 use Rattle.salvaging.specs.Steps.{Walks}
-use Rattle.salvaging.proofs.Walks.{acceptable-given, not-whole}
+use Rattle.salvaging.proofs.Walks.{acceptable-given, not-whole, first-added, first-stays}
+use Rattle.salvaging.proofs.Stretches.{between-none}
 use Rattle.salvaging.proofs.Stepping.{walks-only}
 use Rattle.salvaging.proofs.Results.{kept-bytes, kept-accepted}
 
@@ -43,11 +44,7 @@ unfolding placesFrom
 length-places at [] = refl
 length-places at (r ∷ rs) = ap suc (length-places (at + length r) rs)
 
--- nothing lies between a place and itself; between the place four bytes before the end and the end, the last four do
-between-none : (at : ℕ) → between at at ≡ []
-unfolding between
-between-none at = when-no _ _ (le-ltb at at (omega arith))
-
+-- between the place four bytes before the end and the end the last four lie
 abbrev pub lastFour : List ℕ → Stretch
 lastFour s = record { offset = length s - 4; size = 4 }
 
@@ -71,8 +68,8 @@ module _ (s : List ℕ) where
     formed-on : length (t .row) ≡ maxChains → Formed t → Formed (plus t (rowAt s at))
     unfolding Formed rowAt
     formed-on long f some = elim (ℕ-discrete (t .count) 0) [
-      | yes e ↦ ap (λ n. getD (set (t .row) n (rowAt s at)) 0 blank .form) e ∙ ap (λ (r : Row). r .form) (getD-set-same (t .row) 0 (rowAt s at) blank (omega arith)) ∙ right .form
-      | no h ↦ ap (λ (r : Row). r .form) (getD-set-other (t .row) (t .count) 0 (rowAt s at) blank (λ e. h (sym e))) ∙ f h
+      | yes e ↦ ap (λ (r : Row). r .form) (first-added t (rowAt s at) long e) ∙ right .form
+      | no h ↦ ap (λ (r : Row). r .form) (first-stays t (rowAt s at) h) ∙ f h
     ]
 
   -- each record of an accepted table is acceptable beside those before it, and the end record's four bytes are none
@@ -108,26 +105,26 @@ module _ (s : List ℕ) where
   -- nothing is skipped before them, nor after a 16th
   none-before : (r : List ℕ) (rs : List (List ℕ)) (at left : ℕ) → lengthAt s at ≡ length r → skippedFrom (suc left) s at (placesFrom at (r ∷ rs)) ≡ skippedFrom left s (at + length r) (placesFrom (at + length r) rs)
   unfolding skippedFrom placesFrom
-  none-before r rs at left e = rw (between-none at, e)
+  none-before r rs at left e = rw (between-none at at (omega arith), e)
 
-  skipped-none : (rs : List (List ℕ)) (at left : ℕ) (e : List ℕ) → drop at s ≡ flatten rs ++ e → All Whole rs → length rs ≡ left → skippedFrom left s at (placesFrom at rs) ≡ []
+  back-none : (rs : List (List ℕ)) (at left : ℕ) (e : List ℕ) → drop at s ≡ flatten rs ++ e → All Whole rs → length rs ≡ left → skippedFrom left s at (placesFrom at rs) ≡ []
   unfolding skippedFrom flatten
-  skipped-none rs at zero e d w n = refl
-  skipped-none [] at (suc left) e d w n = absurd (omega arith)
-  skipped-none (r ∷ rs) at (suc left) e d w n =
+  back-none rs at zero e d w n = refl
+  back-none [] at (suc left) e d w n = absurd (omega arith)
+  back-none (r ∷ rs) at (suc left) e d w n =
       let d′ : drop at s ≡ r ++ (flatten rs ++ e) = d ∙ append-assoc r (flatten rs) e in
       let long = stands-long s at r (flatten rs ++ e) d′ (w .0) in
-      none-before r rs at left long ∙ skipped-none rs (at + length r) left e (rw long at (stands-rest s at r (flatten rs ++ e) d′ (w .0))) (w .1) (omega arith)
+      none-before r rs at left long ∙ back-none rs (at + length r) left e (rw long at (stands-rest s at r (flatten rs ++ e) d′ (w .0))) (w .1) (omega arith)
 
   -- after fewer the end record is
-  skipped-end : (rs : List (List ℕ)) (at left : ℕ) (e : List ℕ) → drop at s ≡ flatten rs ++ e → All Whole rs → length e ≡ 4 → length rs < left → skippedFrom left s at (placesFrom at rs) ≡ lastFour s ∷ []
+  back-end : (rs : List (List ℕ)) (at left : ℕ) (e : List ℕ) → drop at s ≡ flatten rs ++ e → All Whole rs → length e ≡ 4 → length rs < left → skippedFrom left s at (placesFrom at rs) ≡ lastFour s ∷ []
   unfolding skippedFrom placesFrom flatten
-  skipped-end rs at zero e d w n l = absurd (omega arith)
-  skipped-end [] at (suc left) e d w n l = between-four s at (omega (arith, length-drop at s, ap length d))
-  skipped-end (r ∷ rs) at (suc left) e d w n l =
+  back-end rs at zero e d w n l = absurd (omega arith)
+  back-end [] at (suc left) e d w n l = between-four s at (omega (arith, length-drop at s, ap length d))
+  back-end (r ∷ rs) at (suc left) e d w n l =
       let d′ : drop at s ≡ r ++ (flatten rs ++ e) = d ∙ append-assoc r (flatten rs) e in
       let long = stands-long s at r (flatten rs ++ e) d′ (w .0) in
-      none-before r rs at left long ∙ skipped-end rs (at + length r) left e (rw long at (stands-rest s at r (flatten rs ++ e) d′ (w .0))) (w .1) n (omega arith)
+      none-before r rs at left long ∙ back-end rs (at + length r) left e (rw long at (stands-rest s at r (flatten rs ++ e) d′ (w .0))) (w .1) n (omega arith)
 
 -- an accepted table
 module _ (s : List ℕ) (bytes : Bytes s) (verdict : readTable s .verdict ≡ Accepted) where
@@ -163,10 +160,10 @@ module _ (s : List ℕ) (bytes : Bytes s) (verdict : readTable s .verdict ≡ Ac
 
   -- with fewer than 16 chains its end record is skipped, with 16 nothing
   pub skips-end : t .count < maxChains → skipped s ≡ lastFour s ∷ []
-  skips-end l = ap (skippedFrom maxChains s 0) kept-are ∙ skipped-end s rs 0 maxChains last (parts .bytes) (parts .whole) (parts .last) (omega (arith, count))
+  skips-end l = ap (skippedFrom maxChains s 0) kept-are ∙ back-end s rs 0 maxChains last (parts .bytes) (parts .whole) (parts .last) (omega (arith, count))
 
   pub skips-none : t .count ≡ maxChains → skipped s ≡ []
-  skips-none e = ap (skippedFrom maxChains s 0) kept-are ∙ skipped-none s rs 0 maxChains last (parts .bytes) (parts .whole) (count ∙ e)
+  skips-none e = ap (skippedFrom maxChains s 0) kept-are ∙ back-none s rs 0 maxChains last (parts .bytes) (parts .whole) (count ∙ e)
 
 -- so what is kept, salvaged again, comes back
 pub same-again : (s : List ℕ) → Bytes s → 1 ≤ length (keptPlaces s) → tableKept (tableKept s) ≡ tableKept s

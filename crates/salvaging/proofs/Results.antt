@@ -31,7 +31,7 @@ use Rattle.salvaging.specs.Kept.{formBeside, acceptable, keptPlaces}
 use Rattle.salvaging.specs.Skipped.{skipped}
 use Rattle.salvaging.specs.Salvage.{recordAt, tableKept, listSkipped}
 use Rattle.salvaging.specs.Steps.{Walks}
-use Rattle.salvaging.proofs.Walks.{acceptable-says, kept-few}
+use Rattle.salvaging.proofs.Walks.{acceptable-says, kept-few, first-stays}
 use Rattle.salvaging.proofs.Stepping.{kept-walks}
 use Rattle.salvaging.proofs.Stretches.{list-long, skipped-few}
 
@@ -57,9 +57,8 @@ module _ (s : List ℕ) where
   unfolding Walks formBeside
   forms-beside at t [] some h = tt
   forms-beside at t (place ∷ places) some h =
-      let first : rowOf (plus t (rowAt s place)) 0 ≡ rowOf t 0 = getD-set-other (t .row) (t .count) 0 (rowAt s place) blank (λ e. some (sym e)) in
       let rest = forms-beside (place + lengthAt s place) (plus t (rowAt s place)) places (λ e. omega (arith, e)) (h .1) in
-      (acceptable-says s place t (h .0 .starts) .right .form ∙ when-no _ _ (ne-eqb _ _ some), subst (λ (r : Row). All (λ p. formAt s p ≡ r .form) places) first rest)
+      (acceptable-says s place t (h .0 .starts) .right .form ∙ when-no _ _ (ne-eqb _ _ some), subst (λ (r : Row). All (λ p. formAt s p ≡ r .form) places) (first-stays t (rowAt s place) some) rest)
 
   -- an id that none of them bears
   ids-beside : (at : ℕ) (t : Table) (places : List ℕ) → Walks s at t places → All (λ place. (chain : ℕ) → chain < t .count → rowOf t chain .id ≡ idAt s place → ⊥) places

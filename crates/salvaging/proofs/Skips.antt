@@ -65,6 +65,6 @@ module _ (s : List ℕ) where
         none = λ i k m. ap (acceptable s i) (beside-on place places t i (omega (arith, f .starts, k))) ∙ f .none i k m;
       }) (skippedFrom left s next places) (none-skipped left next more places (h .1)))
 
-  pub skipped-none : All (λ x. (i : ℕ) → x .offset ≤ i → i < x .offset + x .size → acceptable s i (keptBefore s i) ≡ false) (skipped s)
-  skipped-none = all-map {P = NoneIn 0 empty (keptPlaces s)} {Q = λ (x : Stretch). (i : ℕ) → x .offset ≤ i → i < x .offset + x .size → acceptable s i (keptBefore s i) ≡ false}
+  pub none-missed : All (λ x. (i : ℕ) → x .offset ≤ i → i < x .offset + x .size → acceptable s i (keptBefore s i) ≡ false) (skipped s)
+  none-missed = all-map {P = NoneIn 0 empty (keptPlaces s)} {Q = λ (x : Stretch). (i : ℕ) → x .offset ≤ i → i < x .offset + x .size → acceptable s i (keptBefore s i) ≡ false}
       (λ x f. f .none) (skipped s) (none-skipped maxChains 0 empty (keptPlaces s) (kept-walks s))

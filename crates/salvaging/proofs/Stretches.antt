@@ -3,7 +3,7 @@ use Prim.Native.Nat.{ℕ, zero, suc, _+_, _*_, _-_, _<_, _≤_}
 use native.Mathlib.Omega.{arith}
 use mathlib.Core.Path.{_≡_, refl, ap, subst, _∙_}
 use mathlib.Core.List.{List, [], _∷_, _++_, map, flatten, map-append}
-use lib.ListN.{length, getD, drop, length-append, length-take, length-drop}
+use lib.ListN.{length, getD, drop, length-append}
 use lib.Dec.{ltb}
 use lib.Seq.{drop-length}
 use borrow.Author.Tests.{lt-ltb, le-ltb}
@@ -14,6 +14,7 @@ use Rattle.table.specs.Limits.{maxChains}
 use Rattle.table.specs.Bytes.{bytesOf}
 use Rattle.table.specs.Record.{lengthAt}
 use Rattle.table.proofs.Words.{length-bytes}
+use Rattle.slices.proofs.Cuts.{cut-long}
 use Rattle.slices.proofs.Parts.{flatten-append}
 use Rattle.salvaging.specs.Skipped.{Stretch, between, skippedFrom}
 use Rattle.salvaging.specs.Salvage.{recordAt, stretchBytes}
@@ -98,14 +99,10 @@ module _ (s places : List ℕ) (i at : ℕ) (all : i ≡ length places) where
   unfolding flatten
   records-end = rw none-left
 
--- a whole record is as long as it says
-pub record-long : (s : List ℕ) (p : ℕ) → p + lengthAt s p ≤ length s → length (recordAt s p) ≡ lengthAt s p
-record-long s p h = length-take (lengthAt s p) (drop p s) ∙ omega (arith, length-drop p s)
-
 -- so records in order have no more bytes than there are
 pub records-within : (s : List ℕ) (at : ℕ) (places : List ℕ) → InOrder s at places → at + length (flatten (map (recordAt s) places)) ≤ length s
 unfolding InOrder flatten
 records-within s at [] h = omega arith
 records-within s at (p ∷ places) h =
     let there = order-within s (p + lengthAt s p) places (h .1) in
-    omega (arith, h .0, record-long s p there, records-within s (p + lengthAt s p) places (h .1), length-append (recordAt s p) (flatten (map (recordAt s) places)))
+    omega (arith, h .0, cut-long s p there, records-within s (p + lengthAt s p) places (h .1), length-append (recordAt s p) (flatten (map (recordAt s) places)))

@@ -81,6 +81,13 @@ module _ (s : List ℕ) (at : ℕ) (t : Table) where
       by true e = absurd (acceptable-says e .right .room n)
       by false e = refl
 
+-- the first row of a table with one row more
+pub first-added : (t : Table) (r : Row) → length (t .row) ≡ maxChains → t .count ≡ 0 → rowOf (plus t r) 0 ≡ r
+first-added t r long e = ap (λ n. getD (set (t .row) n r) 0 blank) e ∙ getD-set-same (t .row) 0 r blank (omega (arith, long))
+
+pub first-stays : (t : Table) (r : Row) → (t .count ≡ 0 → ⊥) → rowOf (plus t r) 0 ≡ rowOf t 0
+first-stays t r some = getD-set-other (t .row) (t .count) 0 r blank (λ e. some (sym e))
+
 -- the form that the code asks for
 pub form-needed : (s : List ℕ) (at : ℕ) {ids : List ℕ} {before : Before} {form : ℕ} {t : Table} → Knows ids before form t → (formAt s at when eqb (before .count) 0 else form) ≡ formBeside s at t
 unfolding formBeside
@@ -192,7 +199,7 @@ beside-more s place {ids} {before} {form} {t} b size e =
     rows = sym (length-map (t .row) (λ (r : Row). r .id)) ∙ ap length (sym (b .keeps .bear)) ∙ size
 
     by : (n : ℕ) → t .count ≡ n → formAt s place ≡ rowOf (plus t (rowAt s place)) 0 .form
-    by zero f = ap (λ (r : Row). r .form) (sym (ap (λ n. getD (set (t .row) n (rowAt s place)) 0 blank) f ∙ getD-set-same (t .row) 0 (rowAt s place) blank (omega (arith, rows))))
+    by zero f = ap (λ (r : Row). r .form) (sym (first-added t (rowAt s place) rows f))
     by (suc n) f =
-        acceptable-says s place t e .right .form ∙ when-no _ _ (ne-eqb (t .count) 0 (λ z. omega (arith, z, f)))
-        ∙ ap (λ (r : Row). r .form) (sym (getD-set-other (t .row) (t .count) 0 (rowAt s place) blank (λ z. omega (arith, z, f))))
+        let before : t .count ≡ 0 → ⊥ = λ z. omega (arith, z, f) in
+        acceptable-says s place t e .right .form ∙ when-no _ _ (ne-eqb (t .count) 0 before) ∙ ap (λ (r : Row). r .form) (sym (first-stays t (rowAt s place) before))

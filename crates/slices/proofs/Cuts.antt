@@ -12,30 +12,30 @@ use Rattle.table.specs.declared.Mark.the-variants.{Chain}
 use Rattle.slices.proofs.Moved.{SameBytes, mark-moved, id-moved, tasks-moved, length-moved, row-moved}
 use Rattle.slices.proofs.Parts.{Whole, rowIn}
 
-abbrev pub cut : List ℕ → ℕ → List ℕ
-cut s at = take (lengthAt s at) (drop at s)
+abbrev pub cutOut : List ℕ → ℕ → List ℕ
+cutOut s at = take (lengthAt s at) (drop at s)
 
 module _ (s : List ℕ) (at : ℕ) (there : at + lengthAt s at ≤ length s) where
-  pub cut-long : length (cut s at) ≡ lengthAt s at
+  pub cut-long : length (cutOut s at) ≡ lengthAt s at
   cut-long = simp (length-take, length-drop) (omega arith)
 
-  pub cut-same : SameBytes (cut s at) s 0 at (lengthAt s at)
+  pub cut-same : SameBytes (cutOut s at) s 0 at (lengthAt s at)
   unfolding SameBytes
   cut-same i l =
       let e : 0 + i ≡ i = omega arith in
       rw (e, getD-take (lengthAt s at) (drop at s) i 0 l) (getD-drop at s i 0)
 
-  pub cut-row : rowIn (cut s at) ≡ rowAt s at
-  cut-row = row-moved (cut s at) s 0 at cut-same
+  pub cut-row : rowIn (cutOut s at) ≡ rowAt s at
+  cut-row = row-moved (cutOut s at) s 0 at cut-same
 
-  pub cut-form : formAt (cut s at) 0 ≡ formAt s at
-  cut-form = mark-moved (cut s at) s 0 at cut-same
+  pub cut-form : formAt (cutOut s at) 0 ≡ formAt s at
+  cut-form = mark-moved (cutOut s at) s 0 at cut-same
 
-  pub cut-id : idAt (cut s at) 0 ≡ idAt s at
-  cut-id = id-moved (cut s at) s 0 at cut-same
+  pub cut-id : idAt (cutOut s at) 0 ≡ idAt s at
+  cut-id = id-moved (cutOut s at) s 0 at cut-same
 
-  pub cut-tasks : tasksAt (cut s at) 0 ≡ tasksAt s at
-  cut-tasks = tasks-moved (cut s at) s 0 at cut-same
+  pub cut-tasks : tasksAt (cutOut s at) 0 ≡ tasksAt s at
+  cut-tasks = tasks-moved (cutOut s at) s 0 at cut-same
 
-  pub cut-whole : markOf (word 2 s at) ≡ Chain → Whole (cut s at)
-  cut-whole mark = record { mark = ap markOf cut-form ∙ mark; long = cut-long ∙ sym (length-moved (cut s at) s 0 at cut-same) }
+  pub cut-whole : markOf (word 2 s at) ≡ Chain → Whole (cutOut s at)
+  cut-whole mark = record { mark = ap markOf cut-form ∙ mark; long = cut-long ∙ sym (length-moved (cutOut s at) s 0 at cut-same) }

@@ -17,7 +17,7 @@ use Rattle.table.proofs.Standing.{place-none, place-on}
 use Rattle.slices.specs.Stored.{recordOf, formIn}
 use Rattle.slices.specs.Slices.{splice}
 use Rattle.slices.proofs.Stored.{record-is, stored-good, stored-holds}
-use Rattle.slices.proofs.Cuts.{cut, cut-row, cut-whole}
+use Rattle.slices.proofs.Cuts.{cutOut, cut-row, cut-whole}
 use Rattle.slices.proofs.Parts.{Whole, Parts, rowIn, row-size, all-at, map-at, place-sum, stands-there, parts-splice}
 use Rattle.slices.proofs.Parsed.{parts-rows}
 
@@ -46,7 +46,7 @@ module _ (s : List ℕ) (t : Table) (read : readTable s ≡ accepted t) (bytes :
     pub record-there : placeOf t chain + lengthAt s (placeOf t chain) ≤ length s
     record-there = omega (arith, size-there, stored-holds s t read bytes .inside chain h)
 
-    pub record-cut : recordOf s chain ≡ cut s (placeOf t chain)
+    pub record-cut : recordOf s chain ≡ cutOut s (placeOf t chain)
     record-cut = record-is s t read chain ∙ ap (λ n. take n (drop (placeOf t chain) s)) (sym size-there)
 
     pub record-whole : Whole (recordOf s chain)

@@ -35,7 +35,7 @@ use Rattle.table.proofs.Goods.{distances-read, largests-read}
 use Rattle.table.proofs.Stands.{priority-at, cost-at}
 use Rattle.slices.specs.Stored.{recordOf, formIn, OneForm, Mixed}
 use Rattle.slices.proofs.Moved.{SameBytes, word-moved, tasks-moved, mark-moved, id-moved, task-mark-moved, row-moved}
-use Rattle.slices.proofs.Cuts.{cut, cut-same, cut-row, cut-tasks, cut-whole}
+use Rattle.slices.proofs.Cuts.{cutOut, cut-same, cut-row, cut-tasks, cut-whole}
 use Rattle.slices.proofs.Parts.{Whole, Parts, rowIn, all-at}
 use Rattle.slices.proofs.Parsed.{stands, stands-rest}
 use Rattle.slices.proofs.Stored.{accepted-read, stored-good, stored-holds}
@@ -49,12 +49,12 @@ pub record Sound (r : List ℕ) : Type 0 where
 
 -- one that is cut out of bytes is
 pub cut-sound : (s : List ℕ) (at : ℕ) → at + lengthAt s at ≤ length s → markOf (word 2 s at) ≡ Chain → GoodRow (rowAt s at)
-    → ((i : ℕ) → i < tasksAt s at → markOf (word 2 s (firstTask s at + 8 * i)) ≡ Task) → Sound (cut s at)
+    → ((i : ℕ) → i < tasksAt s at → markOf (word 2 s (firstTask s at + 8 * i)) ≡ Task) → Sound (cutOut s at)
 cut-sound s at there mark good tasks = record {
   whole = cut-whole s at there mark;
   good = subst GoodRow (sym (cut-row s at there)) good;
   task-marks = λ i l. let k : i < tasksAt s at = omega (arith, cut-tasks s at there) in
-      ap markOf (task-mark-moved (cut s at) s 0 at (cut-same s at there) i k) ∙ tasks i k;
+      ap markOf (task-mark-moved (cutOut s at) s 0 at (cut-same s at there) i k) ∙ tasks i k;
 }
 
 -- so each stored record of an accepted table is

@@ -65,7 +65,8 @@ start s at t next =
     refusal 2 (length s) when ltb (length s) (at + 2) else
     byMark at (markOf (word 2 s at)) (unless refusal (besideFault s at (formAt s 0) t) next) (unless refusal (endFault s at t) (accepted t))
 
--- the records from `at` on, after the rows of t, with room for `left` chains more
+-- the records from `at` on, after the rows of t, with room for `left` chains more; where there is none, a chain is one too many and leads
+-- nowhere
 unfoldable pub records : ℕ → List ℕ → ℕ → Table → Reading
 records zero s at t = start s at t (refusal 11 at)
 records (suc left) s at t = start s at t (records left s (at + lengthAt s at) (plus t (rowAt s at)))

@@ -8,10 +8,11 @@ use lib.ListN.{length, getD, take, drop, length-append}
 use borrow.Author.Needs.{needs}
 use Rattle.table.specs.Record.{lengthAt}
 use Rattle.slices.specs.code.Wrote.{Wrote}
+use Rattle.slices.proofs.Cuts.{cut-long}
 use Rattle.slices.proofs.Writes.{wrote-none, wrote-put, wrote-on}
 use Rattle.salvaging.specs.Salvage.{recordAt}
 use Rattle.salvaging.specs.code.Walk.{InOrder}
-use Rattle.salvaging.proofs.Stretches.{order-within, order-on, records-on, records-end, record-long}
+use Rattle.salvaging.proofs.Stretches.{order-within, order-on, records-on, records-end}
 use Rattle.salvaging.proofs.put.put_records.Statement.{statement}
 use Rattle.salvaging.proofs.put.put_records.Tie as tie
 
@@ -59,7 +60,7 @@ module _ (c : tie.In-loop Inv-loop μ-loop) where
   there = order-within bytes _ _ next
 
   long : length (recordAt bytes here) ≡ lengthAt bytes here
-  long = record-long bytes here there
+  long = cut-long bytes here there
 
   room : c .before .loop .end + lengthAt bytes here ≤ length (c .before .loop .out)
   room =

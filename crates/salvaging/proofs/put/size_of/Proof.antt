@@ -8,10 +8,11 @@ use lib.ListN.{length, getD, drop, length-append}
 use borrow.Author.Needs.{needs}
 use Rattle.table.specs.Limits.{maxChains}
 use Rattle.table.specs.Record.{lengthAt}
+use Rattle.slices.proofs.Cuts.{cut-long}
 use Rattle.salvaging.specs.Skipped.{Stretch, between, skippedFrom}
 use Rattle.salvaging.specs.Salvage.{recordAt}
 use Rattle.salvaging.specs.code.Walk.{InOrder}
-use Rattle.salvaging.proofs.Stretches.{between-long, between-few, order-within, order-on, skipped-on, skipped-end, skipped-full, records-on, records-end, record-long}
+use Rattle.salvaging.proofs.Stretches.{between-long, between-few, order-within, order-on, skipped-on, skipped-end, skipped-full, records-on, records-end}
 use Rattle.salvaging.proofs.put.size_of.Statement.{statement}
 use Rattle.salvaging.proofs.put.size_of.Tie as tie
 
@@ -119,7 +120,7 @@ loop-again c =
     let stretches = ap (λ (r : List Stretch). length r) (skipped-on s ps i (b .before .loop .at) (b .loop-test .taken) (omega (arith, b .loop-test .taken, start b .pre .1))) in
     rw (← one) record {
       few = omega (arith, b .loop-test .taken);
-      counts = omega (arith, v .counts, records, length-append (recordAt s (here b)) (flatten (map (recordAt s) (drop (i + 1) ps))), record-long s (here b) (there b));
+      counts = omega (arith, v .counts, records, length-append (recordAt s (here b)) (flatten (map (recordAt s) (drop (i + 1) ps))), cut-long s (here b) (there b));
       most = omega (arith, v .most, next b .0);
       gaps = omega (arith, v .gaps, stretches, length-append gap more, counted-is c);
       least = omega (arith, v .least, counted-is c, between-few (b .before .loop .at) (here b));
