@@ -34,6 +34,26 @@ struct task {
     uint32_t priority, cost;
 };
 
+enum {
+    PLACES = 1280, /* more than there are activations up to K */
+    FIRST_STRIDE = PLACES / 2,
+    STRIDES = 20, /* the last of them takes longer than any window or sieve does */
+    BESIDE = MOST_LISTED - 1,
+    AROUND = BESIDE + 1 + BESIDE
+};
+
+/* The greatest sums of a place, of those before it, and of those after it, as far as a step may reach. */
+struct around {
+    uint64_t sum[AROUND];
+};
+
+/* What a query has worked out of a chain's smallest distances: the greatest sums of the first places, and around strides. */
+struct places {
+    unsigned known, strides;
+    uint64_t sum[PLACES];
+    struct around stride[STRIDES];
+};
+
 struct chain {
     const struct form *form;
     uint32_t id, deadline;
@@ -44,6 +64,7 @@ struct chain {
     uint32_t distance[MOST_LISTED], largest[MOST_LISTED]; /* the largest ones where the flag is 1 */
     struct task task[MOST_TASKS];
     size_t at, tasks_at, end; /* where the record, its tasks and what follows stand in the table */
+    struct places *places; /* of a table that is asked for figures */
 };
 
 struct table {
@@ -328,7 +349,27 @@ static const struct chain *find_chain(const struct table *table, uint32_t id)
 
 /* ---- Arrivals ---- */
 
-/* The distance of n activations, for n from 1, by a list that continues. */
+/* A table that is asked for figures. */
+struct asked {
+    struct table table;
+    struct places places[MOST_CHAINS];
+};
+
+static struct fault read_to_ask(const uint8_t *bytes, size_t length, struct asked *asked)
+{
+    struct fault fault = read_table(bytes, length, &asked->table);
+    for (unsigned i = 0; i < asked->table.chains; i++) {
+        asked->table.chain[i].places = &asked->places[i];
+        asked->places[i].known = asked->places[i].strides = 0;
+    }
+    return fault;
+}
+
+enum distances plain_distances = BY_ALL_STEPS;
+enum counting plain_counting = BISECTING;
+uint64_t plain_most_arrivals = 0;
+
+/* The distance of n activations, for n from 1, by a list that goes on by whole lists. */
 static inline uint64_t continued(const uint32_t *list, unsigned listed, uint64_t n)
 {
     uint64_t whole_lists = (n - 1) / listed;
@@ -337,10 +378,39 @@ static inline uint64_t continued(const uint32_t *list, unsigned listed, uint64_t
     return whole_lists * last + (rest == 0 ? 0 : list[rest - 1]);
 }
 
+/* The greatest sum over all ways to write m as steps from 1 to the list's length, each costing its listed distance: over
+   every first step, its distance and the greatest sum of what is left. */
+static void work_out_next(const struct chain *chain, struct places *places)
+{
+    unsigned m = places->known++;
+    unsigned longest = m < chain->listed ? m : chain->listed;
+    uint64_t greatest = 0;
+    for (unsigned step = 1; step <= longest; step++) {
+        uint64_t sum = chain->distance[step - 1] + places->sum[m - step];
+        if (sum > greatest)
+            greatest = sum;
+    }
+    places->sum[m] = greatest;
+}
+
+/* The greatest sum of m, one of the first places. */
+static inline uint64_t greatest_sum(const struct chain *chain, uint64_t m)
+{
+    while (chain->places->known <= m)
+        work_out_next(chain, chain->places);
+    return chain->places->sum[m];
+}
+
+/* The last n whose δ can be asked for by itself. */
+static inline uint64_t last_asked(void) { return plain_distances == BY_WHOLE_LISTS ? UINT64_MAX : PLACES; }
+
 /* δ(n), for n from 1. */
 static inline uint64_t smallest_distance(const struct chain *chain, uint64_t n)
 {
-    return continued(chain->distance, chain->listed, n);
+    assert(n <= last_asked());
+    if (plain_distances == BY_WHOLE_LISTS)
+        return continued(chain->distance, chain->listed, n);
+    return greatest_sum(chain, n - 1);
 }
 
 /* Whether largest distances are known. */
@@ -352,26 +422,123 @@ static uint64_t largest_distance(const struct chain *chain, uint64_t k)
     return chain->form == &gap_form ? (k - 1) * chain->gap : continued(chain->largest, chain->listed, k);
 }
 
-enum counting plain_counting = BISECTING;
-uint64_t plain_most_arrivals = 0;
+/* ---- Arrivals, by walking ---- */
+
+/* η(t), or `most` where it is larger, past the first places: the sum of each place from those before it. */
+static uint64_t walk_on(const struct chain *chain, uint64_t t, uint64_t most)
+{
+    uint64_t n = PLACES, before[MOST_LISTED]; /* the sums of n - 1, n - 2, .. */
+    for (unsigned i = 0; i < MOST_LISTED; i++)
+        before[i] = greatest_sum(chain, PLACES - 1 - i);
+    for (; n < most; n++) {
+        uint64_t greatest = 0;
+        for (unsigned i = 0; i < chain->listed; i++)
+            if (chain->distance[i] + before[i] > greatest)
+                greatest = chain->distance[i] + before[i];
+        if (greatest >= t)
+            break;
+        memmove(before + 1, before, sizeof before - sizeof before[0]);
+        before[0] = greatest;
+    }
+    return n;
+}
 
 /* η(t), or `most` where it is larger: the greatest n with δ(n) < t, found by walking. */
 static uint64_t walk_up_to(const struct chain *chain, uint64_t t, uint64_t most)
 {
     if (t == 0)
         return 0;
-    uint64_t n = 1;
-    while (n < most && smallest_distance(chain, n + 1) < t)
+    uint64_t n = 1, end = most < last_asked() ? most : last_asked();
+    while (n < end && smallest_distance(chain, n + 1) < t)
         n++;
-    return n;
+    return n == end && end < most ? walk_on(chain, t, most) : n;
 }
 
-/* The first of 2, 4, 8, .. with δ(n) ≥ t. Its δ is at most twice that of its half and
-   one list more, so it does not overflow. */
+/* ---- Arrivals, by bisection ---- */
+
+/* The steps of every way to write m + l meet one of any MOST_LISTED places that follow one another: up to there it is a way
+   to write that place, and from there one to write the rest. So the greatest sum of m + l is the greatest of both together
+   over the places up to m. `before` are the sums up to that of m, `after` those from that of l on. */
+static inline uint64_t greatest_joined(const uint64_t *before, const uint64_t *after)
+{
+    uint64_t greatest = 0;
+    for (int i = 0; i < MOST_LISTED; i++)
+        if (before[-i] + after[i] > greatest)
+            greatest = before[-i] + after[i];
+    return greatest;
+}
+
+/* The greatest sums around m + l from those around m and around l: below m + l over the places up to m, from there on over
+   those from m on. */
+static struct around joined(const struct around *m, const struct around *l)
+{
+    struct around found;
+    for (unsigned i = 0; i < BESIDE; i++)
+        found.sum[i] = greatest_joined(&m->sum[BESIDE], &l->sum[i]);
+    for (unsigned i = BESIDE; i < AROUND; i++)
+        found.sum[i] = greatest_joined(&m->sum[AROUND - 1], &l->sum[i - BESIDE]);
+    return found;
+}
+
+/* The first stride is one of the first places, each later one twice the one before. */
+static void work_out_stride(const struct chain *chain, struct places *places)
+{
+    struct around *next = &places->stride[places->strides++];
+    if (next > places->stride)
+        *next = joined(next - 1, next - 1);
+    else
+        for (unsigned i = 0; i < AROUND; i++)
+            next->sum[i] = greatest_sum(chain, FIRST_STRIDE - BESIDE + i);
+}
+
+/* The greatest sums around the first stride times so many twos. */
+static const struct around *stride(const struct chain *chain, unsigned twos)
+{
+    assert(twos < STRIDES);
+    while (chain->places->strides <= twos)
+        work_out_stride(chain, chain->places);
+    return &chain->places->stride[twos];
+}
+
+/* The greatest l below the first stride for which the sum of m + l is below t, which that of m is. The first places are worked
+   out as far as that stride and what is around it. */
+static uint64_t bisect_rest(const struct chain *chain, const struct around *m, uint64_t t)
+{
+    uint64_t within = 0, beyond = FIRST_STRIDE;
+    while (beyond - within > 1) {
+        uint64_t middle = within + (beyond - within) / 2;
+        if (greatest_joined(&m->sum[BESIDE], &chain->places->sum[middle]) < t)
+            within = middle;
+        else
+            beyond = middle;
+    }
+    return within;
+}
+
+/* η(t) where it is past the first places: the greatest n with δ(n) < t, found by strides of which each is half of the one
+   before, and then within the first of them. */
+static uint64_t bisect_on(const struct chain *chain, uint64_t t)
+{
+    unsigned twos = 0;
+    while (stride(chain, twos + 1)->sum[BESIDE] < t)
+        twos++;
+    struct around reached = *stride(chain, twos);
+    uint64_t m = (uint64_t)FIRST_STRIDE << twos;
+    while (twos-- > 0) {
+        const struct around *next = stride(chain, twos);
+        if (greatest_joined(&reached.sum[BESIDE], &next->sum[BESIDE]) >= t)
+            continue;
+        reached = joined(&reached, next);
+        m += (uint64_t)FIRST_STRIDE << twos;
+    }
+    return m + bisect_rest(chain, &reached, t) + 1;
+}
+
+/* The first of 2, 4, 8, .. with δ(n) ≥ t, or that is past the last that can be asked. */
 static uint64_t first_beyond(const struct chain *chain, uint64_t t)
 {
     uint64_t n = 2;
-    while (smallest_distance(chain, n) < t)
+    while (n <= last_asked() && smallest_distance(chain, n) < t)
         n *= 2;
     return n;
 }
@@ -380,6 +547,8 @@ static uint64_t first_beyond(const struct chain *chain, uint64_t t)
 static uint64_t bisect(const struct chain *chain, uint64_t t)
 {
     uint64_t beyond = first_beyond(chain, t), within = beyond / 2;
+    if (beyond > last_asked())
+        return bisect_on(chain, t);
     while (beyond - within > 1) {
         uint64_t middle = within + (beyond - within) / 2;
         if (smallest_distance(chain, middle) < t)
@@ -393,9 +562,8 @@ static uint64_t bisect(const struct chain *chain, uint64_t t)
 /* η(t), or `most` where it is larger, by bisection. */
 static uint64_t bisect_up_to(const struct chain *chain, uint64_t t, uint64_t most)
 {
-    uint64_t n = t == 0 ? 0 : bisect(chain, t);
-    if (n > most)
-        n = most;
+    bool more = t > 0 && most <= PLACES && smallest_distance(chain, most) < t;
+    uint64_t n = t == 0 ? 0 : more ? most : bisect(chain, t);
     if (n > plain_most_arrivals)
         plain_most_arrivals = n;
     return n;
@@ -410,6 +578,15 @@ static inline uint64_t arrivals_up_to(const struct chain *chain, uint64_t t, uin
 
 /* η(t). */
 static uint64_t arrivals(const struct chain *chain, uint64_t t) { return arrivals_up_to(chain, t, UINT64_MAX); }
+
+uint64_t plain_arrivals(const uint32_t *list, unsigned listed, uint64_t t)
+{
+    struct places places;
+    struct chain chain = {.listed = listed, .places = &places};
+    places.known = places.strides = 0;
+    memcpy(chain.distance, list, listed * sizeof list[0]);
+    return arrivals(&chain, t);
+}
 
 /* ---- Segments against chain b ---- */
 
@@ -656,12 +833,12 @@ static void climb_all(const struct table *table, const struct chain *b, uint64_t
 
 bool plain_climbs_take(const uint8_t *table, size_t table_len, uint64_t steps)
 {
-    struct table read;
+    struct asked asked;
     uint64_t steps_left = steps;
-    if (read_table(table, table_len, &read).number)
+    if (read_to_ask(table, table_len, &asked).number)
         return false;
-    for (unsigned i = 0; i < read.chains; i++)
-        climb_all(&read, &read.chain[i], &steps_left);
+    for (unsigned i = 0; i < asked.table.chains; i++)
+        climb_all(&asked.table, &asked.table.chain[i], &steps_left);
     return steps_left == 0;
 }
 
@@ -1630,14 +1807,14 @@ static void write_skipped(const struct salvage *salvage, uint8_t *at)
 
 uint32_t plain_latency(const uint8_t *table, size_t table_len, uint32_t id, uint8_t *answer, size_t answer_len)
 {
-    struct table read;
+    struct asked asked;
     const struct chain *b;
     struct figures figures;
     if (answer_len < 16)
         return 27;
-    uint32_t refusal = read_table(table, table_len, &read).number;
+    uint32_t refusal = read_to_ask(table, table_len, &asked).number;
     if (!refusal)
-        refusal = latency_of(&read, id, &b, &figures);
+        refusal = latency_of(&asked.table, id, &b, &figures);
     if (refusal)
         return refusal;
     put32(answer, (uint32_t)figures.K);
@@ -1650,13 +1827,13 @@ uint32_t plain_latency(const uint8_t *table, size_t table_len, uint32_t id, uint
 static uint32_t answer_misses(struct lent table, uint32_t id, uint32_t k, const struct way *way, uint8_t *answer,
                               size_t answer_len)
 {
-    struct table read;
+    struct asked asked;
     uint32_t misses;
     if (answer_len < 4)
         return 27;
-    uint32_t refusal = read_table(table.bytes, table.length, &read).number;
+    uint32_t refusal = read_to_ask(table.bytes, table.length, &asked).number;
     if (!refusal)
-        refusal = misses_of(&read, id, k, way, &misses);
+        refusal = misses_of(&asked.table, id, k, way, &misses);
     if (!refusal)
         put32(answer, misses);
     return refusal;
@@ -1682,9 +1859,9 @@ uint32_t plain_misses_at_most(const uint8_t *table, size_t table_len, uint32_t i
 
 static uint32_t read_figure(struct lent table, uint32_t id, uint32_t k, const struct way *way, uint64_t *figure)
 {
-    struct table read;
-    uint32_t refusal = read_table(table.bytes, table.length, &read).number;
-    return refusal ? refusal : figure_of(&read, id, k, way, figure);
+    struct asked asked;
+    uint32_t refusal = read_to_ask(table.bytes, table.length, &asked).number;
+    return refusal ? refusal : figure_of(&asked.table, id, k, way, figure);
 }
 
 uint32_t plain_figure(const uint8_t *table, size_t table_len, uint32_t id, uint32_t k, uint64_t *figure)
@@ -1699,9 +1876,9 @@ uint32_t plain_figure_at_most(const uint8_t *table, size_t table_len, uint32_t i
 
 bool plain_packings_exceed(const uint8_t *table, size_t table_len, uint32_t id, uint32_t k, uint64_t limit)
 {
-    struct table read;
+    struct asked asked;
     struct miss_case found;
-    if (read_table(table, table_len, &read).number || case_of(&read, id, k, is_bad, &found) || found.late == 0 ||
+    if (read_to_ask(table, table_len, &asked).number || case_of(&asked.table, id, k, is_bad, &found) || found.late == 0 ||
         found.empty_is_bad)
         return false;
     return meet_packings(&found.overload, found.bad, found.count, limit + 1).left == 0;
@@ -1894,8 +2071,8 @@ static void report_chain(struct text *text, const struct table *table, uint32_t 
 
 static void report_table(struct text *text, const uint8_t *table, size_t table_len)
 {
-    struct table read;
-    struct fault fault = read_table(table, table_len, &read);
+    struct asked asked;
+    struct fault fault = read_to_ask(table, table_len, &asked);
     if (fault.number) {
         char line[LONGEST_LINE];
         snprintf(line, sizeof line, "refused %" PRIu32 " %" PRIu32 "\n", fault.number, fault.at);
@@ -1903,8 +2080,8 @@ static void report_table(struct text *text, const uint8_t *table, size_t table_l
         return;
     }
     say(text, "chain K latency late margin miss10\n");
-    for (unsigned i = 0; i < read.chains; i++)
-        report_chain(text, &read, read.chain[i].id);
+    for (unsigned i = 0; i < asked.table.chains; i++)
+        report_chain(text, &asked.table, asked.table.chain[i].id);
 }
 
 uint32_t plain_report(const uint8_t *table, size_t table_len, uint8_t *text, size_t text_len, uint8_t *answer,

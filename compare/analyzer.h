@@ -42,6 +42,11 @@ uint32_t plain_record(const uint8_t *table, size_t table_len, uint32_t id, uint8
 uint32_t plain_report(const uint8_t *table, size_t table_len, uint8_t *text, size_t text_len, uint8_t *answer,
                       size_t answer_len);
 
+/* How smallest distances go on: by the greatest sum over all steps unless this is set otherwise, to document 01's rule of
+   whole lists, which request 9 replaces. That is there to be told apart from. */
+enum distances { BY_ALL_STEPS, BY_WHOLE_LISTS };
+extern enum distances plain_distances;
+
 /* How arrivals are counted: by bisection unless this is set otherwise. Walking is there to be measured against. */
 enum counting { BISECTING, WALKING };
 extern enum counting plain_counting;
@@ -49,6 +54,9 @@ extern enum counting plain_counting;
 /* The most arrivals of one chain that were counted by bisection since this was last set. More than a capacity, 40, are
    counted in windows alone. */
 extern uint64_t plain_most_arrivals;
+
+/* η(t) of a list of smallest distances, for t up to twice the horizon. */
+uint64_t plain_arrivals(const uint32_t *list, unsigned listed, uint64_t t);
 
 /* Whether the climbs to the windows of all chains of a table take so many steps or more: demands that lie above the t whose
    they are. A refused table has no windows. */

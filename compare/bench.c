@@ -713,6 +713,51 @@ static void salvage_cases(struct source *source)
     measure_wrecks("salvage, 15 records, then marks at random", marks_at_random, source);
 }
 
+/* ---- Lists that do not add up ---- */
+
+/* Seven and eight activations are known to lie apart, and fewer not. A rest of eights is as many sevens as it takes, so the
+   greatest sums settle after 49 places. */
+static void fill_late_settling(struct made_chain *chain, uint32_t seventh, uint32_t eighth)
+{
+    chain->listed = 8;
+    memset(chain->distance, 0, sizeof chain->distance);
+    chain->distance[6] = seventh;
+    chain->distance[7] = eighth;
+}
+
+/* A load near 1 of five chains whose lists settle late, and overload that makes some activations late. */
+static struct made_table late_settling(void)
+{
+    struct made_table table = {0};
+    struct made_chain *b = add_chain(&table, 9500, 1000, 0);
+    fill_late_settling(b, 6998, 8000);
+    add_task(b, 1, 580);
+    for (unsigned i = 0; i < 4; i++) {
+        struct made_chain *chain = add_chain(&table, 1000, 0, 0);
+        fill_late_settling(chain, 6998, 8000);
+        add_task(chain, 2 + i, 100);
+    }
+    struct made_chain *overload = add_chain(&table, 1000, 0, 1000000);
+    overload->overload = true;
+    add_task(overload, 9, 4000);
+    return table;
+}
+
+static void stepped_cases(struct source *source)
+{
+    tables_used = 0;
+    struct stored *late = keep(late_settling());
+    struct stored *random = &tables[tables_used];
+    for (unsigned i = 0; i < 16; i++)
+        keep(stepped_table(source, 16));
+    measure_all("steps: latency, random, 16 chains", LATENCY, random, 16, 0);
+    measure_all("steps: misses, random, 16 chains, k 10", MISSES, random, 16, 10);
+    measure_tables("steps: report, random, 16 chains", REPORT, random, 16);
+    measure_one("steps: latency, 49 places to settle", LATENCY, late, 1, 0, 0);
+    measure_one("steps: misses, 49 places to settle, k 1,000", MISSES, late, 1, 1000, 0);
+    measure_one("steps: report, 49 places to settle", REPORT, late, 0, 0, 0);
+}
+
 /* ---- Growth ---- */
 
 /* So many chains with so many tasks and listed distances each; the first has the lowest priority. */
@@ -764,10 +809,10 @@ static void growth_cases(void)
 
 /* ---- Millions of arrivals ---- */
 
-/* So many chains of cost 1 that come eight at once, and again after so long; below them a chain of two tasks of this cost, and
-   above them an overload chain. The deadline is what the first chain needs without overload where it costs 1,900,000 and four
-   chains come every 40. */
-static struct made_table in_eights(unsigned chains, uint32_t last, uint32_t cost)
+/* So many chains of cost 1 that come eight at once, or seven where a seventh distance is listed, and again after so long; below
+   them a chain of two tasks of this cost, and above them an overload chain. The deadline is what the first chain needs without
+   overload where it costs 1,900,000 and four chains come every 40. */
+static struct made_table in_eights(unsigned chains, uint32_t seventh, uint32_t last, uint32_t cost)
 {
     struct made_table table = {0};
     struct made_chain *b = add_chain(&table, 9500000, 10000000, 10000000);
@@ -775,8 +820,7 @@ static struct made_table in_eights(unsigned chains, uint32_t last, uint32_t cost
     add_task(b, 1, cost);
     for (unsigned i = 0; i < chains; i++) {
         struct made_chain *chain = add_chain(&table, 1000, 0, 0);
-        chain->listed = 8;
-        chain->distance[7] = last; /* those before it are 0 */
+        fill_late_settling(chain, seventh, last);
         add_task(chain, 2 + i, 1);
     }
     struct made_chain *overload = add_chain(&table, 1000, 0, 10000000);
@@ -789,14 +833,18 @@ static void bisected_cases(void)
 {
     tables_used = 0;
     plain_counting = BISECTING;
-    struct stored *ending_in_1 = keep(in_eights(14, 1, 44000)); /* the last demand that is worked out is that of 9,957,448 */
-    struct stored *many = keep(in_eights(4, 40, 950000));
+    struct stored *ending_in_1 = keep(in_eights(14, 0, 1, 44000)); /* the last demand that is worked out is that of 9,957,448 */
+    struct stored *many = keep(in_eights(4, 0, 40, 950000));
+    struct stored *stepped = keep(in_eights(4, 34, 40, 950000));
     measure_one("latency, lists that end in 1, plain bisects", LATENCY, ending_in_1, 1, 0, 0);
     measure_one("misses, lists that end in 1, plain bisects", MISSES, ending_in_1, 1, 10, 0);
     measure_one("report, lists that end in 1, plain bisects", REPORT, ending_in_1, 0, 0, 0);
     measure_one("latency, millions of arrivals, plain bisects", LATENCY, many, 1, 0, 0);
     measure_one("misses, millions of arrivals, plain bisects", MISSES, many, 1, 10, 0);
     measure_one("report, millions of arrivals, plain bisects", REPORT, many, 0, 0, 0);
+    measure_one("steps: latency, millions, plain bisects", LATENCY, stepped, 1, 0, 0);
+    measure_one("steps: misses, millions, plain bisects", MISSES, stepped, 1, 10, 0);
+    measure_one("steps: report, millions, plain bisects", REPORT, stepped, 0, 0, 0);
 }
 
 int main(int count, char **words)
@@ -815,6 +863,7 @@ int main(int count, char **words)
     second_way_cases(&source);
     largest_cases(&source);
     salvage_cases(&source);
+    stepped_cases(&source);
     growth_cases();
     bisected_cases();
     return 0;

@@ -3,7 +3,7 @@
 
    Makes N tables from SEED, of both forms, and for each some to be merged, some rows to be written and some wrecks to be
    salvaged, asks both every question about them, and stops at the first difference, with the tables or the rows and the
-   call. */
+   call. Latency and misses are asked of the plain one by the former rule of smallest distances too: none has grown. */
 #include "../include/mishtodran.h"
 #include "analyzer.h"
 #include "generate.h"
@@ -40,6 +40,7 @@ enum { WRITE_ROOM = MISHTODRAN_MOST_TABLE_BYTES + 64, READ_ROOM = MISHTODRAN_MOS
 enum { SKIPPED_BYTES = 8, LIST_ROOM = MISHTODRAN_MOST_CHAINS * SKIPPED_BYTES + 16 }; /* more than any list takes */
 enum { MANY_ARRIVALS = 1000000 };  /* of one chain in a window: too many to be counted one by one */
 enum { MOST_PACKINGS = 100000 };   /* of a call that the engine which goes through every packing is asked */
+enum { MOST_STEPS = 1000000 };     /* of the climbs to all windows of a table that is asked by the former rule too */
 
 static const char *const entry_name[] = {"latency", "misses", "misses plain", "misses at most", "segment",
                                          "record",  "check",  "save",         "merge",          "conflict",
@@ -49,6 +50,9 @@ static const size_t answer_bytes[] = {16, 4, 4, 4, 8, 8, 8};
 static const char *const with_many[] = {"latency, over a million arrivals", "misses, over a million arrivals",
                                         "misses plain, over a million arrivals",
                                         "misses at most, over a million arrivals"};
+static const char *const with_unadded[] = {"latency, a list that does not add up", "misses, a list that does not add up",
+                                           "misses plain, a list that does not add up",
+                                           "misses at most, a list that does not add up"};
 
 /* What decides a merge: one of its tables, or all of them together where each is accepted. */
 enum { ANCESTOR, FIRST, SECOND, TOGETHER, DECIDERS };
@@ -82,6 +86,45 @@ static const char *const at_most_name[] = {"no activation late",
                                            "k, and above the misses, by uses",
                                            "k, the empty set called bad though it is not",
                                            "k, a miss without overload"};
+
+/* What a latency comes to by smallest distances that add up, beside the former rule: more than one of these may hold. */
+enum { SMALLER_K, SMALLER_LATENCY, FEWER_LATE, FIGURE_FOR_16, FIGURE_FOR_17, LATENCY_OF_MANY, LATENCY_CHANGES };
+static const char *const latency_change[] = {"a smaller K than by whole lists",
+                                             "a smaller latency than by whole lists",
+                                             "fewer late than by whole lists",
+                                             "a figure, by whole lists 16",
+                                             "a figure, by whole lists 17",
+                                             "other than by whole lists, over a million arrivals"};
+
+/* The same of misses, and of the number that they do not exceed. */
+enum {
+    MISSES_FOR_16,
+    MISSES_FOR_17,
+    MISSES_FOR_18,
+    MISSES_FOR_19,
+    MISSES_FOR_21,
+    FEWER_MISSES,
+    MISSES_OF_MANY,
+    MISSES_CHANGES
+};
+static const char *const misses_change[] = {"a figure, by whole lists 16",
+                                            "a figure, by whole lists 17",
+                                            "a figure, by whole lists 18",
+                                            "a figure, by whole lists 19",
+                                            "a figure, by whole lists 21",
+                                            "fewer than by whole lists",
+                                            "other than by whole lists, over a million arrivals"};
+enum { BOUND_BELOW, BOUND_ABOVE, BOUND_CHANGES };
+static const char *const bound_change[] = {"below that by whole lists", "above that by whole lists"};
+
+/* The lists of smallest distances in a table whose figures are answered: of one that does not add up its best step, which has
+   the greatest distance for its length. */
+enum { GOES_ON_AS_LISTED, ADDS_UP_AS_LISTED, BEST_STEP, LIST_GROUNDS = BEST_STEP + 8 };
+static const char *const list_name[] = {"a list that goes on by whole lists", "a list that adds up, but not past its end",
+                                        "one that does not, best step 1",     "one that does not, best step 2",
+                                        "one that does not, best step 3",     "one that does not, best step 4",
+                                        "one that does not, best step 5",     "one that does not, best step 6",
+                                        "one that does not, best step 7",     "one that does not, best step 8"};
 
 /* What a check comes to where it is the form that decides. Of a largest distance that is at fault, the only reason. */
 enum {
@@ -199,19 +242,26 @@ static const char *const salvage_name[] = {"accepted, CH",
                                            "36, bytes without a record",
                                            "35, 4,097 bytes"};
 
-/* How often each entry has returned each number, and how often with many arrivals in a window; how often the check has
-   answered it of a table whose first mark is not CG, and of one whose is; how often a merge has returned it because of
-   what, and the engine that goes through every packing was left out because there are too many. */
+/* How often each entry has returned each number, how often with many arrivals in a window, and how often of an accepted table
+   with a list that does not add up; how often the check has answered it of a table whose first mark is not CG, and of one
+   whose is; how often a merge has returned it because of what; how often the engine that goes through every packing was left
+   out because there are too many, and the former rule of smallest distances because by it climbs take too many steps. */
 static uint64_t met[ENTRIES][NUMBERS];
 static uint64_t met_with_many[ENTRIES][NUMBERS];
+static uint64_t met_with_unadded[ENTRIES][NUMBERS];
 static uint64_t answered[2][NUMBERS];
 static uint64_t decided[DECIDERS][NUMBERS];
 static uint64_t plain_left_out;
+static uint64_t former_left_out;
 
 static const char *const answered_of[] = {"answered by check, CG not first", "answered by check, CG first"};
 
 static uint64_t ground_met[GROUNDS];
 static uint64_t at_most_met[AT_MOST_GROUNDS];
+static uint64_t latency_changed[LATENCY_CHANGES];
+static uint64_t misses_changed[MISSES_CHANGES];
+static uint64_t bound_changed[BOUND_CHANGES];
+static uint64_t list_met[MISSES + 1][LIST_GROUNDS];
 static uint64_t check_met[CHECK_GROUNDS];
 static uint64_t save_met[SAVE_GROUNDS];
 static uint64_t merge_met[MERGE_GROUNDS];
@@ -221,6 +271,11 @@ static uint64_t salvage_met[SALVAGE_GROUNDS];
 
 static const struct tally tallies[] = {{"misses", GROUNDS, ground_name, ground_met},
                                        {"misses at most", AT_MOST_GROUNDS, at_most_name, at_most_met},
+                                       {"latency", LATENCY_CHANGES, latency_change, latency_changed},
+                                       {"misses", MISSES_CHANGES, misses_change, misses_changed},
+                                       {"misses at most", BOUND_CHANGES, bound_change, bound_changed},
+                                       {"latency", LIST_GROUNDS, list_name, list_met[LATENCY]},
+                                       {"misses", LIST_GROUNDS, list_name, list_met[MISSES]},
                                        {"check", CHECK_GROUNDS, check_name, check_met},
                                        {"save", SAVE_GROUNDS, save_name, save_met},
                                        {"merge", MERGE_GROUNDS, merge_name, merge_met},
@@ -411,6 +466,145 @@ static void stop_at_query(const struct generated *table, const struct query *que
     exit(1);
 }
 
+/* ---- The former rule of smallest distances ---- */
+
+/* Whether the climbs of the table under way are few enough by the former rule for it to be asked so too. */
+static bool former_is_asked;
+
+static void look_at_former(const struct generated *table)
+{
+    plain_distances = BY_WHOLE_LISTS;
+    former_is_asked = !plain_climbs_take(table->bytes, table->length, MOST_STEPS);
+    plain_distances = BY_ALL_STEPS;
+    former_left_out += !former_is_asked;
+}
+
+static struct outcome ask_former(const struct generated *table, const struct query *query)
+{
+    struct outcome former = nothing_yet();
+    plain_distances = BY_WHOLE_LISTS;
+    former.returned = ask_plain(table, query, former.answer);
+    plain_distances = BY_ALL_STEPS;
+    return former;
+}
+
+/* Whether smallest distances that add up keep what is asked of them: a figure stays one, and does not grow, and a margin does
+   not shrink. Only the number that misses do not exceed may be any. */
+static bool keeps_promise(const struct query *query, const struct outcome *former, const struct outcome *now)
+{
+    unsigned figures = query->entry == LATENCY ? 3 : query->entry == MISSES ? 1 : 0;
+    if (former->returned != 0 || now->returned != 0)
+        return former->returned != 0;
+    for (unsigned i = 0; i < figures; i++)
+        if (get32(now->answer + 4 * i) > get32(former->answer + 4 * i))
+            return false;
+    return query->entry != LATENCY || (int32_t)get32(now->answer + 12) >= (int32_t)get32(former->answer + 12);
+}
+
+static bool differs(const struct outcome *former, const struct outcome *now)
+{
+    return former->returned != 0 || memcmp(former->answer, now->answer, ANSWER_ROOM) != 0;
+}
+
+static void note_latency_change(const struct outcome *former, const struct outcome *now, bool many)
+{
+    for (unsigned i = SMALLER_K; i <= FEWER_LATE; i++)
+        latency_changed[i] += former->returned == 0 && get32(now->answer + 4 * i) < get32(former->answer + 4 * i);
+    latency_changed[FIGURE_FOR_16] += former->returned == 16;
+    latency_changed[FIGURE_FOR_17] += former->returned == 17;
+    latency_changed[LATENCY_OF_MANY] += many && differs(former, now);
+}
+
+static void note_misses_change(const struct outcome *former, const struct outcome *now, bool many)
+{
+    static const uint8_t numbers[] = {16, 17, 18, 19, 21};
+    for (unsigned i = MISSES_FOR_16; i <= MISSES_FOR_21; i++)
+        misses_changed[i] += former->returned == numbers[i];
+    misses_changed[FEWER_MISSES] += former->returned == 0 && get32(now->answer) < get32(former->answer);
+    misses_changed[MISSES_OF_MANY] += many && differs(former, now);
+}
+
+static void note_bound_change(const struct outcome *former, const struct outcome *now)
+{
+    bound_changed[BOUND_BELOW] += former->returned == 0 && get32(now->answer) < get32(former->answer);
+    bound_changed[BOUND_ABOVE] += former->returned == 0 && get32(now->answer) > get32(former->answer);
+}
+
+/* Asks by the former rule too, and holds both against each other. */
+static void hold_to_former(const struct generated *table, const struct query *query, const struct outcome *now)
+{
+    bool many = plain_most_arrivals > MANY_ARRIVALS;
+    struct outcome former = ask_former(table, query);
+    if (!keeps_promise(query, &former, now)) {
+        printf("%s(%" PRIu32 ", %" PRIu32 ") has grown, or is refused where it was not\n", entry_name[query->entry],
+               query->number[0], query->number[1]);
+        printf("family: %s %s\n", table->family, table->damage);
+        print_hex("table", table->bytes, table->length);
+        print_outcome("by whole lists", &former);
+        print_outcome("by all steps", now);
+        exit(1);
+    }
+    if (now->returned != 0)
+        return;
+    if (query->entry == LATENCY)
+        note_latency_change(&former, now, many);
+    else if (query->entry == MISSES)
+        note_misses_change(&former, now, many);
+    else
+        note_bound_change(&former, now);
+}
+
+/* ---- Lists that add up ---- */
+
+/* Whether any two steps come to no more than both together, up to the list's end; and past it, where one is a whole list and
+   the rest. */
+static bool adds_up(const uint32_t *list, unsigned listed, bool past_end)
+{
+    for (unsigned one = 1; one <= listed; one++)
+        for (unsigned other = 1; other <= one; other++) {
+            unsigned both = one + other, rest = both - listed;
+            if (both <= listed && list[one - 1] + list[other - 1] > list[both - 1])
+                return false;
+            if (past_end && both > listed && list[one - 1] + list[other - 1] > list[listed - 1] + list[rest - 1])
+                return false;
+        }
+    return true;
+}
+
+static unsigned best_step(const uint32_t *list, unsigned listed)
+{
+    unsigned best = 1;
+    for (unsigned step = 2; step <= listed; step++)
+        if ((uint64_t)list[step - 1] * best > (uint64_t)list[best - 1] * step)
+            best = step;
+    return best;
+}
+
+static unsigned list_ground(const uint8_t *record)
+{
+    struct parts parts = parts_of(record);
+    uint32_t list[8];
+    for (unsigned i = 0; i < parts.listed; i++)
+        list[i] = get32(record + parts.list_at + 4 * i);
+    if (!adds_up(list, parts.listed, false))
+        return BEST_STEP + best_step(list, parts.listed) - 1;
+    return adds_up(list, parts.listed, true) ? GOES_ON_AS_LISTED : ADDS_UP_AS_LISTED;
+}
+
+/* What lists an accepted table has of which an entry returns this. */
+static void note_lists(const struct generated *table, unsigned entry, uint32_t returned)
+{
+    unsigned grounds = 0;
+    for (const uint8_t *at = table->bytes; at[0] == 'C'; at += parts_of(at).end)
+        grounds |= 1u << list_ground(at);
+    if (grounds >> BEST_STEP != 0)
+        note(met_with_unadded[entry], returned);
+    for (unsigned ground = 0; ground < LIST_GROUNDS && entry <= MISSES && returned == 0; ground++)
+        list_met[entry][ground] += grounds >> ground & 1;
+}
+
+/* ---- Both sides ---- */
+
 /* Asks both, and gives back what they return and answer. */
 static struct outcome ask(const struct generated *table, struct query query)
 {
@@ -430,6 +624,10 @@ static struct outcome ask(const struct generated *table, struct query query)
         note(met_with_many[query.entry], proved.returned);
     if (query.entry == CHECK && proved.returned == 0)
         note_check(table, get32(proved.answer), get32(proved.answer + 4));
+    if (query.entry <= MISSES_AT_MOST && (proved.returned == 0 || (proved.returned >= 12 && proved.returned <= 21)))
+        note_lists(table, query.entry, proved.returned);
+    if (query.entry <= MISSES_AT_MOST && query.entry != MISSES_PLAIN && former_is_asked)
+        hold_to_former(table, &query, &proved);
     return proved;
 }
 
@@ -1871,6 +2069,7 @@ static void ask_spoiled(struct source *source, struct generated *table, const st
 /* The table is spoiled at the end. */
 static void compare_table(struct source *source, struct generated *table)
 {
+    look_at_former(table);
     struct places places = find_places(table);
     ask_figures(source, table, &places);
     ask_segments(table, &places);
@@ -1929,6 +2128,8 @@ static const struct numbers of_rows = {13, {3, 4, 5, 6, 7, 9, 10, 11, 28, 29, 30
 static const struct numbers of_form[] = {{14, {1, 2, 3, 4, 5, 6, 7, 9, 10, 11, 28, 29, 30, 31}},
                                          {13, {1, 2, 3, 4, 5, 6, 9, 10, 11, 28, 29, 30, 33}}};
 static const struct numbers of_many = {2, {0, 16}};
+static const struct numbers of_latency = {4, {0, 12, 16, 17}}; /* of accepted tables */
+static const struct numbers of_misses = {10, {0, 12, 13, 14, 15, 16, 17, 18, 19, 21}};
 static const struct numbers of_merge = {7, {0, 1, 3, 9, 11, 24, 32}}; /* of accepted tables */
 
 /* What each entry can give: a table's numbers, all of them or some, and its own. */
@@ -1977,12 +2178,15 @@ static bool lacks_ground(void)
     return missing;
 }
 
-/* Whether no latency, no misses or nothing like them with many arrivals were answered, or none refused. */
-static bool lacks_many(void)
+/* Whether no latency, no misses or nothing like them with many arrivals were answered, or none refused; or of tables with a
+   list that does not add up, not with each number. */
+static bool lacks_figures(void)
 {
     bool missing = false;
-    for (unsigned entry = LATENCY; entry <= MISSES_AT_MOST; entry++)
+    for (unsigned entry = LATENCY; entry <= MISSES_AT_MOST; entry++) {
         missing |= lacks(with_many[entry], met_with_many[entry], &of_many);
+        missing |= lacks(with_unadded[entry], met_with_unadded[entry], entry == LATENCY ? &of_latency : &of_misses);
+    }
     return missing;
 }
 
@@ -2008,6 +2212,8 @@ static void print_met(void)
         print_counts(entry_name[entry], met[entry]);
     for (unsigned entry = LATENCY; entry <= MISSES_AT_MOST; entry++)
         print_counts(with_many[entry], met_with_many[entry]);
+    for (unsigned entry = LATENCY; entry <= MISSES_AT_MOST; entry++)
+        print_counts(with_unadded[entry], met_with_unadded[entry]);
     for (unsigned largest = 0; largest < 2; largest++)
         print_counts(answered_of[largest], answered[largest]);
     for (unsigned by = 0; by < DECIDERS; by++)
@@ -2016,6 +2222,7 @@ static void print_met(void)
         for (unsigned ground = 0; ground < tallies[i].count; ground++)
             printf("%s, %s: %" PRIu64 " calls\n", tallies[i].what, tallies[i].name[ground], tallies[i].met[ground]);
     printf("misses plain, left out for over %d packings: %" PRIu64 " calls\n", MOST_PACKINGS, plain_left_out);
+    printf("by whole lists, left out for over %d steps of climbs: %" PRIu64 " tables\n", MOST_STEPS, former_left_out);
 }
 
 int main(int count, char **words)
@@ -2033,7 +2240,7 @@ int main(int count, char **words)
         compare_table(&source, &under_way);
     }
     print_met();
-    if (tables >= 1000 && (lacks_number() || lacks_many() || lacks_ground()))
+    if (tables >= 1000 && (lacks_number() || lacks_figures() || lacks_ground()))
         return 1;
     printf("%" PRIu64 " tables, no difference\n", tables);
     if (fflush(stdout) != 0 || ferror(stdout)) {

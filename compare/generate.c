@@ -12,7 +12,7 @@ enum {
     DEAREST = 1000000,
     HIGHEST = 65535,
     MOST_IN_ALL = 64,
-    MOST_STEPS = 100000 /* of the climbs to all windows of a damaged table */
+    MOST_STEPS = 100000 /* of the climbs to all windows of a damaged table, and of one that works off slowly */
 };
 
 /* ---- Numbers ---- */
@@ -186,6 +186,73 @@ static void fill_list(struct source *source, struct made_chain *chain, uint64_t 
     }
     chain->distance[chain->listed - 1] = last;
     sort(chain->distance, chain->listed);
+}
+
+/* What the other steps of a list are beside the best one, which has the greatest distance for its length: anything below
+   that, just below it, as little as may be, or so but for those from one on. With this one close to the best the greatest
+   sums settle late: each rest takes another number of its steps. */
+enum { ANY_LESS, JUST_LESS, FAR_LESS, LESS_BUT_ONE, LESSER };
+
+struct steps {
+    unsigned listed, best;
+    uint32_t far; /* of the best */
+    unsigned style, one;
+};
+
+/* The most that a step can be beside the best one. */
+static uint32_t most_step(const struct steps *steps, unsigned step)
+{
+    return least((step * steps->far - 1) / steps->best, LATEST);
+}
+
+static void list_steps(struct source *source, struct made_chain *chain, const struct steps *steps)
+{
+    unsigned best = steps->best, one = steps->one;
+    chain->listed = steps->listed;
+    for (unsigned step = 1; step <= steps->listed; step++) {
+        uint32_t distance = step < best ? 0 : steps->far, high = most_step(steps, step);
+        bool from_one = step >= one && (one > best || step < best);
+        if (steps->style == ANY_LESS)
+            distance = (uint32_t)draw(source, distance, high);
+        else if (steps->style == JUST_LESS)
+            distance = (uint32_t)draw(source, high < distance + 2 ? distance : high - 2, high);
+        else if (steps->style == LESS_BUT_ONE && from_one)
+            distance = most_step(steps, one);
+        chain->distance[step - 1] = step == best ? steps->far : distance;
+    }
+    sort(chain->distance, steps->listed);
+}
+
+/* A step beside the best one; mostly the next to it. */
+static unsigned beside_best(struct source *source, unsigned listed, unsigned best)
+{
+    unsigned step = one_in(source, 2) ? (unsigned)draw(source, 1, listed) : best + 1;
+    return step == best || step > listed ? (best == 1 ? 2 : best - 1) : step;
+}
+
+/* A list of at least two with this best step of this distance. */
+static void fill_steps(struct source *source, struct made_chain *chain, unsigned listed, unsigned best, uint32_t far)
+{
+    struct steps steps = {.listed = listed, .best = best, .far = far, .style = (unsigned)draw(source, 0, LESSER - 1)};
+    steps.one = beside_best(source, listed, best);
+    list_steps(source, chain, &steps);
+}
+
+/* A list of eight, no more frequent than by this last distance, whose sums settle as late as can be: by sevens and eights, after
+   48 places or 49. */
+static void fill_settling_late(struct source *source, struct made_chain *chain, uint32_t last)
+{
+    unsigned best = (unsigned)draw(source, 7, 8);
+    uint32_t far = (last * best + 7) / 8 * (uint32_t)draw(source, 1, 8);
+    list_steps(source, chain, &(struct steps){8, best, least(far, LATEST), LESS_BUT_ONE, 15 - best});
+}
+
+/* A list with this distance on average that mostly does not add up. */
+static void fill_stepped_list(struct source *source, struct made_chain *chain, uint64_t mean)
+{
+    mean = least(mean < 1 ? 1 : mean, LATEST / 2);
+    unsigned listed = (unsigned)draw(source, 2, 8), best = (unsigned)draw(source, 1, least(listed, LATEST / mean));
+    fill_steps(source, chain, listed, best, (uint32_t)mean * best);
 }
 
 /* The least gap that a list allows. */
@@ -451,7 +518,10 @@ static unsigned tasks_for(struct source *source, unsigned left, unsigned chains_
     return (unsigned)draw(source, 1, least(16, left - chains_after));
 }
 
-struct made_table light_table(struct source *source, unsigned chains)
+typedef void list_filling(struct source *source, struct made_chain *chain, uint64_t mean);
+
+/* Chains that keep the processor busy for less than nine tenths of the time, their lists filled in this way. */
+static struct made_table light_by(struct source *source, unsigned chains, list_filling *fill)
 {
     static const uint32_t priorities[] = {3, 6, 12, HIGHEST};
     static const uint32_t costs[] = {3, 20, 1000, 20000};
@@ -467,7 +537,7 @@ struct made_table light_table(struct source *source, unsigned chains)
         chain->asynchronous = one_in(source, 2);
         chain->overload = one_in(source, 4);
         uint64_t rare = chain->overload ? draw(source, 1, 30) : 1;
-        fill_list(source, chain, cost_of(chain) * chains * 100 / busy * rare * draw(source, 10, 30) / 10);
+        fill(source, chain, cost_of(chain) * chains * 100 / busy * rare * draw(source, 10, 30) / 10);
         fill_gap(source, chain);
         chain->deadline = (uint32_t)draw(source, 1, least(cost_of(chain) * (1 + chains) * 2, LATEST));
     }
@@ -476,6 +546,13 @@ struct made_table light_table(struct source *source, unsigned chains)
         if (one_in(source, 2))
             make_late(source, &table, i);
     return table;
+}
+
+struct made_table light_table(struct source *source, unsigned chains) { return light_by(source, chains, fill_list); }
+
+struct made_table stepped_table(struct source *source, unsigned chains)
+{
+    return light_by(source, chains, fill_stepped_list);
 }
 
 struct made_table full_table(struct source *source)
@@ -506,7 +583,7 @@ static struct made_table heavy_table(struct source *source)
         chain->asynchronous = one_in(source, 2);
         chain->overload = one_in(source, 4);
         uint64_t mean = cost_of(chain) * chains * draw(source, 20, 80) / 100;
-        fill_list(source, chain, mean < 8000 ? 8000 : mean);
+        (one_in(source, 4) ? fill_stepped_list : fill_list)(source, chain, mean < 8000 ? 8000 : mean);
         fill_gap(source, chain);
     }
     return table;
@@ -525,7 +602,7 @@ static struct made_table close_to_one(struct source *source)
         split_cost(chain, (uint32_t)draw(source, 1, 6), cost / 2 + 1);
         chain->asynchronous = one_in(source, 3);
         chain->overload = i > 0 && one_in(source, 3);
-        fill_list(source, chain, mean);
+        (one_in(source, 4) ? fill_stepped_list : fill_list)(source, chain, mean);
         fill_gap(source, chain);
     }
     if (one_in(source, 2))
@@ -539,11 +616,13 @@ static struct made_table backlog(struct source *source)
     struct made_table table = {0};
     uint32_t cost = (uint32_t)draw(source, 1, 9700);
     uint32_t slack = (uint32_t)draw(source, 1, 20);
-    uint64_t wanted = one_in(source, 2) ? draw(source, 1021, 1027) : draw(source, 1, 1100);
+    uint64_t wanted = one_in(source, 2) ? draw(source, 1021, 1027) : draw(source, 1, 1300);
     uint64_t extra = slack * wanted + draw(source, 0, 2) - 1;
     struct made_chain *b = add_chain(&table, (uint32_t)draw(source, 1, cost + extra + 1), cost + slack, cost + slack);
     add_task(b, 5, cost);
     b->asynchronous = one_in(source, 2);
+    if (!one_in(source, 3))
+        fill_stepped_list(source, b, cost + slack);
     unsigned parts = (unsigned)draw(source, 1, 3);
     for (unsigned i = 0; i < parts && extra > 0; i++) {
         uint64_t part = i + 1 == parts ? extra : draw(source, 1, extra);
@@ -684,6 +763,8 @@ static void spread_overload(struct source *source, struct made_table *table, uin
         if (one_in(source, 6)) {
             chain->listed = 2;
             chain->distance[1] = least(chain->distance[0] * 2ull, LATEST);
+        } else if (one_in(source, 4)) {
+            fill_stepped_list(source, chain, chain->distance[0]);
         }
     }
 }
@@ -698,6 +779,8 @@ static uint64_t bring_together(struct source *source, struct made_chain *b)
         b->distance[i] = (uint32_t)draw(source, 0, cost_of(b));
     b->distance[b->listed - 1] = apart * b->listed;
     sort(b->distance, b->listed);
+    if (one_in(source, 4))
+        fill_steps(source, b, b->listed, b->listed, apart * b->listed);
     return (b->listed - 1) * cost_of(b);
 }
 
@@ -815,9 +898,34 @@ static void sieve_deadline(struct source *source, struct made_table *table, uint
     table->chain[0].deadline = deadline < high ? (uint32_t)deadline : high - (high > 1);
 }
 
+/* Three activations of b, and another chain that comes again where the third's deadline would end by the distance as it is
+   listed, or a little later; by all steps that ends later still. */
+static struct made_table sieved_later(struct source *source)
+{
+    static const uint32_t costs[] = {4, 20, 1000};
+    struct made_table table = {0};
+    uint32_t dearest = pick(source, costs, 3);
+    add_sieved(source, &table, dearest);
+    add_returning(source, &table, dearest);
+    add_few_segments(source, &table, dearest);
+    struct made_chain *b = &table.chain[0], *other = &table.chain[1];
+    uint64_t without_overload = 3 * cost_of(b) + cost_of(other), second = draw(source, 2, cost_of(b));
+    uint64_t third = draw(source, second, 2 * second - 1), again = without_overload + draw(source, 1, 2 * dearest);
+    b->listed = 3;
+    b->distance[0] = (uint32_t)second;
+    b->distance[1] = (uint32_t)third;
+    b->distance[2] = 500 * dearest;
+    b->gap = least_gap(b);
+    b->deadline = (uint32_t)(again - third - draw(source, 0, 2 * second - third - 1));
+    come_again(other, again, 500 * dearest);
+    return table;
+}
+
 /* Others, and now and then b itself, come again at about the time at which b's window ends with some of the overload. */
 static struct made_table sieved(struct source *source)
 {
+    if (one_in(source, 4))
+        return sieved_later(source);
     static const uint32_t costs[] = {4, 20, 1000};
     struct made_table table = {0};
     uint32_t dearest = pick(source, costs, 3), far = 500 * dearest;
@@ -877,9 +985,19 @@ static struct made_table past_horizon(struct source *source)
 
 /* ---- Chains that come millions of times in a window ---- */
 
-/* So many distances up to this last one: the others are 0, all alike, or any. */
+/* So many distances up to this last one: the others are 0, all alike, or any. Or steps of which the best is as long as its
+   part of the last; of eight mostly such that the sums settle late. */
 static void fill_short_list(struct source *source, struct made_chain *chain, unsigned listed, uint32_t last)
 {
+    unsigned best = (unsigned)draw(source, 1, listed);
+    if (listed == 8 && !one_in(source, 3)) {
+        fill_settling_late(source, chain, last);
+        return;
+    }
+    if (listed > 1 && one_in(source, 3)) {
+        fill_steps(source, chain, listed, best, (last * best + listed - 1) / listed);
+        return;
+    }
     bool alike = one_in(source, 2);
     uint32_t each = one_in(source, 2) ? 0 : (uint32_t)draw(source, 0, last);
     chain->listed = listed;
@@ -959,50 +1077,133 @@ static struct made_table frequent(struct source *source)
     return table;
 }
 
-/* δ(n). */
+/* δ(n), up to the horizon: the least time after which so many have come. */
 static uint64_t distance_of(const struct made_chain *chain, uint64_t n)
 {
-    uint64_t lists = (n - 1) / chain->listed, rest = (n - 1) % chain->listed;
-    return lists * chain->distance[chain->listed - 1] + (rest == 0 ? 0 : chain->distance[rest - 1]);
+    uint64_t low = 0, high = LATEST;
+    while (low < high) {
+        uint64_t middle = low + (high - low) / 2;
+        if (plain_arrivals(chain->distance, chain->listed, middle + 1) >= n)
+            high = middle;
+        else
+            low = middle + 1;
+    }
+    return low;
 }
 
-/* How many activations come before the n-th, and not with it. */
-static uint64_t earlier(const struct made_chain *chain, uint64_t n)
+/* One of the first activations, where the greatest sums have not settled; or one near any time, now and then the horizon. */
+static uint64_t any_activation(struct source *source, const struct made_chain *chain)
 {
-    uint64_t at = distance_of(chain, n);
-    while (n > 1 && distance_of(chain, n - 1) == at)
-        n--;
-    return n - 1;
+    if (one_in(source, 2))
+        return one_in(source, 3) ? draw(source, 2, 40) : draw(source, 41, 60);
+    uint64_t about = one_in(source, 4) ? LATEST : draw(source, LATEST / 100, LATEST);
+    return plain_arrivals(chain->distance, chain->listed, about) - draw(source, 0, chain->listed);
 }
 
 /* What some chains of cost 1 that come together leave of the time before an activation, or a tick more or less: with so much
-   to do besides, a window ends there, and would not if one arrival more or less were counted. The activation is the first
-   after a whole list, or any, now and then near the horizon. */
+   to do besides, a window ends there, and would not if one arrival more or less were counted. */
 static uint64_t left_before(struct source *source, const struct made_chain *chain, unsigned chains)
 {
-    uint64_t about = one_in(source, 4) ? LATEST : draw(source, LATEST / 100, LATEST);
-    uint64_t n = 1 + about / chain->distance[chain->listed - 1] * chain->listed;
-    if (one_in(source, 2))
-        n += draw(source, 0, chain->listed - 1);
-    return distance_of(chain, n) - earlier(chain, n) * chains + draw(source, 0, 2) - 1;
+    uint64_t at = distance_of(chain, any_activation(source, chain));
+    uint64_t done = plain_arrivals(chain->distance, chain->listed, at) * chains;
+    return (at > done + 1 ? at - done : 2) + draw(source, 0, 2) - 1;
 }
 
 /* A window that ends where other chains come. */
 static struct made_table at_arrivals(struct source *source)
 {
     struct made_table table = {0};
-    unsigned others = (unsigned)draw(source, 1, 3), listed = (unsigned)draw(source, 1, 8);
+    unsigned others = (unsigned)draw(source, 1, 3), listed = one_in(source, 2) ? 8 : (unsigned)draw(source, 1, 8);
     struct made_chain *b = add_chain(&table, (uint32_t)draw(source, 1, LATEST), LATEST, LATEST);
     struct made_chain *other = add_frequent(source, &table, listed, leaving_time(source, others, listed));
     for (unsigned i = 1; i < others; i++)
         memcpy(add_frequent(source, &table, listed, 1)->distance, other->distance, sizeof other->distance);
-    uint64_t left = left_before(source, other, others), rare = one_in(source, 2) ? draw(source, 1, left / 2) : 0;
+    uint64_t left = left_before(source, other, others);
+    uint64_t rare = left > 1 && one_in(source, 2) ? draw(source, 1, left / 2) : 0;
     b->asynchronous = one_in(source, 2);
     split_cost(b, 5, left - rare);
     if (rare > 0) {
         add_rare(&table, rare);
         make_late(source, &table, 0);
     }
+    return table;
+}
+
+/* ---- Chains whose lists do not add up ---- */
+
+/* The latency of the chain at a place by the rule of whole lists, or 0 where it is refused. */
+static uint32_t latency_by_whole_lists(const struct made_table *table, unsigned place)
+{
+    plain_distances = BY_WHOLE_LISTS;
+    uint32_t latency = latency_of(table, place);
+    plain_distances = BY_ALL_STEPS;
+    return latency;
+}
+
+/* Overload of one active segment to eight, rare or not. */
+static void add_stepped_overload(struct source *source, struct made_table *table, uint32_t dearest, uint64_t window)
+{
+    unsigned left = (unsigned)(one_in(source, 3) ? draw(source, 7, 8) : draw(source, 1, 4));
+    while (left > 0) {
+        struct made_chain *chain = add_chain(table, 1000, 0, LATEST);
+        unsigned segments = (unsigned)draw(source, 1, left);
+        chain->overload = true;
+        chain->asynchronous = one_in(source, 2);
+        fill_segments(source, chain, segments, dearest);
+        if (!one_in(source, 3))
+            fill_stepped_list(source, chain, draw(source, window / 2, 3 * window));
+        left -= segments;
+    }
+}
+
+/* A deadline that the first chain meets, and would not meet by whole lists; or one that it misses with overload alone. */
+static void stepped_deadline(struct source *source, struct made_table *table)
+{
+    uint32_t met = latency_of(table, 0), missed = latency_by_whole_lists(table, 0);
+    if (met == 0 || missed <= met || one_in(source, 3))
+        make_late(source, table, 0);
+    else
+        table->chain[0].deadline = least(draw(source, met, missed - 1), LATEST);
+}
+
+/* Whether the climbs to all windows take long, by either rule. */
+static bool takes_long(const struct made_table *table)
+{
+    uint8_t bytes[MOST_GENERATED];
+    size_t length = encode(table, bytes);
+    plain_distances = BY_WHOLE_LISTS;
+    bool by_whole_lists = plain_climbs_take(bytes, length, MOST_STEPS);
+    plain_distances = BY_ALL_STEPS;
+    return by_whole_lists || plain_climbs_take(bytes, length, MOST_STEPS);
+}
+
+/* A chain that works off slowly what has come together, beside others and below overload. By whole lists all of them come more
+   often. */
+static struct made_table any_stepped(struct source *source)
+{
+    static const uint32_t costs[] = {4, 20, 1000};
+    struct made_table table = {0};
+    uint32_t dearest = pick(source, costs, 3);
+    unsigned others = (unsigned)draw(source, 0, 2);
+    add_sieved(source, &table, dearest);
+    for (unsigned i = 1; i <= others; i++) {
+        add_returning(source, &table, dearest);
+        fill_stepped_list(source, &table.chain[i], cost_of(&table.chain[i]) * draw(source, 2 + others, 8));
+    }
+    struct made_chain *b = &table.chain[0];
+    fill_stepped_list(source, b, cost_of(b) * draw(source, 11 + 10 * others, 40) / 10);
+    b->gap = one_in(source, 4) ? LATEST : least_gap(b);
+    add_stepped_overload(source, &table, dearest, cost_of(b) * (2 + others) + 10 * dearest);
+    stepped_deadline(source, &table);
+    return table;
+}
+
+/* Mostly one whose latency is greater by whole lists. */
+static struct made_table stepped(struct source *source)
+{
+    struct made_table table = any_stepped(source);
+    while (takes_long(&table) || (latency_by_whole_lists(&table, 0) <= latency_of(&table, 0) && !one_in(source, 4)))
+        table = any_stepped(source);
     return table;
 }
 
@@ -1550,6 +1751,11 @@ static struct made_table some_light(struct source *source)
     return light_table(source, (unsigned)draw(source, 1, one_in(source, 3) ? 16 : 6));
 }
 
+static struct made_table some_stepped(struct source *source)
+{
+    return stepped_table(source, (unsigned)draw(source, 1, one_in(source, 3) ? 16 : 6));
+}
+
 static struct made_table some_packing(struct source *source)
 {
     return packing_table(source, one_in(source, 2) ? 6 : (unsigned)draw(source, 1, 7));
@@ -1562,14 +1768,15 @@ struct family {
 };
 
 static const struct family families[] = {
-    {"of the documents", 2, documented}, {"light", 12, some_light},
-    {"full", 6, full_table},             {"heavy", 5, heavy_table},
-    {"close to one", 5, close_to_one},   {"backlog", 6, backlog},
-    {"horizon", 6, horizon},             {"exact horizon", 3, exact_horizon},
-    {"limits", 6, at_limits},            {"wrong count", 7, wrong_count},
-    {"packing", 12, some_packing},       {"refused misses", 5, refused_misses},
-    {"sieved", 12, sieved},              {"past the horizon", 3, past_horizon},
-    {"frequent", 6, frequent},           {"at arrivals", 4, at_arrivals},
+    {"of the documents", 2, documented}, {"light", 7, some_light},
+    {"full", 6, full_table},             {"heavy", 4, heavy_table},
+    {"close to one", 4, close_to_one},   {"backlog", 6, backlog},
+    {"horizon", 5, horizon},             {"exact horizon", 3, exact_horizon},
+    {"limits", 5, at_limits},            {"wrong count", 7, wrong_count},
+    {"packing", 8, some_packing},        {"refused misses", 5, refused_misses},
+    {"sieved", 10, sieved},              {"past the horizon", 2, past_horizon},
+    {"frequent", 6, frequent},           {"at arrivals", 6, at_arrivals},
+    {"light, stepped", 4, some_stepped}, {"stepped", 10, stepped},
 };
 
 static const struct family *any_family(struct source *source)

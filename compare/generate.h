@@ -76,6 +76,8 @@ struct made_table horizon_edge(void);
 
 /* At most 16 chains that keep the processor busy for less than nine tenths of the time. */
 struct made_table light_table(struct source *source, unsigned chains);
+/* The same with lists that mostly do not add up: the best step is any of them. */
+struct made_table stepped_table(struct source *source, unsigned chains);
 /* 16 chains, 8 distances each, 64 tasks: 1,284 bytes, and 1,748 in the form "CG". */
 struct made_table full_table(struct source *source);
 /* Overload chains of `segments` active segments together, against the first chain, with capacities up to 40. */

@@ -38,7 +38,7 @@ extern "C" {
 
 /* The version of this header; mishtodran_version gives that of the library. An editor compares them at its start: where
  * they differ, an answer, a refusal or an entry may. CHANGELOG.md says which. */
-#define MISHTODRAN_VERSION 8
+#define MISHTODRAN_VERSION 9
 
 /* The limits. A table beyond one of them is refused, and so is a k, or the input of a salvage. */
 enum {
@@ -145,7 +145,7 @@ struct mishtodran_row {
     uint32_t gap;    /* of "CH": the largest gap, or 0 where none is known */
     uint64_t listed; /* how many distances count, and as many largest ones where they do */
     uint64_t tasks;  /* how many priorities and costs count */
-    uint32_t list[MISHTODRAN_MOST_DISTANCES];    /* the smallest distances of 2, 3, .. activations */
+    uint32_t list[MISHTODRAN_MOST_DISTANCES];    /* the smallest distances of 2, 3, .. activations, as typed */
     uint32_t largest[MISHTODRAN_MOST_DISTANCES]; /* of "CG" with flag 1: the largest ones */
     uint16_t priority[MISHTODRAN_MOST_TASKS];    /* of each task */
     uint32_t cost[MISHTODRAN_MOST_TASKS];        /* of each task */

@@ -1,6 +1,6 @@
-"""The misses of document 01, with document 02, requests 3, 6 and 7, from their words: by windows, and by the sieve, which never
-comes to less. Over the rows of an accepted table."""
-from bisect import bisect_right
+"""The misses of document 01, with document 02, requests 3, 6, 7 and 9, from their words: by windows, and by the sieve, which
+never comes to less. Over the rows of an accepted table."""
+from bisect import bisect_left
 from collections import namedtuple
 from functools import lru_cache
 
@@ -19,18 +19,37 @@ Load = namedtuple("Load", "b cost own once others")
 Figures = namedtuple("Figures", "close latency late last")
 # An active segment of an overload chain: its row, the segment that it is part of, and its cost.
 Active = namedtuple("Active", "row segment cost")
+# The greatest sums of the first places, and from their last on: after so many places each is greater by so much.
+Settled = namedtuple("Settled", "sums places more")
 
 
 # ---- Arrivals ----
 
 def continued(distances, n):
-    """The distance of n activations, by a list that goes on."""
+    """The distance of n activations, by a list that goes on by whole lists."""
     lists, rest = divmod(n - 1, len(distances))
     return lists * distances[-1] + (distances[rest - 1] if rest else 0)
 
 
+@lru_cache(None)
+def settled(distances):
+    """The greatest sum of each place over all ways to write it as steps, each costing its distance: over every first step and what
+    is left. A sum is made of as many before it as there are steps. So where that many, one after another, are each the sum so many
+    places before and so much more, all that follow are."""
+    longest = len(distances)
+    places = max(range(1, longest + 1), key=lambda step: distances[step - 1] / step)
+    sums, alike = [0], 0
+    while alike < longest:
+        sums.append(max(distances[step - 1] + sums[-step] for step in range(1, min(longest, len(sums)) + 1)))
+        alike = alike + 1 if len(sums) > places and sums[-1] == sums[-1 - places] + distances[places - 1] else 0
+    return Settled(sums, places, distances[places - 1])
+
+
 def delta(row, n):
-    return continued(row.list[:row.listed], n)
+    """The greatest sum of n - 1."""
+    found = settled(row.list[:row.listed])
+    times = max(0, -(-(n - len(found.sums)) // found.places))
+    return found.sums[n - 1 - times * found.places] + times * found.more
 
 
 def is_known(row):
@@ -44,11 +63,10 @@ def largest(row, k):
 
 
 def eta(row, t):
-    """The greatest n with δ(n) < t: of whole lists all, of the next one those that lie before t."""
-    if t == 0:
-        return 0
-    lists, rest = divmod(t - 1, row.list[row.listed - 1])
-    return lists * row.listed + 1 + bisect_right(row.list, rest, 0, row.listed - 1)
+    """The greatest n with δ(n) < t: as many as there are sums below t, since they never fall."""
+    found = settled(row.list[:row.listed])
+    times = max(0, -(-(t - found.sums[-1]) // found.more))
+    return bisect_left(found.sums, t - times * found.more) + times * found.places
 
 
 # ---- Segments ----

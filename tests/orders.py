@@ -80,9 +80,9 @@ def edge_of_second(cost):
                   chain(2, 0, 0, 1, 0, [TIME], [(9, cost), (1, 1)]))
 
 
-def backlog(cost, gap, deadline, overload=0):
+def backlog(cost, gap, deadline, overload=0, distances=(11,)):
     """B(q) = 10 q + cost and δ(q + 1) = 11 q, so the windows close at q = cost."""
-    return stored(chain(1, 0, overload, deadline, gap, [11], [(5, 10)]),
+    return stored(chain(1, 0, overload, deadline, gap, distances, [(5, 10)]),
                   chain(2, 0, 1, 100, 0, [9_000_000], [(6, cost)]))
 
 

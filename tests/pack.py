@@ -97,24 +97,50 @@ def reaching_by(largest):
     return stored(bursty(1, 0, 0, 1, largest, [2] * len(largest), [(5, 1)]), bursty(2, 0, 1, 1000, (), [10, 15], [(9, 1)]))
 
 
+def third_of_three(deadline):
+    """Three activations of cost 10 whose list is 10, 15, 99, so the third comes 20 after the first, against overload of 20: the
+    windows are 30, 40 and 50 long, each 30 after its activation, without overload 10, 20 and 30."""
+    return stored(chain(1, 0, 0, deadline, 33, [10, 15, 99], [(5, 10)]), chain(2, 0, 1, 1000, 0, [TIME], [(9, 20)]))
+
+
 def at_once(largest, of_overload=()):
     """Three activations at once each 99 ticks, 10 each, against overload of 21 each 90 ticks, which may have largest distances:
     B(3) = 51 is late, and a run reaches over the largest distance of k, and 51."""
     return stored(bursty(1, 0, 0, 45, largest, [0, 0, 99], [(5, 10)]), bursty(2, 0, 1, 1000, of_overload, [90], [(9, 21)]))
 
 
-# Lists 10, 15: η(10) = 1, η(11) = η(15) = 2, η(16) = η(25) = 3, η(26) = η(30) = 4, η(31) = η(40) = 5. Lists 0, 0, 10, which are
-# three at once: η(10) = 3, η(11) = η(20) = 6, η(21) = 9. Lists 0, 5, 5: two at first, and three every 5 from there on.
+# Sevens and eights that settle late: δ(8) = 60 and δ(9) = 70, δ(15) = 120, 130, 140, δ(22) = 180 to 210, δ(29) = 240 to 280,
+# δ(36) = 300 to 350, δ(43) = 360 by six sevens to δ(49) = 420, and from there on 70 for each eight; the others are as the one
+# before. So η(60) = 7, η(70) = 8, η(71) = η(120) = 14, η(121) = 15, η(140) = 16, η(141) = η(180) = 21, η(350) = 40,
+# η(351) = η(360) = 42, η(361) = 43, η(420) = 48, η(421) = η(430) = 50.
+LATE = [0] * 6 + [60, 70]
+
+# Lists 10, 15: δ(3) = 20, δ(4) = 30 and δ(5) = 40, so η(10) = 1, η(11) = η(20) = 2, η(21) = η(25) = η(26) = η(30) = 3,
+# η(31) = η(40) = 4, η(41) = 5. Lists 0, 0, 10, which are three at once: η(10) = 3, η(11) = η(20) = 6, η(21) = 9. Lists 0, 5, 5,
+# which are two at once: η(5) = 2, η(6) = η(10) = 4, η(11) = 6. Lists 0, 5, 7: two at once every 5, but the third, fifth and so
+# on at 7, 12 and so on: η(5) = 2, η(6) = η(7) = 3, η(8) = η(10) = 4, η(11) = η(12) = 5. Lists 3, 4, 10: δ(3) = 6, δ(4) = 10,
+# δ(5) = 13 and δ(6) = 16, so η(4) = η(6) = 2, η(7) = η(10) = 3, η(11) = η(13) = 4, η(14) = 5.
 # (distances, cost, window): a window that ends where the next ones come, and with a cost of 1 more, past them
 COUNTED = [
-    ([10, 15], 9, 10), ([10, 15], 10, 12), ([10, 15], 13, 15), ([10, 15], 14, 17), ([10, 15], 22, 25), ([10, 15], 23, 27),
-    ([10, 15], 26, 30), ([10, 15], 27, 32),
+    ([10, 15], 9, 10), ([10, 15], 10, 12), ([10, 15], 18, 20), ([10, 15], 19, 22), ([10, 15], 27, 30), ([10, 15], 28, 32),
+    ([10, 15], 36, 40), ([10, 15], 37, 42),
     ([0, 0, 10], 7, 10), ([0, 0, 10], 8, 14), ([0, 0, 10], 14, 20), ([0, 0, 10], 15, 24),
-    ([0, 5, 5], 3, 5), ([0, 5, 5], 4, 9), ([0, 5, 5], 5, 10), ([0, 5, 5], 6, 14),
-    # millions: one every 2, two every 3, eight every 9
+    ([0, 5, 5], 3, 5), ([0, 5, 5], 4, 8), ([0, 5, 5], 6, 10), ([0, 5, 5], 7, 13),
+    ([0, 5, 7], 3, 5), ([0, 5, 7], 4, 7), ([0, 5, 7], 5, 9), ([0, 5, 7], 6, 10), ([0, 5, 7], 7, 12), ([0, 5, 7], 8, 14),
+    ([3, 4, 10], 4, 6), ([3, 4, 10], 5, 8), ([3, 4, 10], 7, 10), ([3, 4, 10], 8, 12), ([3, 4, 10], 9, 13), ([3, 4, 10], 10, 15),
+    (LATE, 53, 60), (LATE, 54, 62), (LATE, 62, 70), (LATE, 63, 77), (LATE, 106, 120), (LATE, 107, 122), (LATE, 124, 140),
+    (LATE, 125, 146), (LATE, 310, 350), (LATE, 311, 353), (LATE, 318, 360), (LATE, 319, 362), (LATE, 372, 420), (LATE, 373, 423),
+    # δ(49) = 480 by eights, δ(50) = 483 by seven sevens, δ(51) = 494 by six of them and an eight: η(483) = 49, η(484) = 50
+    ([0] * 6 + [69, 80], 434, 483), ([0] * 6 + [69, 80], 435, 485),
+    # where the next came by whole lists, and none comes: δ(3) is no longer 15, δ(4) is not 25
+    ([10, 15], 13, 15), ([10, 15], 14, 16), ([10, 15], 22, 25), ([10, 15], 23, 26),
+    # millions: one every 2, two every 3, eight every 9; one every 2, though nine are listed no further apart than two
     ([2], 4_999_999, 9_999_998), ([2], 5_000_000, 10_000_000), ([0, 3], 3_333_333, 9_999_999),
-    ([0] * 7 + [9], 1_111_111, 9_999_999),
+    ([0] * 7 + [9], 1_111_111, 9_999_999), ([2] * 8, 4_999_999, 9_999_998), ([2] * 8, 5_000_000, 10_000_000),
+    # two every 3, though four are listed no more than 4 apart
+    ([0, 3, 4], 3_333_333, 9_999_999),
 ]
+
 
 def is_old(table):
     """Whether it is an accepted table of CH records."""
@@ -146,11 +172,17 @@ LATENCIES = with_new_form([
     (STUDY, 4, 0, 1, 175, 0, 25),
     (backlog(1024, 0, 100), 1, 0, 1024, 1034, 934, -934),
     (backlog(1025, 0, 100), 1, 17, 0, 0, 0, 0),
+    # the same with a list that goes on by its first distance, and not by the whole
+    (backlog(1024, 0, 100, distances=(11, 11, 30)), 1, 0, 1024, 1034, 934, -934),
+    (backlog(1025, 0, 100, distances=(11, 11, 30)), 1, 17, 0, 0, 0, 0),
+    # the windows are each 30 after their activation: the third comes 20 after the first, and not 15
+    (third_of_three(30), 1, 0, 3, 30, 0, 0), (third_of_three(29), 1, 0, 3, 30, 3, -1),
     (BURSTS, 1, 0, 3, 30, 2, -15),
     (BURSTS, 2, 0, 1, 35, 0, 5),
     *((below(cost, distances), 1, 0, 1, window, 0, TIME - window) for distances, cost, window in COUNTED),
     # millions that leave too little of the time, or none
     (below(5_000_001, [2]), 1, 16, 0, 0, 0, 0),
+    (below(5_000_001, [2] * 8), 1, 16, 0, 0, 0, 0),
     (below(3_333_334, [0, 3]), 1, 16, 0, 0, 0, 0),
     (below(1_111_112, [0] * 7 + [9]), 1, 16, 0, 0, 0, 0),
     (below(1_000_000, [1]), 1, 16, 0, 0, 0, 0),
@@ -326,16 +358,19 @@ MISSES = with_new_form([
     (bursts(31), 1, 3, 3), (bursts(31), 1, 4, 4), (bursts(31), 1, 5, 4),
     # late, and each segment alone is not bad, or is: no use, or 4
     (apart(16), 1, 10, 0), (apart(15), 1, 3, 3), (apart(15), 1, 10, 4),
-    # runs that reach over 10, 12, 16, 26, 30 and 32; over 15, 27 and 31; over 25 and 40
-    (reaching(2, 1), 1, 5, 2), (reaching(2, 1), 1, 6, 3), (reaching(2, 1), 1, 8, 4), (reaching(2, 1), 1, 13, 5),
-    (reaching(2, 1), 1, 15, 5), (reaching(2, 1), 1, 16, 6), (reaching(4, 2), 1, 4, 3), (reaching(4, 2), 1, 7, 5),
-    (reaching(4, 2), 1, 8, 6), (reaching(5, 4), 1, 5, 4), (reaching(5, 4), 1, 8, 6),
+    # runs that reach over 10, 12, 16, 20, 22, 26, 30 and 32; over 15, 27 and 31; over 25 and 40; over 390, of 39 arrivals
+    (reaching(2, 1), 1, 5, 2), (reaching(2, 1), 1, 6, 3), (reaching(2, 1), 1, 8, 3), (reaching(2, 1), 1, 10, 3),
+    (reaching(2, 1), 1, 11, 4), (reaching(2, 1), 1, 13, 4), (reaching(2, 1), 1, 15, 4), (reaching(2, 1), 1, 16, 5),
+    (reaching(4, 2), 1, 4, 3), (reaching(4, 2), 1, 7, 4), (reaching(4, 2), 1, 8, 5), (reaching(5, 4), 1, 5, 4),
+    (reaching(5, 4), 1, 8, 5), (reaching(2, 1), 1, 195, 40),
+    # the third activation is not late: it comes 20 after the first, and not 15
+    (third_of_three(30), 1, 10, 0), (third_of_three(29), 1, 10, 6),
     # runs of 11 and 12 reach over 550 and 630, and overload comes again at 600
     (TELEMETRY, 1, 1, 1), (TELEMETRY, 1, 2, 2), (TELEMETRY, 1, 10, 2), (TELEMETRY, 1, 11, 2), (TELEMETRY, 1, 12, 3),
     # runs of 3 to 9 reach over 11, 13, 20, 22, 29, 31 and 38
-    *((reaching_by((2, 9)), 1, k, misses) for k, misses in enumerate((1, 2, 3, 3, 4, 4, 5, 6, 6), 1)),
+    *((reaching_by((2, 9)), 1, k, misses) for k, misses in enumerate((1, 2, 3, 3, 3, 4, 4, 5, 5), 1)),
     # runs of 8 reach over 4, of 9 and 10 over 32 and 34, of 17 over 62
-    *((reaching_by((2,) * 7 + (30,)), 1, k, misses) for k, misses in ((8, 2), (9, 6), (10, 6), (17, 10))),
+    *((reaching_by((2,) * 7 + (30,)), 1, k, misses) for k, misses in ((8, 2), (9, 5), (10, 5), (17, 8))),
     # runs of 3, 4, 6 and 7 reach over 51, 150, 150 and 249; where all are 33 apart, one of 3 over 117
     *((at_once((0, 0, 99), others), 1, k, misses) for others in ((), (90,), (LARGEST,))
       for k, misses in ((3, 2), (4, 3), (6, 3), (7, 4))),
@@ -352,8 +387,8 @@ def returning(deadline, after=35, kind=0, tasks=((9, 20),), own=(1000,)):
 
 
 def three_returning(deadline):
-    """Three activations of chain 1, 5 and 9 after the first, and chain 2 again at 55: B(3) is 50 without overload, 54 with 4, 77
-    with 7, 81 with both; the demand at δ(3) + deadline is 70 and what is set."""
+    """Three activations of chain 1, 5 and 10 after the first, though 9 is listed, and chain 2 again at 55: B(3) is 50 without
+    overload, 54 with 4, 77 with 7, 81 with both; the demand at δ(3) + deadline, where that is past 55, is 70 and what is set."""
     return returning(deadline, 55, own=(5, 9, 999))
 
 
@@ -390,8 +425,10 @@ AT_MOST = with_new_form([
     (returning(69, 55, 1, FIRST_OF_TWO), 1, 10, 2, 10), (returning(36, 35, 0, FIRST_OF_TWO), 1, 10, 2, 2),
     (returning(33, 35, 0, FIRST_OF_TWO), 1, 10, 4, 4),
     # the third activation alone decides
-    (three_returning(65), 1, 10, 2, 2), (three_returning(64), 1, 10, 2, 4), (three_returning(61), 1, 10, 2, 4),
-    (three_returning(60), 1, 10, 2, 10),
+    (three_returning(64), 1, 10, 2, 2), (three_returning(63), 1, 10, 2, 4), (three_returning(60), 1, 10, 2, 4),
+    (three_returning(59), 1, 10, 2, 10),
+    # the third's deadline is at 56, past chain 2's second activation, where 55 was not; and at 55
+    (three_returning(46), 1, 10, 2, 10), (three_returning(45), 1, 10, 4, 4),
     # a chain's own next activation
     (returning_itself(43), 1, 10, 2, 2), (returning_itself(42), 1, 10, 2, 4),
     # 10,003,998 and 10,004,001 at 10,004,000: 4 uses of both together, and 8 of each alone
@@ -424,8 +461,9 @@ REPORTS = with_new_form([
     (crowd(9, 6, 24), HEADER + "1 1 16 1 -7 10\n2 1 11 0 989 r14\n"),
     (crowd(10, 6, 1000), HEADER + "1 1 16 1 -6 10\n2 1 11 0 989 r14\n"),
     (crowd(9, 6, 23), HEADER + "1 1 16 1 -7 r21\n2 1 11 0 989 r14\n"),
-    # millions of arrivals: eight every 9, one a tick, eight a tick
+    # millions of arrivals: eight every 9, one every 2, one a tick, eight a tick
     (below(1_111_111, [0] * 7 + [9]), HEADER + "1 1 9999999 0 1 0\n2 8 8 0 992 r15\n"),
+    (below(5_000_000, [2] * 8), HEADER + "1 1 10000000 0 0 0\n2 1 1 0 999 r15\n"),
     (below(1_000_000, [1]), HEADER + "1 r16\n2 1 1 0 999 r15\n"),
     (below(1, [0] * 7 + [1]), HEADER + "1 r16\n2 r17\n"),
     (TELEMETRY, HEADER + "1 2 50 1 -5 2\n2 1 40 0 460 r14\n"),

@@ -1,5 +1,12 @@
 pub mod Lists
+pub mod Sums
+pub mod Blocks
+pub mod Rules
+pub mod Repeating
 pub mod Distances
+pub mod Settling
 pub mod Counts
+pub mod Heads
+pub mod Useful
 pub mod Remainders
 pub mod Rows

@@ -1,6 +1,6 @@
 -- δ by whole lists and steps into the next: what the proofs of this crate see of δ's text, and no other crate's. Assumes nothing.
 use Prim.Native.Nat.{ℕ, zero, suc, zero-le, _+_, _*_, _/_, _%_, _-_, _≤_, _<_}
-use mathlib.Core.Path.{_≡_, ap, ap₂, sym, subst₂, _∙_}
+use mathlib.Core.Path.{_≡_, refl, ap, ap₂, sym, subst₂, _∙_}
 use mathlib.Core.List.{List}
 use mathlib.Core.Logic.{⊎-elim}
 use native.Mathlib.Omega.{arith}
@@ -9,8 +9,13 @@ use native.Mathlib.Nat.{eq-or-lt-of-le, div-add-mod', mod-lt}
 use lib.ListN.{length, getD}
 use lib.Arith.{digits-div, digits-mod}
 use Rattle.table.specs.Limits.{maxDistance}
-use Rattle.arrivals.specs.Arrivals.{asListed, δ}
+use Rattle.arrivals.specs.Arrivals.{asListed, repeated}
 use Rattle.table.specs.code.Good.{GoodDistances}
+
+-- no step has distance 0
+pub listed-none : (ds : List ℕ) → asListed ds 0 ≡ 0
+unfolding asListed
+listed-none ds = refl
 
 -- the definition in the code's shape
 pub listed-at : (ds : List ℕ) (j : ℕ) → 0 < j → asListed ds j ≡ getD ds (j - 1) 0
@@ -46,31 +51,40 @@ module _ {most : ℕ} {ds : List ℕ} (list : Rising most ds) where
   listed-near (suc j) = list .near j
 
   -- i whole lists and j steps more, j up to another whole list
-  pub δ-lists : (i j : ℕ) → j ≤ length ds → δ ds (suc (i * length ds + j)) ≡ i * asListed ds (length ds) + asListed ds j
-  unfolding δ asListed
-  δ-lists i j h =
+  pub repeated-lists : (i j : ℕ) → j ≤ length ds → repeated ds (suc (i * length ds + j)) ≡ i * asListed ds (length ds) + asListed ds j
+  unfolding repeated asListed
+  repeated-lists i j h =
       ⊎-elim
-      (λ e. ap (λ (n : ℕ). δ ds (suc n)) (omega arith) ∙ inside (suc i) 0 (list .some) ∙ omega (arith, ap (asListed ds) e))
+      (λ e. ap (λ (n : ℕ). repeated ds (suc n)) (omega arith) ∙ inside (suc i) 0 (list .some) ∙ omega (arith, ap (asListed ds) e))
       (inside i j) (eq-or-lt-of-le h)
     where
-      inside : (i j : ℕ) → j < length ds → δ ds (suc (i * length ds + j)) ≡ i * asListed ds (length ds) + asListed ds j
+      inside : (i j : ℕ) → j < length ds → repeated ds (suc (i * length ds + j)) ≡ i * asListed ds (length ds) + asListed ds j
       inside i j h = rw (digits-div i h, digits-mod i h)
 
   -- the same with the 1 that contracts have
-  pub δ-after : (i j : ℕ) → j ≤ length ds → δ ds (i * length ds + j + 1) ≡ i * asListed ds (length ds) + asListed ds j
-  δ-after i j h = rw add-one (δ-lists i j h)
+  pub repeated-after : (i j : ℕ) → j ≤ length ds → repeated ds (i * length ds + j + 1) ≡ i * asListed ds (length ds) + asListed ds j
+  repeated-after i j h = rw add-one (repeated-lists i j h)
 
   -- in the first list δ is as listed
-  pub δ-first : (j : ℕ) → j ≤ length ds → δ ds (suc j) ≡ asListed ds j
-  δ-first j h = ap (δ ds) (omega arith) ∙ δ-lists 0 j h ∙ omega arith
+  pub repeated-first : (j : ℕ) → j ≤ length ds → repeated ds (suc j) ≡ asListed ds j
+  repeated-first j h = ap (repeated ds) (omega arith) ∙ repeated-lists 0 j h ∙ omega arith
+
+  -- in the first list, and in the second
+  pub repeated-in-first : (m : ℕ) → m ≤ length ds → repeated ds (m + 1) ≡ asListed ds m
+  repeated-in-first m h = rw add-one (repeated-first m h)
+
+  pub repeated-in-second : (m : ℕ) → length ds ≤ m → m ≤ 2 * length ds → repeated ds (m + 1) ≡ asListed ds (length ds) + asListed ds (m - length ds)
+  repeated-in-second m h g =
+      let e : m + 1 ≡ 1 * length ds + (m - length ds) + 1 = omega arith in
+      ap (repeated ds) e ∙ repeated-after 1 (m - length ds) (omega arith) ∙ omega arith
 
   -- one activation more is one step within the list, after whole lists: what holds of each such step holds of δ's
-  pub δ-step : (P : ℕ → ℕ → Type 0) → ((x j : ℕ) → j < length ds → P (x + asListed ds j) (x + asListed ds (suc j)))
-      → (n : ℕ) → P (δ ds (suc n)) (δ ds (suc (suc n)))
-  δ-step P f n =
+  pub repeated-step : (P : ℕ → ℕ → Type 0) → ((x j : ℕ) → j < length ds → P (x + asListed ds j) (x + asListed ds (suc j)))
+      → (n : ℕ) → P (repeated ds (suc n)) (repeated ds (suc (suc n)))
+  repeated-step P f n =
       let i : ℕ = n / length ds in
       let j : ℕ = n % length ds in
       let e : i * length ds + j ≡ n = div-add-mod' n (length ds) in
       let u : j < length ds = mod-lt n (list .some) in
-      subst₂ P (sym (δ-lists i j (omega arith)) ∙ ap (δ ds) (omega arith)) (sym (δ-lists i (suc j) u) ∙ ap (δ ds) (omega arith))
+      subst₂ P (sym (repeated-lists i j (omega arith)) ∙ ap (repeated ds) (omega arith)) (sym (repeated-lists i (suc j) u) ∙ ap (repeated ds) (omega arith))
       (f (i * asListed ds (length ds)) j u)

@@ -1,4 +1,4 @@
--- η by whole lists and a remainder: what lies within a part of one list, distance after distance, and after whole ones. Assumes nothing.
+-- Counting by 01's rule, by whole lists and a remainder: what lies within a part of one list, distance after distance, and after whole ones. Assumes nothing.
 use Prim.Native.Nat.{ℕ, suc, _+_, _*_, _/_, _-_, _≤_, _<_}
 use mathlib.Core.Path.{_≡_, ap, _∙_}
 use mathlib.Core.Bool.{Bool}
@@ -14,11 +14,12 @@ use Rattle.search.specs.Choice.{_when_else_}
 use Rattle.search.specs.Find.{last}
 use Rattle.search.proofs.Choice.{when-cases, when-yes, when-no, lt-or-le}
 use Rattle.search.proofs.Find.{last-le, last-hit, last-max}
-use Rattle.arrivals.specs.Arrivals.{asListed, η}
+use Rattle.arrivals.specs.Arrivals.{asListed, repeated, countBy}
 use Rattle.arrivals.specs.code.WithinList.{withinList}
 use Rattle.table.specs.code.Good.{GoodDistances}
-use Rattle.arrivals.proofs.Lists.{rising, last-above, listed-rises, δ-after}
-use Rattle.arrivals.proofs.Counts.{η-counts, η-stops}
+use Rattle.arrivals.proofs.Lists.{rising, last-above, listed-rises, repeated-after}
+use Rattle.arrivals.proofs.Rules.{count-counts, count-stops}
+use Rattle.arrivals.proofs.Repeating.{repeated-lawful}
 
 -- no more than are looked at
 pub within-le : (ds : List ℕ) (x j : ℕ) → withinList ds x j ≤ j
@@ -58,9 +59,9 @@ module _ {ds : List ℕ} (good : GoodDistances ds) {x : ℕ} (some : 0 < x) wher
 
   -- after i whole lists there are i times as many activations, and those within the next
   module _ (i : ℕ) (short : x ≤ asListed ds (length ds)) where
-    pub η-lists : η ds (i * asListed ds (length ds) + x) ≡ i * length ds + withinList ds x (length ds)
+    pub count-lists : countBy repeated ds (i * asListed ds (length ds) + x) ≡ i * length ds + withinList ds x (length ds)
     unfolding withinList asListed
-    η-lists = omega (arith, none-more, all-there)
+    count-lists = omega (arith, none-more, all-there)
       where
         n : ℕ
         n = withinList ds x (length ds)
@@ -80,14 +81,14 @@ module _ {ds : List ℕ} (good : GoodDistances ds) {x : ℕ} (some : 0 < x) wher
             (λ g. ⊎-elim (λ b. absurd (omega (arith, last-max lies (length ds) n g (lt-ltb _ _ b)))) (λ b. b) (lt-or-le (asListed ds n) x))
             (eq-or-lt-of-le few)
 
-        none-more : η ds t ≤ i * length ds + n
-        none-more = η-stops good (i * length ds + n) t (omega (arith, δ-after (rising good) i n few, beyond))
+        none-more : countBy repeated ds t ≤ i * length ds + n
+        none-more = count-stops (repeated-lawful good) (i * length ds + n) t (omega (arith, repeated-after (rising good) i n few, beyond))
 
         last-in : asListed ds (n - 1) < x
         last-in = ltb-true _ _ (last-hit lies (length ds) (n - 1) (omega (arith, some-there)))
 
-        all-there : i * length ds + n ≤ η ds t
-        all-there = omega (arith, some-there, η-counts good (i * length ds + (n - 1)) t (omega (arith, δ-after (rising good) i (n - 1) (omega (arith, few)), last-in)))
+        all-there : i * length ds + n ≤ countBy repeated ds t
+        all-there = omega (arith, some-there, count-counts (repeated-lawful good) (i * length ds + (n - 1)) t (omega (arith, repeated-after (rising good) i (n - 1) (omega (arith, few)), last-in)))
 
 -- t is so many whole lists and a remainder, of at least 1 and at most the last distance
 module _ {ds : List ℕ} (good : GoodDistances ds) (t : ℕ) (some : 0 < t) where
@@ -100,5 +101,5 @@ module _ {ds : List ℕ} (good : GoodDistances ds) (t : ℕ) (some : 0 < t) wher
   pub rest-short : t - ticks ≤ asListed ds (length ds)
   rest-short = omega (arith, div-add-mod' (t - 1) (asListed ds (length ds)), mod-lt (t - 1) (last-above good))
 
-  pub η-whole : η ds t ≡ (t - 1) / asListed ds (length ds) * length ds + withinList ds (t - ticks) (length ds)
-  η-whole = ap (η ds) (omega (arith, lists-below)) ∙ η-lists good (omega (arith, lists-below)) ((t - 1) / asListed ds (length ds)) rest-short
+  pub count-whole : countBy repeated ds t ≡ (t - 1) / asListed ds (length ds) * length ds + withinList ds (t - ticks) (length ds)
+  count-whole = ap (countBy repeated ds) (omega (arith, lists-below)) ∙ count-lists good (omega (arith, lists-below)) ((t - 1) / asListed ds (length ds)) rest-short

@@ -1,21 +1,20 @@
 -- What a row and a record that stands give of their distances, smallest and largest. Assumes nothing.
 use Prim.Native.Nat.{ℕ, _+_, _*_, _-_, _<_, _≤_}
-use mathlib.Core.Path.{_≡_, refl, ap, sym, _∙_}
+use mathlib.Core.Path.{_≡_, refl, ap, _∙_}
 use mathlib.Core.List.{List}
 use mathlib.Core.Logic.{_⊎_, ⊎-elim}
 use native.Mathlib.Omega.{arith}
-use lib.ListN.{length, getD, List·getD-eq-default}
-use lib.Seq.{getD-take}
+use lib.ListN.{length}
 use borrow.Author.Tests.{eq-eqb, ne-eqb, eqb-true}
 use native.Mathlib.Nat.{mul-le-mul, mul-le-mul-right}
 use Rattle.search.specs.Choice.{_when_else_}
-use Rattle.search.proofs.Choice.{when-cases, when-yes, when-no, lt-or-le}
+use Rattle.search.proofs.Choice.{when-cases, when-yes, when-no}
 use lib.Dec.{eqb}
 use mathlib.Core.Bool.{Bool, true, false, _&&_}
 use Rattle.table.specs.Limits.{maxLargest, maxRun}
-use Rattle.arrivals.specs.Arrivals.{asListed, δ, largest, unknown}
-use Rattle.arrivals.proofs.Lists.{Rising, δ-after}
-use Rattle.arrivals.proofs.Distances.{δ-rises, δ-bounded}
+use Rattle.arrivals.specs.Arrivals.{asListed, repeated, largest, unknown}
+use Rattle.arrivals.proofs.Lists.{Rising, repeated-after}
+use Rattle.arrivals.proofs.Repeating.{repeated-rises, repeated-bounded}
 use Rattle.table.specs.Bytes.{word}
 use Rattle.table.specs.Record.{listedAt, rowAt, largests}
 use Rattle.table.specs.code.Good.{GoodRow}
@@ -45,29 +44,29 @@ pub largest-by-gap : (r : Row) (k : ℕ) → (r .flag ≡ 1 → ⊥) → largest
 unfolding largest
 largest-by-gap r k h = when-no _ _ (ne-eqb (r .flag) 1 h)
 
-pub largest-by-list : (r : Row) (k : ℕ) → r .flag ≡ 1 → largest r k ≡ δ (largests r) k
+pub largest-by-list : (r : Row) (k : ℕ) → r .flag ≡ 1 → largest r k ≡ repeated (largests r) k
 unfolding largest
 largest-by-list r k e = when-yes _ _ (eq-eqb (r .flag) 1 e)
 
 pub largest-by-lists : {r : Row} → GoodRow r → r .flag ≡ 1 → (k lists rest : ℕ) → 1 ≤ k → lists * length (largests r) + rest ≡ k - 1 → rest < length (largests r)
     → largest r k ≡ lists * asListed (largests r) (length (largests r)) + asListed (largests r) rest
 largest-by-lists {r} good e k lists rest some whole less =
-    largest-by-list r k e ∙ ap (δ (largests r)) (omega (arith, whole, some)) ∙ δ-after (largests-rising good e) lists rest (omega (arith, less))
+    largest-by-list r k e ∙ ap (repeated (largests r)) (omega (arith, whole, some)) ∙ repeated-after (largests-rising good e) lists rest (omega (arith, less))
 
 -- the largest distance never falls, and is bounded
 pub largest-mono : {r : Row} → GoodRow r → (k long : ℕ) → k ≤ long → largest r k ≤ largest r long
 unfolding largest _when_else_
 largest-mono {r} good k long h = go (eqb (r .flag) 1) refl
   where
-    go : (b : Bool) → eqb (r .flag) 1 ≡ b → (δ (largests r) k when b else (k - 1) * r .gap) ≤ (δ (largests r) long when b else (long - 1) * r .gap)
-    go true e = δ-rises (largests-rising good (eqb-true _ _ e)) k long h
+    go : (b : Bool) → eqb (r .flag) 1 ≡ b → (repeated (largests r) k when b else (k - 1) * r .gap) ≤ (repeated (largests r) long when b else (long - 1) * r .gap)
+    go true e = repeated-rises (largests-rising good (eqb-true _ _ e)) k long h
     go false e = let less : k - 1 ≤ long - 1 = omega arith in omega (arith, mul-le-mul-right (r .gap) less)
 
 pub largest-near : {r : Row} → GoodRow r → (k : ℕ) → k ≤ maxRun → largest r k ≤ maxRun * maxLargest
 unfolding largest
 largest-near {r} good k h =
     when-cases (λ n. n ≤ maxRun * maxLargest) (eqb (r .flag) 1)
-    (λ e. omega (arith, δ-bounded (largests-rising good (eqb-true _ _ e)) k))
+    (λ e. omega (arith, repeated-bounded (largests-rising good (eqb-true _ _ e)) k))
     (λ e. let l : k - 1 ≤ maxRun = omega arith in let g : r .gap ≤ maxLargest = omega (arith, good .gap-max) in mul-le-mul l g)
 
 -- it is unknown exactly where there is neither a gap nor a flag

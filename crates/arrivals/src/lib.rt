@@ -1,61 +1,50 @@
 // Arrivals (documents 01 and 02): δ and η by the list of distances that starts at `list` in the stored bytes, and the largest distances of
 // the chain whose record stands at `at`.
-use table::distance_from;
+mod head;
+mod repetition;
+
+use crate::head::adds_up;
+use crate::head::count_to;
+use crate::head::settled_count;
+use crate::head::settled_distance;
+use crate::head::sum_at;
+use crate::repetition::as_listed;
+use crate::repetition::below;
+use crate::repetition::repeated_at;
+use crate::repetition::repeated_count;
+use crate::repetition::split;
 use table::flag_at;
 use table::gap_at;
 use table::largest_at;
 use table::listed_at;
 use table::listed_from;
 ghost use mathlib.Core.Path.{_≡_};
-ghost use Prim.Native.Nat.{_+_, _*_, _/_, _%_, _≤_, _<_, min};
-ghost use lib.Dec.{ltb};
+ghost use Prim.Native.Nat.{_+_, _≤_, _<_, min};
 ghost use lib.ListN.{length};
-ghost use Rattle.search.specs.Choice.{_when_else_};
 ghost use Rattle.table.specs.Limits.{maxRun};
 ghost use Rattle.table.specs.Record.{formAt, headLength, knownAt, rowAt, largests};
 ghost use Rattle.table.specs.code.Listed.{listedFrom, distancesFrom, Lists};
 ghost use Rattle.table.specs.code.Taken.{Stands};
 ghost use Rattle.arrivals.specs.Arrivals.{asListed, δ, η, largest as largestOf, unknown as unknownOf};
 ghost use Rattle.arrivals.specs.code.Bounds.{longestSpan, farthest};
-ghost use Rattle.arrivals.specs.code.WithinList.{withinList};
 
-// Steps along a list that goes on: so many whole lists, and the rest in the next.
-struct Steps {
-    lists: u64,
-    rest: usize,
-}
-
-// The distance of 1 + j activations as listed.
-fn as_listed(s: &[u8], list: usize, j: usize) -> u64
-    requires { ⌜ Lists (now s) list × (j ≤ listedFrom (now s) list) ⌝ }
-    ensures { λ r. ⌜ r ≡ asListed (distancesFrom (now (s .entry)) list) j ⌝ }
+// δ(m + 1) by a list of more than one distance. In the first list it is worked out place by place; a list that already adds up repeats.
+fn delta_by_list(s: &[u8], list: usize, m: u64) -> u64
+    requires { ⌜ Lists (now s) list × (m < farthest) ⌝ }
+    ensures { λ r. ⌜ r ≡ δ (distancesFrom (now (s .entry)) list) (m + 1) ⌝ }
 {
-    if j == 0 {
-        return 0;
+    if m <= 1 {
+        return m * as_listed(s, list, 1);
     }
-    distance_from(s, list, j - 1) as u64
-}
-
-// δ(1 + iL + j): i whole lists, and j steps into the next, at most to its end.
-fn delta_at(s: &[u8], list: usize, i: u64, j: usize) -> u64
-    requires { ⌜ Lists (now s) list × (j ≤ listedFrom (now s) list) × (i * listedFrom (now s) list + j < farthest) ⌝ }
-    ensures { λ r. ⌜ r ≡ δ (distancesFrom (now (s .entry)) list) (i * listedFrom (now (s .entry)) list + j + 1) ⌝ }
-{
-    i * as_listed(s, list, listed_from(s, list)) + as_listed(s, list, j)
-}
-
-// n steps, split. A list of one distance needs no division.
-fn split(n: u64, listed: u64) -> Steps
-    requires { ⌜ 0 < listed ⌝ }
-    ensures { λ r. ⌜ (r .lists ≡ n / listed) × (r .rest ≡ n % listed) ⌝ }
-{
-    if listed == 1 {
-        return Steps { lists: n, rest: 0 };
+    let listed = listed_from(s, list) as u64;
+    if m <= listed {
+        return sum_at(s, list, m as usize);
     }
-    Steps {
-        lists: n / listed,
-        rest: (n % listed) as usize,
+    if adds_up(s, list) {
+        let before = split(m, listed);
+        return repeated_at(s, list, before.lists, before.rest);
     }
+    settled_distance(s, list, m)
 }
 
 // δ(n).
@@ -63,58 +52,80 @@ pub fn delta(s: &[u8], list: usize, n: u64) -> u64
     requires { ⌜ Lists (now s) list × (1 ≤ n) × (n ≤ farthest) ⌝ }
     ensures { λ r. ⌜ r ≡ δ (distancesFrom (now (s .entry)) list) n ⌝ }
 {
-    let before = split(n - 1, listed_from(s, list) as u64);
-    delta_at(s, list, before.lists, before.rest)
-}
-
-// 1 where a distance lies below x.
-fn below(distance: u64, x: u64) -> u64
-    ensures { λ r. ⌜ r ≡ (1 when ltb distance x else 0) ⌝ }
-{
-    if distance < x { 1 } else { 0 }
-}
-
-// How many of a list's own activations lie within x; its last distance is that of the next one's first. The loop does not stop at
-// the first that lies beyond: a processor cannot foresee where that is, and a wrong guess takes longer than the rest of the list.
-fn within_list(s: &[u8], list: usize, x: u64) -> u64
-    requires { ⌜ Lists (now s) list × (0 < x) ⌝ }
-    ensures { λ r. ⌜ r ≡ withinList (distancesFrom (now (s .entry)) list) x (listedFrom (now (s .entry)) list) ⌝ }
-{
-    let listed = listed_from(s, list);
-    let mut n: u64 = 1;
-    let mut j: usize = 1;
-    while j < listed {
-        n = n + below(as_listed(s, list, j), x);
-        j += 1;
+    if listed_from(s, list) == 1 {
+        return (n - 1) * as_listed(s, list, 1);
     }
-    n
+    delta_by_list(s, list, n - 1)
 }
 
-// η(t): whole lists, and what lies inside the remainder, which is at least 1 and at most the last distance.
-fn eta(s: &[u8], list: usize, t: u64) -> u64
-    requires { ⌜ Lists (now s) list × (0 < t) × (t ≤ longestSpan) ⌝ }
+// η(t) by a list of one distance, where it is known to be no less than `from`. Mostly it is that or one more, which is told without a
+// division.
+fn eta_by_one(s: &[u8], list: usize, t: u64, from: u64) -> u64
+    requires { ⌜ Lists (now s) list × (listedFrom (now s) list ≡ 1) × (t ≤ longestSpan) × (from ≤ η (distancesFrom (now s) list) t) ⌝ }
     ensures { λ r. ⌜ r ≡ η (distancesFrom (now (s .entry)) list) t ⌝ }
 {
-    let listed = listed_from(s, list);
-    let last = as_listed(s, list, listed);
-    let lists = (t - 1) / last;
-    lists * (listed as u64) + within_list(s, list, t - lists * last)
+    let distance = as_listed(s, list, 1);
+    let next = from * distance;
+    if t <= next {
+        return from;
+    }
+    if t <= next + distance {
+        return from + 1;
+    }
+    (t - 1) / distance + 1
 }
 
-// η(t) where it is known to be no less than `from`. Mostly it is that or one more, which is told by the two distances that come next,
-// without a division by a distance.
+// η(t) that reaches to the end of the first list: by whole lists where these add up, else by best steps.
+fn eta_past(s: &[u8], list: usize, t: u64) -> u64
+    requires { ⌜ Lists (now s) list × (listedFrom (now s) list ≤ η (distancesFrom (now s) list) t) × (t ≤ longestSpan) ⌝ }
+    ensures { λ r. ⌜ r ≡ η (distancesFrom (now (s .entry)) list) t ⌝ }
+{
+    if adds_up(s, list) {
+        return repeated_count(s, list, t);
+    }
+    settled_count(s, list, t)
+}
+
+// η(t) where a count past the first list is known. Often it is that, which 01's distance tells, since δ is never below it.
+fn eta_known(s: &[u8], list: usize, t: u64, from: u64) -> u64
+    requires { ⌜ Lists (now s) list × (listedFrom (now s) list ≤ from) × (t ≤ longestSpan) × (from ≤ η (distancesFrom (now s) list) t) ⌝ }
+    ensures { λ r. ⌜ r ≡ η (distancesFrom (now (s .entry)) list) t ⌝ }
+{
+    let known = split(from, listed_from(s, list) as u64);
+    if t <= repeated_at(s, list, known.lists, known.rest) {
+        return from;
+    }
+    eta_past(s, list, t)
+}
+
+// η(t) by a list of more. Where it may lie in the first list, it is counted there place by place.
+fn eta_by_list(s: &[u8], list: usize, t: u64, from: u64) -> u64
+    requires { ⌜ Lists (now s) list × (t ≤ longestSpan) × (from ≤ η (distancesFrom (now s) list) t) ⌝ }
+    ensures { λ r. ⌜ r ≡ η (distancesFrom (now (s .entry)) list) t ⌝ }
+{
+    if t <= as_listed(s, list, 1) {
+        return below(0, t);
+    }
+    let listed = listed_from(s, list);
+    if listed as u64 <= from {
+        return eta_known(s, list, t, from);
+    }
+    let n = count_to(s, list, t, listed);
+    if n < listed {
+        return n as u64;
+    }
+    eta_past(s, list, t)
+}
+
+// η(t) where it is known to be no less than `from`.
 pub fn eta_from(s: &[u8], list: usize, t: u64, from: u64) -> u64
     requires { ⌜ Lists (now s) list × (t ≤ longestSpan) × (from ≤ η (distancesFrom (now s) list) t) ⌝ }
     ensures { λ r. ⌜ r ≡ η (distancesFrom (now (s .entry)) list) t ⌝ }
 {
-    let known = split(from, listed_from(s, list) as u64);
-    if t <= delta_at(s, list, known.lists, known.rest) {
-        return from;
+    if listed_from(s, list) == 1 {
+        return eta_by_one(s, list, t, from);
     }
-    if t <= delta_at(s, list, known.lists, known.rest + 1) {
-        return from + 1;
-    }
-    eta(s, list, t)
+    eta_by_list(s, list, t, from)
 }
 
 // The smaller of η(t) and `most`.

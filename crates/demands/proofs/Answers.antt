@@ -21,6 +21,7 @@ use Rattle.table.specs.declared.Verdict.{Verdict}
 use Rattle.table.specs.declared.Verdict.the-variants.{Accepted, Refused as Faulty}
 use Rattle.table.proofs.Fields.{refused-placed, some-number}
 use Rattle.table.proofs.Firsts.{none-or}
+use Rattle.arrivals.specs.Arrivals.{δ}
 use Rattle.segments.specs.Query as segment
 use Rattle.segments.specs.declared.Answer.{Answer as Segment}
 use Rattle.segments.specs.declared.Answer.the-variants.{Refused as NoSegment}
@@ -94,21 +95,21 @@ check-one s = answers CheckRefusal 2 _ refl
 abbrev OneLatency : Latency → Type 0
 OneLatency a = OneAnswer LatencyRefusal 4 (latency.numberOf a) (latencyFigures a)
 
-bound-one : (b : Row) (views : List View) → OneLatency (latency.boundOf b views .answer)
+bound-one : (b : Row) (views : List View) → OneLatency (latency.boundOf δ b views .answer)
 unfolding latency.boundOf latency.windowsOf
 bound-one b views =
-    let k = latency.closeOf (demandOf b views) (distances b) in
-    when-cases (λ (w : Windows). OneLatency (w .answer)) _ (λ e. refuses LatencyRefusal 4 17 (lit≤ tt) (inr (inr (lit≤ tt, lit≤ tt)))) (λ e. by (demandOf b views) (distances b) (b .deadline) k (windowOf (demandOf b views k)))
+    let k = latency.closeOf (demandOf δ b views) (δ (distances b)) in
+    when-cases (λ (w : Windows). OneLatency (w .answer)) _ (λ e. refuses LatencyRefusal 4 17 (lit≤ tt) (inr (inr (lit≤ tt, lit≤ tt)))) (λ e. by (demandOf δ b views) (δ (distances b)) (b .deadline) k (windowOf (demandOf δ b views k)))
   where
-    by : (demand : ℕ → ℕ → ℕ) (ds : List ℕ) (deadline k : ℕ) (w : Window) → OneLatency (latency.endsWith demand ds deadline k w .answer)
-    by demand ds deadline k (At t) = answers LatencyRefusal 4 _ refl
-    by demand ds deadline k Nothing = refuses LatencyRefusal 4 16 (lit≤ tt) (inr (inr (lit≤ tt, lit≤ tt)))
+    by : (demand : ℕ → ℕ → ℕ) (distance : ℕ → ℕ) (deadline k : ℕ) (w : Window) → OneLatency (latency.endsWith demand distance deadline k w .answer)
+    by demand distance deadline k (At t) = answers LatencyRefusal 4 _ refl
+    by demand distance deadline k Nothing = refuses LatencyRefusal 4 16 (lit≤ tt) (inr (inr (lit≤ tt, lit≤ tt)))
 
 pub latency-one : (s : List ℕ) (id : ℕ) → OneLatency (latency.latencyOf s id)
-unfolding latency.latencyOf latency.latencyIn
+unfolding latency.latencyBy latency.latencyIn
 latency-one s id = by (readTable s .verdict) refl
   where
-    by : (v : Verdict) → readTable s .verdict ≡ v → OneLatency (byVerdict NoLatency v (latency.latencyIn (readTable s .table) id))
+    by : (v : Verdict) → readTable s .verdict ≡ v → OneLatency (byVerdict NoLatency v (latency.latencyIn δ (readTable s .table) id))
     by Accepted e = when-cases OneLatency _ (λ f. refuses LatencyRefusal 4 12 (lit≤ tt) (inr (inl refl))) (λ f. bound-one _ _)
     by (Faulty f place) e = faulty LatencyRefusal 4 (λ f h. inl h) s f place e
 
@@ -116,7 +117,7 @@ latency-one s id = by (readTable s .verdict) refl
 abbrev OneMisses : Misses → Type 0
 OneMisses a = OneAnswer MissesRefusal 1 (misses.numberOf a) (misses.valuesOf a)
 
-figures-one : (test : Test) (b : Row) (views : List View) (os : List Overload) (k close latency late last : ℕ) → OneMisses (misses.byFigures test b views os k close latency late last)
+figures-one : (test : Test) (b : Row) (views : List View) (os : List Overload) (k close latency late last : ℕ) → OneMisses (misses.byFigures δ test b views os k close latency late last)
 unfolding misses.byFigures
 figures-one test b views os k close latency late last =
     when-cases OneMisses _ (λ e. answers MissesRefusal 1 _ refl) (λ e.
@@ -131,11 +132,11 @@ early-one b k =
     when-cases (λ f. (f ≡ 0 → ⊥) → MissesRefusal f) _ (λ e h. inr (inl (lit≤ tt, lit≤ tt))) (λ e.
     when-cases (λ f. (f ≡ 0 → ⊥) → MissesRefusal f) _ (λ e h. inr (inl (lit≤ tt, lit≤ tt))) (λ e h. absurd (h refl))))
 
-in-one : (test : Test) (b : Row) (views : List View) (os : List Overload) (k : ℕ) → OneMisses (misses.testedBeside test b views os k)
+in-one : (test : Test) (b : Row) (views : List View) (os : List Overload) (k : ℕ) → OneMisses (misses.testedBeside δ test b views os k)
 unfolding misses.testedBeside byNumber
-in-one test b views os k = by (misses.earlyOf b k) (early-one b k) (latency.boundOf b views .answer) (latency.boundOf b views .last) (bound-one b views)
+in-one test b views os k = by (misses.earlyOf b k) (early-one b k) (latency.boundOf δ b views .answer) (latency.boundOf δ b views .last) (bound-one b views)
   where
-    by : (f : ℕ) → ((f ≡ 0 → ⊥) → MissesRefusal f) → (a : Latency) (last : ℕ) → OneLatency a → OneMisses (byNumber NoMisses f (misses.byBound test b views os k a last))
+    by : (f : ℕ) → ((f ≡ 0 → ⊥) → MissesRefusal f) → (a : Latency) (last : ℕ) → OneLatency a → OneMisses (byNumber NoMisses f (misses.byBound δ test b views os k a last))
     by zero l (Figures close latency late margin) last o = figures-one test b views os k close latency late last
     by zero l (NoLatency n) last o = some n o
       where
@@ -146,18 +147,18 @@ in-one test b views os k = by (misses.earlyOf b k) (early-one b k) (latency.boun
             refuses MissesRefusal 1 (suc n) (omega arith) (⊎-elim (λ h. inl h) (λ g. inr (inl (⊎-elim (λ h. (omega (arith, h), omega (arith, h))) (λ h. (omega (arith, h .0), omega (arith, h .1))) g))) r)
     by (suc f) l a last o = refuses MissesRefusal 1 (suc f) (omega arith) (l (λ z. omega (arith, z)))
 
-pub tested-one : (test : Test) (s : List ℕ) (id k : ℕ) → OneMisses (misses.testedOf test s id k)
+pub tested-one : (test : Test) (s : List ℕ) (id k : ℕ) → OneMisses (misses.testedOf δ test s id k)
 unfolding misses.testedOf misses.testedIn misses.testedAt
 tested-one test s id k = by (readTable s .verdict) refl
   where
-    by : (v : Verdict) → readTable s .verdict ≡ v → OneMisses (byVerdict NoMisses v (misses.testedIn test (readTable s .table) id k))
+    by : (v : Verdict) → readTable s .verdict ≡ v → OneMisses (byVerdict NoMisses v (misses.testedIn δ test (readTable s .table) id k))
     by Accepted e = when-cases OneMisses _ (λ f. refuses MissesRefusal 1 12 (lit≤ tt) (inr (inl (lit≤ tt, lit≤ tt)))) (λ f. in-one test _ _ _ k)
     by (Faulty f place) e = faulty MissesRefusal 1 (λ f h. inl h) s f place e
 
 -- by the sieve
 pub sieve-one : (s : List ℕ) (id k : ℕ) → OneAnswer MissesRefusal 1 (sieve.numberOf (sieve.atMostOf s id k)) (sieve.valuesOf (sieve.atMostOf s id k))
 unfolding sieve.atMostOf
-sieve-one s id k = by (misses.testedOf sieve.bySieve s id k) (tested-one sieve.bySieve s id k)
+sieve-one s id k = by (misses.testedOf δ sieve.bySieve s id k) (tested-one sieve.bySieve s id k)
   where
     by : (a : Misses) → OneMisses a → OneAnswer MissesRefusal 1 (sieve.numberOf (sieve.asSieved a)) (sieve.valuesOf (sieve.asSieved a))
     by (Missed n) o = o

@@ -20,9 +20,10 @@ use Rattle.table.specs.Read.{accepted, readTable, numberOf, tableOf}
 use Rattle.table.specs.declared.Row.{Row}
 use Rattle.table.specs.declared.Table.{Table}
 use Rattle.table.proofs.Accepted.{taken}
+use Rattle.arrivals.specs.Arrivals.{Rule}
 use Rattle.segments.specs.View.{viewOf}
 use Rattle.windows.specs.Demand.{viewsOf}
-use Rattle.windows.specs.Latency.{boundOf, latencyOf}
+use Rattle.windows.specs.Latency.{boundOf, latencyBy}
 use Rattle.windows.specs.declared.Answer.the-variants.{Refused}
 use Rattle.windows.proofs.Answers as latency
 use Rattle.misses.specs.Overloads.{overloads}
@@ -52,22 +53,22 @@ module _ {s : List ℕ} {id : ℕ} (h : Has s id) where
   found : chainNumber s id ≡ tableOf s .count → ⊥
   found e = omega (arith, e, h .there)
 
-  pub latency-is : latencyOf s id ≡ boundOf (chainOf s id) (map (λ a. viewOf a (chainOf s id)) (chains.othersOf s id)) .answer
+  pub latency-is : (rule : Rule) → latencyBy rule s id ≡ boundOf rule (chainOf s id) (map (λ a. viewOf a (chainOf s id)) (chains.othersOf s id)) .answer
   unfolding viewsOf
-  latency-is = latency.latency-accepted s id (h .table .accepted) ∙ latency.chain-found (tableOf s) id found
+  latency-is rule = latency.latency-accepted rule s id (h .table .accepted) ∙ latency.chain-found rule (tableOf s) id found
 
-  pub tested-are : (test : Test) (k : ℕ) → testedOf test s id k
-      ≡ testedBeside test (chainOf s id) (map (λ a. viewOf a (chainOf s id)) (chains.othersOf s id)) (overloads (chainOf s id) (chains.othersOf s id)) k
+  pub tested-are : (rule : Rule) (test : Test) (k : ℕ) → testedOf rule test s id k
+      ≡ testedBeside rule test (chainOf s id) (map (λ a. viewOf a (chainOf s id)) (chains.othersOf s id)) (overloads (chainOf s id) (chains.othersOf s id)) k
   unfolding viewsOf testedAt
-  tested-are test k = misses.tested-accepted test s id k (h .table .accepted) ∙ misses.chain-found test (tableOf s) id k found
+  tested-are rule test k = misses.tested-accepted rule test s id k (h .table .accepted) ∙ misses.chain-found rule test (tableOf s) id k found
 
 -- no chain has the id: 12
 module _ {s : List ℕ} (h : IsTable s) (id : ℕ) (none : chainNumber s id ≡ tableOf s .count) where
-  pub latency-absent : latencyOf s id ≡ Refused 12
-  latency-absent = latency.latency-accepted s id (h .accepted) ∙ latency.chain-none (tableOf s) id none
+  pub latency-absent : (rule : Rule) → latencyBy rule s id ≡ Refused 12
+  latency-absent rule = latency.latency-accepted rule s id (h .accepted) ∙ latency.chain-none rule (tableOf s) id none
 
-  pub tested-absent : (test : Test) (k : ℕ) → testedOf test s id k ≡ Unanswered 12
-  tested-absent test k = misses.tested-accepted test s id k (h .accepted) ∙ misses.chain-none test (tableOf s) id k none
+  pub tested-absent : (rule : Rule) (test : Test) (k : ℕ) → testedOf rule test s id k ≡ Unanswered 12
+  tested-absent rule test k = misses.tested-accepted rule test s id k (h .accepted) ∙ misses.chain-none rule test (tableOf s) id k none
 
 -- so does one chain of a table bear the id, and the others do not
 abbrev pub bears : ℕ → Row → Bool

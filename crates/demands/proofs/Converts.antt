@@ -21,7 +21,7 @@ use Rattle.table.specs.declared.Verdict.{Verdict}
 use Rattle.table.specs.declared.Verdict.the-variants.{Accepted, Refused as Faulty}
 use Rattle.table.proofs.Firsts.{or-left, or-right, none-or}
 use Rattle.slices.proofs.Parts.{all-at}
-use Rattle.arrivals.specs.Arrivals.{largest, unknown}
+use Rattle.arrivals.specs.Arrivals.{δ, largest, unknown}
 use Rattle.segments.specs.View.{View, viewOf}
 use Rattle.windows.specs.Latency.{boundOf, latencyOf}
 use Rattle.windows.specs.declared.Windows.{Windows}
@@ -128,22 +128,22 @@ module _ (to : To) {s : List ℕ} (h : IsTable s) (other : formAt s 0 ≡ formOf
 
       latency-stays : latencyOf s id ≡ latencyOf (tableIn to s) id
       latency-stays =
-          latency-is own
-          ∙ sym (latency-is own-has ∙ ap₂ (λ x (l : List Row). boundOf x (map (λ a. viewOf a x) l) .answer) row-is others-are
-          ∙ ap (λ v. boundOf (converted to b) v .answer) (views (othersOf s id)) ∙ ap (λ (w : Windows). w .answer) (bound-kept to b _))
+          latency-is own δ
+          ∙ sym (latency-is own-has δ ∙ ap₂ (λ x (l : List Row). boundOf δ x (map (λ a. viewOf a x) l) .answer) row-is others-are
+          ∙ ap (λ v. boundOf δ (converted to b) v .answer) (views (othersOf s id)) ∙ ap (λ (w : Windows). w .answer) (bound-kept to b _))
 
       tested-stays : (test : Test) → ((views : List View) (close cost : ℕ) → test (converted to b) views close cost ≡ test b views close cost) → (k : ℕ)
-          → testedOf test s id k ≡ testedOf test (tableIn to s) id k
+          → testedOf δ test s id k ≡ testedOf δ test (tableIn to s) id k
       tested-stays test same k =
-          tested-are own test k
-          ∙ sym (tested-are own-has test k ∙ ap₂ (λ x (l : List Row). testedBeside test x (map (λ a. viewOf a x) l) (overloads x l) k) row-is others-are
-          ∙ ap₂ (λ v o. testedBeside test (converted to b) v o k) (views (othersOf s id)) (overloads-kept to b (othersOf s id))
+          tested-are own δ test k
+          ∙ sym (tested-are own-has δ test k ∙ ap₂ (λ x (l : List Row). testedBeside δ test x (map (λ a. viewOf a x) l) (overloads x l) k) row-is others-are
+          ∙ ap₂ (λ v o. testedBeside δ test (converted to b) v o k) (views (othersOf s id)) (overloads-kept to b (othersOf s id))
           ∙ tested-kept test to b _ _ k (same _) (largest-stays to own-row k) (unknown-stays to own-row))
 
     unmoved : Unmoved s (tableIn to s) id
     unmoved = ⊎-elim
         (λ e. let f = step-none h converted-table (converted to) (id-kept to) converted-rows id e in
-        record { latency = latency-absent h id e ∙ sym (latency-absent converted-table id f); misses = λ k. tested-absent h id e byWindows k ∙ sym (tested-absent converted-table id f byWindows k) })
+        record { latency = latency-absent h id e δ ∙ sym (latency-absent converted-table id f δ); misses = λ k. tested-absent h id e δ byWindows k ∙ sym (tested-absent converted-table id f δ byWindows k) })
         (λ l. let own : Has s id = record { table = h; there = l } in
         record { latency = latency-stays own; misses = tested-stays own byWindows (windows-kept to _) })
         (absent-or-there h id)
@@ -151,7 +151,7 @@ module _ (to : To) {s : List ℕ} (h : IsTable s) (other : formAt s 0 ≡ formOf
     sieve-stays : (k : ℕ) → atMostOf s id k ≡ atMostOf (tableIn to s) id k
     unfolding atMostOf
     sieve-stays k = ap asSieved (⊎-elim
-        (λ e. tested-absent h id e bySieve k ∙ sym (tested-absent converted-table id (step-none h converted-table (converted to) (id-kept to) converted-rows id e) bySieve k))
+        (λ e. tested-absent h id e δ bySieve k ∙ sym (tested-absent converted-table id (step-none h converted-table (converted to) (id-kept to) converted-rows id e) δ bySieve k))
         (λ l. tested-stays (record { table = h; there = l }) bySieve (sieve-kept to _) k)
         (absent-or-there h id))
 

@@ -9,10 +9,11 @@ use Rattle.demands.proofs.Merges.{merge-of-copies}
 use Rattle.demands.proofs.Converts.{conversions}
 use Rattle.demands.proofs.Salvages.{salvaging}
 use Rattle.demands.proofs.Rows.{rows-and-tables}
-use Rattle.demands.proofs.Figures.{counted, stretched, latency-means, latency-only}
+use Rattle.demands.proofs.Figures.{counted, formerly, stretched, latency-means, latency-only}
 use Rattle.demands.proofs.Misses.{misses-mean, answers-right}
 use Rattle.demands.proofs.Runs.{within-run, last-column, longer-run}
 use Rattle.demands.proofs.Sieve.{second-ways}
+use Rattle.demands.proofs.Former.{none-grows}
 use Rattle.demands.proofs.Others.{same-besides, reordered, ids-deadlines-largest, regrouped}
 use Rattle.demands.proofs.Saves.{saved-deadline-or-largest}
 use Rattle.demands.proofs.Calls.{same-latency-call, same-misses-call}
@@ -24,6 +25,7 @@ demand-1 = record { entries = every-entry; places = λ s e. (refused-placed s e,
 pub demand-2 : Demand2
 demand-2 = record {
   arrivals = counted;
+  former-rule = formerly;
   largest = stretched;
   windows = latency-means;
   only = latency-only;
@@ -32,6 +34,7 @@ demand-2 = record {
   last-column = last-column;
   longer-run = longer-run;
   second-ways = second-ways;
+  none-grows = none-grows;
   printed = λ n. (decimal-value n, decimal-first n);
   segment = answer-records;
 }

@@ -8,7 +8,7 @@ use Rattle.search.specs.Choice.{_when_else_}
 use Rattle.search.specs.Lists.{sumOf, mostOf}
 use Rattle.table.specs.Record.{distances}
 use Rattle.table.specs.declared.Row.{Row}
-use Rattle.arrivals.specs.Arrivals.{η}
+use Rattle.arrivals.specs.Arrivals.{δ, η}
 use Rattle.segments.specs.Tasks.{costOf, chainCost, deferred, firstCost}
 use Rattle.segments.specs.Segments.{segmentsOf}
 use Rattle.segments.specs.View.{View, viewOf, allOf, dearestOf}
@@ -21,7 +21,7 @@ abbrev pub viewed : Row → List Row → List View
 viewed b l = map (λ a. viewOf a b) l
 
 -- what another chain adds
-term-is : (b a : Row) (t : ℕ) → termOf (viewOf a b) t ≡ added b a t
+term-is : (b a : Row) (t : ℕ) → termOf δ (viewOf a b) t ≡ added b a t
 unfolding termOf viewOf added _when_else_
 term-is b a t = by (η (distances a) t) (deferred a b) refl (eqb (a .kind) 1)
   where
@@ -32,12 +32,12 @@ term-is b a t = by (η (distances a) t) (deferred a b) refl (eqb (a .kind) 1)
     by n true e true = ap (λ c. n * firstCost a b + c) (sym (all-view a b))
     by n true e false = sym (dearest-view a b)
 
-terms-are : (b : Row) (l : List Row) (t : ℕ) → sumOf (λ v. termOf v t) (viewed b l) ≡ sumOf (λ a. added b a t) l
+terms-are : (b : Row) (l : List Row) (t : ℕ) → sumOf (λ v. termOf δ v t) (viewed b l) ≡ sumOf (λ a. added b a t) l
 unfolding sumOf
 terms-are b [] t = refl
 terms-are b (a ∷ l) t = ap₂ _+_ (term-is b a t) (terms-are b l t)
 
-pub equation-is : (b : Row) (l : List Row) → demandOf b (viewed b l) ≡ equation b l
+pub equation-is : (b : Row) (l : List Row) → demandOf δ b (viewed b l) ≡ equation b l
 unfolding demandOf countedPart equation
 equation-is b l = λ i q t. ap (λ x. q * chainCost b + (η (distances b) t - q) * countedPart b + x) (terms-are b l t) i
 
@@ -52,5 +52,5 @@ typical-is b (a ∷ l) = by (eqb (a .overload) 0) (typical-is b l)
     by true e = ap (λ vs. viewOf a b ∷ vs) e
     by false e = e
 
-pub unmarked-is : (b : Row) (l : List Row) → demandOf b (typical (viewed b l)) ≡ equation b (unmarked l)
-unmarked-is b l = ap (demandOf b) (typical-is b l) ∙ equation-is b (unmarked l)
+pub unmarked-is : (b : Row) (l : List Row) → demandOf δ b (typical (viewed b l)) ≡ equation b (unmarked l)
+unmarked-is b l = ap (demandOf δ b) (typical-is b l) ∙ equation-is b (unmarked l)

@@ -5,6 +5,7 @@ use mathlib.Core.Bool.{Bool, true, false}
 use mathlib.Core.List.{List}
 use mathlib.Core.Logic.{_⊎_, inl, inr, ⊎-elim}
 use native.Mathlib.Omega.{arith}
+use native.Mathlib.Numerals.{add-one}
 use lib.Dec.{ltb}
 use lib.IntN.{ℤ}
 use lib.ListN.{length}
@@ -13,21 +14,25 @@ use Rattle.search.specs.Choice.{_when_else_}
 use Rattle.search.specs.Find.{first, Greatest}
 use Rattle.search.specs.Lists.{sumOf}
 use Rattle.search.proofs.Choice.{lt-or-le}
-use Rattle.search.proofs.Find.{first-ge, first-hit, first-miss, greatest-unique}
+use Rattle.search.proofs.Find.{first-ge, first-miss, greatest-unique}
 use Rattle.table.specs.code.Good.{GoodRow}
 use Rattle.table.specs.declared.Row.{Row}
 use Rattle.table.specs.Limits.{maxActivations}
-use Rattle.arrivals.specs.Arrivals.{δ, largest}
+use Rattle.arrivals.specs.Arrivals.{Way, sumOfSteps, δ, largest}
 use Rattle.table.specs.code.Good.{GoodDistances}
 use Rattle.table.specs.Record.{distances, largests}
 use Rattle.table.proofs.Largests.{largests-at, largests-long}
-use Rattle.arrivals.proofs.Distances.{δ-one, δ-start, δ-listed, δ-rule}
+use Rattle.arrivals.proofs.Repeating.{repeated-start, repeated-listed, repeated-rule}
+use Rattle.arrivals.proofs.Sums.{δ-ways}
+use Rattle.arrivals.proofs.Distances.{δ-one, δ-adds, δ-above, δ-good}
+use Rattle.arrivals.proofs.Settling.{settles, adds-up-is}
+use Rattle.arrivals.proofs.Heads.{best-there}
 use Rattle.arrivals.proofs.Counts.{η-zero, η-greatest}
 use Rattle.arrivals.proofs.Lists.{rising}
 use Rattle.arrivals.proofs.Rows.{largests-rising, largest-by-gap, largest-by-list}
 use Rattle.windows.specs.Demand.{viewsOf}
 use Rattle.windows.specs.Window.{Solution, windowOf}
-use Rattle.windows.specs.Latency.{long, ends, latencyAt, upTo, latencyTo, overOf, lateTo, marginOf, endsWith, windowsOf, boundOf, latencyOf}
+use Rattle.windows.specs.Latency.{long, ends, closeOf, latencyAt, upTo, latencyTo, overOf, lateTo, marginOf, endsWith, windowsOf, boundOf, latencyOf}
 use Rattle.windows.specs.declared.Window.{Window}
 use Rattle.windows.specs.declared.Window.the-variants.{At, Nothing}
 use Rattle.windows.specs.declared.Windows.{Windows}
@@ -42,7 +47,7 @@ use Rattle.windows.proofs.Closing as closing
 use Rattle.table.specs.Read.{tableOf}
 use Rattle.demands.specs.Chains.{Has, chainNumber, chainOf}
 use Rattle.demands.specs.Chains as chains
-use Rattle.demands.specs.Arrivals.{ArrivalRules, LargestRules}
+use Rattle.demands.specs.Arrivals.{ArrivalRules, FormerRules, LargestRules}
 use Rattle.demands.specs.Figures.{count, OpenTo, NoWindow, NoClose, Closes, Means}
 use Rattle.demands.specs.Misses.{full}
 use Rattle.demands.proofs.Chains.{table-good, latency-is}
@@ -59,46 +64,46 @@ module _ (demand : ℕ → ℕ → ℕ) (ds : List ℕ) where
   goes-on : (q t : ℕ) → Solution (demand q) t → δ ds (q + 1) < t → ends-at q ≡ true → ⊥
   goes-on q t a h e = omega (arith, h, leb-true t (δ ds (q + 1)) (sym (ap (λ w. ends w (δ ds (q + 1))) (window-is q t a)) ∙ e))
 
-  walked : (q : ℕ) → OpenTo demand ds q → Open demand ds q
+  walked : (q : ℕ) → OpenTo demand ds q → Open demand (δ ds) q
   unfolding Open
   walked q o p l m = let w = o p l m in goes-on p (w .0) (w .1) (w .2)
 
   -- and what does not end the walk is an open window
   opened : (q : ℕ) → ends-at q ≡ false → (t : ℕ) × Solution (demand q) t × (δ ds (q + 1) < t)
-  opened q f = let w = closing.open-window demand ds q f in (w .0, window-at (demand q) (w .0) (w .1), w .2)
+  opened q f = let w = closing.open-window demand (δ ds) q f in (w .0, window-at (demand q) (w .0) (w .1), w .2)
 
   module _ (deadline : ℕ) where
     abbrev answer : Answer
-    answer = windowsOf demand ds deadline .answer
+    answer = windowsOf demand (δ ds) deadline .answer
 
     pub no-window : NoWindow demand ds → answer ≡ Refused 16
     no-window n =
         let e : windowOf (demand (n .q)) ≡ Nothing = sym (window-only (demand (n .q)) Nothing (n .none)) in
         ap (λ (w : Windows). w .answer)
-        (windows-end demand ds deadline (n .q) (n .low) (n .high) (ap (λ w. ends w (δ ds (n .q + 1))) e) (walked (n .q) (n .earlier)) ∙ ap (endsWith demand ds deadline (n .q)) e)
+        (windows-end demand (δ ds) deadline (n .q) (n .low) (n .high) (ap (λ w. ends w (δ ds (n .q + 1))) e) (walked (n .q) (n .earlier)) ∙ ap (endsWith demand (δ ds) deadline (n .q)) e)
 
     pub no-close : NoClose demand ds → answer ≡ Refused 17
-    no-close o = ap (λ (w : Windows). w .answer) (windows-open demand ds deadline (walked (maxActivations + 1) o))
+    no-close o = ap (λ (w : Windows). w .answer) (windows-open demand (δ ds) deadline (walked (maxActivations + 1) o))
 
     -- the figures of windows
     module _ (k : ℕ) (B : ℕ → ℕ) (windows : (q : ℕ) → 1 ≤ q → q ≤ k → Solution (demand q) (B q)) (behind : (q : ℕ) → 1 ≤ q → q ≤ k → δ ds q ≤ B q) where
-      latency-at : (q : ℕ) → 1 ≤ q → q ≤ k → latencyAt demand ds q ≡ B q - δ ds q
+      latency-at : (q : ℕ) → 1 ≤ q → q ≤ k → latencyAt demand (δ ds) q ≡ B q - δ ds q
       unfolding latencyAt
       latency-at q l h = ap (λ w. long w - δ ds q) (window-is q (B q) (windows q l h))
 
       abbrev One : ℕ → Type 0
       One x = (q : ℕ) × (1 ≤ q) × (q ≤ k) × (B q ≡ δ ds q + x)
 
-      pub longest : 1 ≤ k → Greatest One (latencyTo demand ds k)
+      pub longest : 1 ≤ k → Greatest One (latencyTo demand (δ ds) k)
       longest low =
-          let g = latency-greatest demand ds k low in
+          let g = latency-greatest demand (δ ds) k low in
           let w = g .holds in
           record {
             holds = (w .0, w .1, w .2, omega (arith, w .3, latency-at (w .0) (w .1) (w .2), behind (w .0) (w .1) (w .2)));
             above = λ x r. g .above x (r .0, r .1, r .2, omega (arith, latency-at (r .0) (r .1) (r .2), r .3));
           }
 
-      late-one : (q : ℕ) → 1 ≤ q → q ≤ k → overOf (latencyAt demand ds q) deadline ≡ (1 when ltb (δ ds q + deadline) (B q) else 0)
+      late-one : (q : ℕ) → 1 ≤ q → q ≤ k → overOf (latencyAt demand (δ ds) q) deadline ≡ (1 when ltb (δ ds q + deadline) (B q) else 0)
       late-one q l h = ap (λ b. 1 when b else 0) (ap (ltb deadline) (latency-at q l h) ∙ same (B q) (δ ds q))
         where
           same : (x y : ℕ) → ltb deadline (x - y) ≡ ltb (y + deadline) x
@@ -107,18 +112,18 @@ module _ (demand : ℕ → ℕ → ℕ) (ds : List ℕ) where
               (λ h. le-ltb deadline (x - y) (omega arith) ∙ sym (le-ltb (y + deadline) x h))
               (lt-or-le (y + deadline) x)
 
-      pub late-counts : (j : ℕ) → j ≤ k → lateTo demand ds deadline j ≡ count (λ q. ltb (δ ds q + deadline) (B q)) j
+      pub late-counts : (j : ℕ) → j ≤ k → lateTo demand (δ ds) deadline j ≡ count (λ q. ltb (δ ds q + deadline) (B q)) j
       unfolding lateTo upTo sumOf count
       late-counts zero h = refl
       late-counts (suc j) h = ap₂ _+_ (late-one (suc j) (omega arith) h) (late-counts j (omega arith))
 
     -- with the last window
     pub closes-last : (k latency late : ℕ) (margin : ℤ) (c : Closes demand ds deadline k latency late margin)
-        → windowsOf demand ds deadline ≡ record { answer = Figures k latency late margin; last = c .B k }
+        → windowsOf demand (δ ds) deadline ≡ record { answer = Figures k latency late margin; last = c .B k }
     closes-last k latency late margin c =
-        let x : latencyTo demand ds k ≡ latency = greatest-unique (longest k (c .B) (c .windows) (c .behind) (c .low)) (c .greatest) in
-        let y : lateTo demand ds deadline k ≡ late = late-counts k (c .B) (c .windows) (c .behind) k (omega arith) ∙ sym (c .counts) in
-        closing.closes-answer demand ds deadline (record {
+        let x : latencyTo demand (δ ds) k ≡ latency = greatest-unique (longest k (c .B) (c .windows) (c .behind) (c .low)) (c .greatest) in
+        let y : lateTo demand (δ ds) deadline k ≡ late = late-counts k (c .B) (c .windows) (c .behind) k (omega arith) ∙ sym (c .counts) in
+        closing.closes-answer demand (δ ds) deadline (record {
           low = c .low;
           high = c .high;
           last = window-is k (c .B k) (c .windows k (c .low) (omega arith));
@@ -140,6 +145,7 @@ module _ (demand : ℕ → ℕ → ℕ) (ds : List ℕ) where
       Case = NoWindow demand ds ⊎ (NoClose demand ds ⊎ Closed)
 
       pub three : Case
+      unfolding closeOf
       three = ⊎-elim
           (λ h. inr (inl (λ p l m. opened p (first-miss ends-at 1 maxActivations p l (omega (arith, h, m))))))
           (λ h. by h (windowOf (demand (first ends-at 1 maxActivations))) refl)
@@ -155,23 +161,17 @@ module _ (demand : ℕ → ℕ → ℕ) (ds : List ℕ) where
           })
           by h (At t) e =
               let k = first ends-at 1 maxActivations in
-              let c : closing.Closes demand ds k t = record {
-                low = first-ge ends-at 1 maxActivations;
-                high = h;
-                last = e;
-                shut = leb-true t (δ ds (k + 1)) (sym (ap (λ w. ends w (δ ds (k + 1))) e) ∙ first-hit ends-at 1 maxActivations (omega arith));
-                reach = λ p l m. let w = opened p (first-miss ends-at 1 maxActivations p l m) in (w .0, window-is p (w .0) (w .1), w .2);
-              } in
+              let c : closing.Closes demand (δ ds) k t = closing.closes-found demand (δ ds) h e in
               let B : ℕ → ℕ = λ q. long (windowOf (demand q)) in
-              let there : (q : ℕ) → 1 ≤ q → q ≤ k → (s : ℕ) × (windowOf (demand q) ≡ At s) × (δ ds q ≤ s) × (s ≤ t) = closing.windows-there growing good c in
+              let there : (q : ℕ) → 1 ≤ q → q ≤ k → (s : ℕ) × (windowOf (demand q) ≡ At s) × (δ ds q ≤ s) × (s ≤ t) = closing.windows-there growing (δ-one good) c in
               let is : (q : ℕ) (l : 1 ≤ q) (m : q ≤ k) → B q ≡ there q l m .0 = λ q l m. ap long (there q l m .1) in
               let windows : (q : ℕ) → 1 ≤ q → q ≤ k → Solution (demand q) (B q) = λ q l m. subst (Solution (demand q)) (sym (is q l m)) (window-at (demand q) (there q l m .0) (there q l m .1)) in
               let behind : (q : ℕ) → 1 ≤ q → q ≤ k → δ ds q ≤ B q = λ q l m. omega (arith, is q l m, there q l m .2) in
               inr (inr (
                 k,
-                latencyTo demand ds k,
-                lateTo demand ds deadline k,
-                marginOf deadline (latencyTo demand ds k),
+                latencyTo demand (δ ds) k,
+                lateTo demand (δ ds) deadline k,
+                marginOf deadline (latencyTo demand (δ ds) k),
                 record {
                   low = c .low;
                   high = h;
@@ -239,31 +239,47 @@ module _ {s : List ℕ} {id : ℕ} (h : Has s id) where
   good : GoodRow b
   good = table-good (h .table) .row (chainNumber s id) (h .there)
 
-  -- arrivals are document 01's
+  -- arrivals are those of distances that add up
   pub counted : ArrivalRules (distances b)
   counted =
       let g = good .list in
-      record { alone = δ-one g; listed = δ-listed (rising g); turns = δ-rule (rising g); never = η-zero g; greatest = η-greatest g }
+      let step = best-there (distances b) (g .some) in
+      record {
+        ways = λ n. subst (λ m. Greatest (λ x. (steps : List ℕ) × Way (distances b) n steps × (x ≡ sumOfSteps (distances b) steps)) (δ (distances b) m)) (sym (add-one n)) (δ-ways (distances b) (g .some) n);
+        alone = δ-one g;
+        adds = δ-adds (distances b) (g .some);
+        former = δ-above g;
+        as-before = λ up. adds-up-is g (record { with = λ i low high. record { adds = λ j some less. up i j low high some (omega (arith, less, high)) } });
+        closed = (step .0, step .1, λ n h. rw (add-one, add-one) (settles (distances b) (step .1) n h));
+        never = η-zero g;
+        greatest = η-greatest g;
+      }
+
+  -- the former ones document 01's
+  pub formerly : FormerRules (distances b)
+  formerly =
+      let g = rising (good .list) in
+      record { alone = repeated-start g; listed = repeated-listed g; turns = repeated-rule g }
 
   -- and so is the largest distance, by its gap or its list
   pub stretched : LargestRules b
   stretched = record {
     by-gap = λ e k. largest-by-gap b k (λ f. omega (arith, f, good .flag-form e));
-    alone = λ e. largest-by-list b 1 e ∙ δ-start (largests-rising good e);
-    listed = λ e j h. largest-by-list b (j + 2) e ∙ δ-listed (largests-rising good e) j (omega (arith, h, largests-long good e)) ∙ largests-at good j;
+    alone = λ e. largest-by-list b 1 e ∙ repeated-start (largests-rising good e);
+    listed = λ e j h. largest-by-list b (j + 2) e ∙ repeated-listed (largests-rising good e) j (omega (arith, h, largests-long good e)) ∙ largests-at good j;
     turns = λ e i j h.
         subst (λ n. j < n → largest b (1 + i * n + j) ≡ i * largest b (n + 1) + largest b (1 + j)) (largests-long good e)
-        (λ l. rw (largest-by-list b (1 + i * length (largests b) + j) e, largest-by-list b (length (largests b) + 1) e, largest-by-list b (1 + j) e) (δ-rule (largests-rising good e) i j l)) h;
+        (λ l. rw (largest-by-list b (1 + i * length (largests b) + j) e, largest-by-list b (length (largests b) + 1) e, largest-by-list b (1 + j) e) (repeated-rule (largests-rising good e) i j l)) h;
   }
 
   growing : Growing (full b l)
   unfolding viewsOf
-  growing = subst Growing (equation-is b l) (demand-growing b _ good (others-paced (tableOf s) (table-good (h .table)) (chainNumber s id)))
+  growing = subst Growing (equation-is b l) (demand-growing δ-good b _ good (others-paced (tableOf s) (table-good (h .table)) (chainNumber s id)))
 
   -- the answer of the latency query for a chain of an accepted table is that of the demand equation
-  answer-is : latencyOf s id ≡ windowsOf (full b l) (distances b) (b .deadline) .answer
+  answer-is : latencyOf s id ≡ windowsOf (full b l) (δ (distances b)) (b .deadline) .answer
   unfolding boundOf
-  answer-is = latency-is h ∙ ap (λ d. windowsOf d (distances b) (b .deadline) .answer) (equation-is b l)
+  answer-is = latency-is h δ ∙ ap (λ d. windowsOf d (δ (distances b)) (b .deadline) .answer) (equation-is b l)
 
   pub latency-means : Means (full b l) (distances b) (b .deadline) (latencyOf s id)
   latency-means = rw answer-is (answer-means (full b l) (distances b) (b .deadline) growing (good .list))

@@ -14,7 +14,7 @@ use Rattle.table.specs.Record.{gapForm}
 use Rattle.table.specs.code.Good.{GoodRow}
 use Rattle.table.specs.declared.Row.{Row}
 use Rattle.table.proofs.Lists.{length-spaced, spaced-at}
-use Rattle.arrivals.specs.Arrivals.{asListed, δ, largest, unknown}
+use Rattle.arrivals.specs.Arrivals.{asListed, δ, largest, unknown, repeated}
 use Rattle.arrivals.proofs.Rows.{largest-by-gap, largest-by-list}
 use Rattle.segments.specs.View.{View, viewOf}
 use Rattle.windows.specs.Demand.{countedPart, demandOf}
@@ -38,7 +38,7 @@ unfolding viewOf
 view-kept Largest a b = refl
 view-kept Gap a b = refl
 
-pub bound-kept : (to : To) (b : Row) (views : List View) → boundOf (converted to b) views ≡ boundOf b views
+pub bound-kept : (to : To) (b : Row) (views : List View) → boundOf δ (converted to b) views ≡ boundOf δ b views
 unfolding boundOf demandOf countedPart
 bound-kept Largest b views = refl
 bound-kept Gap b views = refl
@@ -65,10 +65,10 @@ unfolding asListed
 multiple-listed g n zero h = omega arith
 multiple-listed g n (suc j) h = spaced-at (λ m. m) g n j g h ∙ omega (arith, mul-comm g j)
 
-δ-multiples : (g n k : ℕ) → 0 < n → δ (multiples g n) k ≡ (k - 1) * g
-unfolding δ
-δ-multiples g n zero h = omega arith
-δ-multiples g n (suc m) h =
+repeated-multiples : (g n k : ℕ) → 0 < n → repeated (multiples g n) k ≡ (k - 1) * g
+unfolding repeated
+repeated-multiples g n zero h = omega arith
+repeated-multiples g n (suc m) h =
     let l = length-spaced (λ (x : ℕ). x) g n g in
     let e : m / n * n + m % n ≡ m = div-add-mod' m n in
     let u : m % n < n = mod-lt m h in
@@ -84,8 +84,8 @@ module _ {r : Row} (good : GoodRow r) (form : r .form ≡ gapForm) where
   pub largest-kept : (k : ℕ) → largest (withLargest r) k ≡ largest r k
   unfolding _when_else_
   largest-kept k = ⊎-elim
-      (λ h. largest-by-list (withLargest r) k (when-no {A = ℕ} 0 1 (ne-eqb (r .gap) 0 (λ z. omega (arith, z, h)))) ∙ ap (λ l. δ l k) (largests-all good h)
-      ∙ δ-multiples (r .gap) (r .listed) k (omega (arith, good .listed, good .list .some)) ∙ sym (largest-by-gap r k plain))
+      (λ h. largest-by-list (withLargest r) k (when-no {A = ℕ} 0 1 (ne-eqb (r .gap) 0 (λ z. omega (arith, z, h)))) ∙ ap (λ l. repeated l k) (largests-all good h)
+      ∙ repeated-multiples (r .gap) (r .listed) k (omega (arith, good .listed, good .list .some)) ∙ sym (largest-by-gap r k plain))
       (λ h. let e : r .gap ≡ 0 = omega (arith, h) in
       largest-by-gap (withLargest r) k (λ f. omega (arith, f, when-yes {A = ℕ} 0 1 (eq-eqb (r .gap) 0 e))) ∙ ap (λ g. (k - 1) * g) (sym e) ∙ sym (largest-by-gap r k plain))
       (lt-or-le 0 (r .gap))
@@ -117,15 +117,15 @@ module _ (test : Test) (to : To) (b : Row) (views : List View) (os : List Overlo
   unfolding badOf
   bads close = fun-ext (λ m. ap (λ f. bad (f close) (piecesOf os) m) tests)
 
-  figures-kept : (close latency late last : ℕ) → byFigures test (converted to b) views os k close latency late last ≡ byFigures test b views os k close latency late last
+  figures-kept : (close latency late last : ℕ) → byFigures δ test (converted to b) views os k close latency late last ≡ byFigures δ test b views os k close latency late last
   unfolding byFigures missedOf packingFigure roomOf
   figures-kept close latency late last = rw (bads close, same-largest)
 
-  answer-kept : (x : Bound) (last : ℕ) → byBound test (converted to b) views os k x last ≡ byBound test b views os k x last
+  answer-kept : (x : Bound) (last : ℕ) → byBound δ test (converted to b) views os k x last ≡ byBound δ test b views os k x last
   answer-kept (Figures close latency late margin) last = figures-kept close latency late last
   answer-kept (Unbounded n) last = refl
 
-  pub tested-kept : testedBeside test (converted to b) views os k ≡ testedBeside test b views os k
+  pub tested-kept : testedBeside δ test (converted to b) views os k ≡ testedBeside δ test b views os k
   unfolding testedBeside
-  tested-kept = ap₂ (λ n (w : Windows). byNumber Refused n (byBound test (converted to b) views os k (w .answer) (w .last))) early-kept (bound-kept to b views)
-      ∙ ap (byNumber Refused (earlyOf b k)) (answer-kept (boundOf b views .answer) (boundOf b views .last))
+  tested-kept = ap₂ (λ n (w : Windows). byNumber Refused n (byBound δ test (converted to b) views os k (w .answer) (w .last))) early-kept (bound-kept to b views)
+      ∙ ap (byNumber Refused (earlyOf b k)) (answer-kept (boundOf δ b views .answer) (boundOf δ b views .last))

@@ -11,6 +11,7 @@ pub mod Capacities
 pub mod Misses
 pub mod Runs
 pub mod Sieve
+pub mod Former
 pub mod Regroupings
 pub mod Others
 pub mod Saves

@@ -17,14 +17,16 @@ use Rattle.table.specs.Fault.{outside}
 use Rattle.table.specs.code.Good.{GoodRow}
 use Rattle.table.specs.declared.Row.{Row}
 use Rattle.table.proofs.Firsts.{none-or, or-left, or-right}
-use Rattle.arrivals.specs.Arrivals.{η}
+use Rattle.arrivals.specs.Arrivals.{δ, η}
 use Rattle.table.specs.Record.{distances}
 use Rattle.segments.specs.View.{View}
 use Rattle.windows.specs.Demand as demand
 use Rattle.windows.specs.Latency.{windowsOf, boundOf}
 use Rattle.windows.specs.declared.Windows.{Windows}
 use Rattle.windows.specs.declared.Answer.the-variants.{Refused as Unbounded}
-use Rattle.windows.proofs.Growth.{Paced, Growing, demand-growing}
+use Rattle.arrivals.proofs.Distances.{δ-good}
+use Rattle.windows.proofs.Comparing.{Paced}
+use Rattle.windows.proofs.Growth.{Growing, demand-growing}
 use Rattle.windows.proofs.Besides.{others-good, others-paced}
 use Rattle.packing.proofs.Most.{most-greatest, most-is}
 use Rattle.packing.proofs.Laws.{most-same}
@@ -97,11 +99,11 @@ module _ (b : Row) (l : List Row) (good : GoodRow b) (rows : All GoodRow l) (pac
   os = marked b l
 
   abbrev answer : Answer
-  answer = testedBeside test b vs os k
+  answer = testedBeside δ test b vs os k
 
   -- the full analysis
   abbrev windows : Windows
-  windows = windowsOf (full b l) (distances b) (b .deadline)
+  windows = windowsOf (full b l) (δ (distances b)) (b .deadline)
 
   inside : 1 ≤ k → k ≤ maxRun → outside 1 maxRun k ≡ false
   inside x y = rw (le-ltb k 1 x, le-ltb maxRun k y)
@@ -112,20 +114,20 @@ module _ (b : Row) (l : List Row) (good : GoodRow b) (rows : All GoodRow l) (pac
 
   early-refused : (n : ℕ) → earlyOf b k ≡ suc n → answer ≡ Refused (suc n)
   unfolding testedBeside byNumber
-  early-refused n e = ap (λ x. byNumber Refused x (byBound test b vs os k (boundOf b vs .answer) (boundOf b vs .last))) e
+  early-refused n e = ap (λ x. byNumber Refused x (byBound δ test b vs os k (boundOf δ b vs .answer) (boundOf δ b vs .last))) e
 
   -- the windows refuse, or their figures decide
-  by-windows : MayAsk b l k → (w : Windows) → windows ≡ w → answer ≡ byBound test b vs os k (w .answer) (w .last)
+  by-windows : MayAsk b l k → (w : Windows) → windows ≡ w → answer ≡ byBound δ test b vs os k (w .answer) (w .last)
   unfolding testedBeside boundOf byNumber
   by-windows a w e =
-      ap (λ x. byNumber Refused x (byBound test b vs os k (boundOf b vs .answer) (boundOf b vs .last))) (asked-early a)
-      ∙ ap (λ (x : Windows). byBound test b vs os k (x .answer) (x .last)) (ap (λ d. windowsOf d (distances b) (b .deadline)) (equation-is b l) ∙ e)
+      ap (λ x. byNumber Refused x (byBound δ test b vs os k (boundOf δ b vs .answer) (boundOf δ b vs .last))) (asked-early a)
+      ∙ ap (λ (x : Windows). byBound δ test b vs os k (x .answer) (x .last)) (ap (λ d. windowsOf d (δ (distances b)) (b .deadline)) (equation-is b l) ∙ e)
 
   refused-by : MayAsk b l k → (n : ℕ) → windows .answer ≡ Unbounded n → answer ≡ Refused n
-  refused-by a n e = by-windows a _ refl ∙ ap (λ x. byBound test b vs os k x (windows .last)) e
+  refused-by a n e = by-windows a _ refl ∙ ap (λ x. byBound δ test b vs os k x (windows .last)) e
 
   module _ (f : Figured b l k) where
-    by-figures : answer ≡ byFigures test b vs os k (f .close) (f .latency) (f .late) (lastOf b l f)
+    by-figures : answer ≡ byFigures δ test b vs os k (f .close) (f .latency) (f .late) (lastOf b l f)
     by-figures = by-windows (f .asked) _ (closes-last (full b l) (distances b) (b .deadline) (f .close) (f .latency) (f .late) (f .margin) (f .figures))
 
     bad-false : (Bad (f .close) 0 → ⊥) → badOf test b vs os (f .close) 0 ≡ false
@@ -136,22 +138,22 @@ module _ (b : Row) (l : List Row) (good : GoodRow b) (rows : All GoodRow l) (pac
         go false e = refl
 
     -- whatever is the most uses is the number that is answered with
-    most-same-uses : (uses : ℕ) → Most b l Bad f uses → mostUses (badOf test b vs os (f .close)) (λ i. getD (roomOf b os k (f .latency)) i 0) ≡ uses
+    most-same-uses : (uses : ℕ) → Most b l Bad f uses → mostUses (badOf test b vs os (f .close)) (λ i. getD (roomOf δ b os k (f .latency)) i 0) ≡ uses
     most-same-uses uses m =
-        most-same (badOf test b vs os (f .close)) (m .bad) (λ i. getD (roomOf b os k (f .latency)) i 0) (capacityOf b l k (f .latency))
+        most-same (badOf test b vs os (f .close)) (m .bad) (λ i. getD (roomOf δ b os k (f .latency)) i 0) (capacityOf b l k (f .latency))
         (λ x s h. same-test _ _ (exactly f x) (m .is x)) (λ i h. room-at b l k (f .latency) i)
         ∙ most-is (m .bad) (capacityOf b l k (f .latency)) (m .most)
 
-    figure-is : (uses : ℕ) → Most b l Bad f uses → packingFigure test b vs os k (f .close) (f .latency) (f .late) ≡ f .late * uses
+    figure-is : (uses : ℕ) → Most b l Bad f uses → packingFigure δ test b vs os k (f .close) (f .latency) (f .late) ≡ f .late * uses
     unfolding packingFigure
     figure-is uses m = ap (λ u. f .late * u) (most-same-uses uses m)
 
     -- nothing is refused
-    by-count : 1 ≤ f .late → AtMostSix b l → Once b l f → Capped b l f → answer ≡ Misses (missedOf test b vs os k (f .close) (f .latency) (f .late))
+    by-count : 1 ≤ f .late → AtMostSix b l → Once b l f → Capped b l f → answer ≡ Misses (missedOf δ test b vs os k (f .close) (f .latency) (f .late))
     by-count h few once room =
         by-figures
-        ∙ answers.counts test b vs os k (f .close) (f .latency) (f .late) (lastOf b l f) (λ e. omega (arith, e, h)) few
-        (within-none 1 (λ o. η (o .list) (lastOf b l f)) os once) (within-none maxCapacity (λ c. c) (roomOf b os k (f .latency)) (capped-all b l k (f .latency) maxCapacity room))
+        ∙ answers.counts δ test b vs os k (f .close) (f .latency) (f .late) (lastOf b l f) (λ e. omega (arith, e, h)) few
+        (within-none 1 (λ o. η (o .list) (lastOf b l f)) os once) (within-none maxCapacity (λ c. c) (roomOf δ b os k (f .latency)) (capped-all b l k (f .latency) maxCapacity room))
 
   -- an answer that the words allow is the answer given
   says-answer : {a : Answer} → Says b l Bad k a → answer ≡ a
@@ -161,19 +163,19 @@ module _ (b : Row) (l : List Row) (good : GoodRow b) (rows : All GoodRow l) (pac
   says-answer (Says.unknown x y t g f) = early-refused 14 (answers.early-unknown b k (inside x y) t (unknown-yes b g f))
   says-answer (Says.window a n) = refused-by a 16 (no-window (full b l) (distances b) (b .deadline) n)
   says-answer (Says.close a o) = refused-by a 17 (no-close (full b l) (distances b) (b .deadline) o)
-  says-answer (Says.none f e) = by-figures f ∙ answers.none-late test b vs os k (f .close) (f .latency) (f .late) (lastOf b l f) e
+  says-answer (Says.none f e) = by-figures f ∙ answers.none-late δ test b vs os k (f .close) (f .latency) (f .late) (lastOf b l f) e
   says-answer (Says.many f h n) =
       by-figures f
-      ∙ answers.too-many test b vs os k (f .close) (f .latency) (f .late) (lastOf b l f) (λ e. omega (arith, e, h))
+      ∙ answers.too-many δ test b vs os k (f .close) (f .latency) (f .late) (lastOf b l f) (λ e. omega (arith, e, h))
       (⊎-elim (λ x. x) (λ x. absurd (n x)) (lt-or-le maxOverloads (length (pieces b l))))
   says-answer (Says.again f h few n) =
       by-figures f
-      ∙ answers.starts-again test b vs os k (f .close) (f .latency) (f .late) (lastOf b l f) (λ e. omega (arith, e, h)) few
+      ∙ answers.starts-again δ test b vs os k (f .close) (f .latency) (f .late) (lastOf b l f) (λ e. omega (arith, e, h)) few
       (not-within 1 (λ o. η (o .list) (lastOf b l f)) os n)
   says-answer (Says.above f h few once n) =
       by-figures f
-      ∙ answers.too-roomy test b vs os k (f .close) (f .latency) (f .late) (lastOf b l f) (λ e. omega (arith, e, h)) few
-      (within-none 1 (λ o. η (o .list) (lastOf b l f)) os once) (not-within maxCapacity (λ c. c) (roomOf b os k (f .latency)) (λ a. n (all-capped b l k (f .latency) maxCapacity a)))
+      ∙ answers.too-roomy δ test b vs os k (f .close) (f .latency) (f .late) (lastOf b l f) (λ e. omega (arith, e, h)) few
+      (within-none 1 (λ o. η (o .list) (lastOf b l f)) os once) (not-within maxCapacity (λ c. c) (roomOf δ b os k (f .latency)) (λ a. n (all-capped b l k (f .latency) maxCapacity a)))
   says-answer (Says.always f h few once room x) =
       by-count f h few once room ∙ ap Misses (answers.missed-all test b vs os k (f .close) (f .latency) (f .late) (exactly f 0 .1 x))
   says-answer (Says.packed f uses h few once room fine m) =
@@ -198,14 +200,14 @@ module _ (b : Row) (l : List Row) (good : GoodRow b) (rows : All GoodRow l) (pac
     always-says once room true e = is (Says.always f h few once room (exactly f 0 .0 e))
     always-says once room false e = packed-says once room (λ x. true-not-false (exactly f 0 .1 x) e)
 
-    roomy-says : Once b l f → (t : Bool) → some (ltb maxCapacity) (roomOf b os k (f .latency)) ≡ t → Says b l Bad k answer
-    roomy-says once true e = is (Says.above f h few once (λ a. some-not maxCapacity (λ c. c) (roomOf b os k (f .latency)) e (capped-all b l k (f .latency) maxCapacity a)))
+    roomy-says : Once b l f → (t : Bool) → some (ltb maxCapacity) (roomOf δ b os k (f .latency)) ≡ t → Says b l Bad k answer
+    roomy-says once true e = is (Says.above f h few once (λ a. some-not maxCapacity (λ c. c) (roomOf δ b os k (f .latency)) e (capped-all b l k (f .latency) maxCapacity a)))
     roomy-says once false e =
-        always-says once (all-capped b l k (f .latency) maxCapacity (none-within maxCapacity (λ c. c) (roomOf b os k (f .latency)) e)) (badOf test b vs os (f .close) 0) refl
+        always-says once (all-capped b l k (f .latency) maxCapacity (none-within maxCapacity (λ c. c) (roomOf δ b os k (f .latency)) e)) (badOf test b vs os (f .close) 0) refl
 
     again-says : (t : Bool) → some (starts (lastOf b l f)) os ≡ t → Says b l Bad k answer
     again-says true e = is (Says.again f h few (some-not 1 (λ o. η (o .list) (lastOf b l f)) os e))
-    again-says false e = roomy-says (none-within 1 (λ o. η (o .list) (lastOf b l f)) os e) (some (ltb maxCapacity) (roomOf b os k (f .latency))) refl
+    again-says false e = roomy-says (none-within 1 (λ o. η (o .list) (lastOf b l f)) os e) (some (ltb maxCapacity) (roomOf δ b os k (f .latency))) refl
 
   late-says : Figured b l k → Says b l Bad k answer
   late-says f = ⊎-elim
@@ -217,7 +219,7 @@ module _ (b : Row) (l : List Row) (good : GoodRow b) (rows : All GoodRow l) (pac
   asked-says a = ⊎-elim
       (λ n. is (Says.window a n))
       (⊎-elim (λ o. is (Says.close a o)) (λ c. late-says (record { asked = a; close = c .0; latency = c .1; late = c .2; margin = c .3; figures = c .4 })))
-      (three (full b l) (distances b) (b .deadline) (subst Growing (equation-is b l) (demand-growing b vs good paced)) (good .list))
+      (three (full b l) (distances b) (b .deadline) (subst Growing (equation-is b l) (demand-growing δ-good b vs good paced)) (good .list))
 
   answer-says : Says b l Bad k answer
   answer-says = ⊎-elim
@@ -241,22 +243,22 @@ module _ (b : Row) (l : List Row) (good : GoodRow b) (rows : All GoodRow l) (pac
 tested-mean : {s : List ℕ} {id : ℕ} → Has s id → (k : ℕ) (test : Test) (Bad : ℕ → ℕ → Type 0)
     → (GoodRow (chainOf s id) → All GoodRow (othersOf s id) → Paced (viewed (chainOf s id) (othersOf s id)) → (f : Figured (chainOf s id) (othersOf s id) k) (m : ℕ)
     → Exactly (badOf test (chainOf s id) (viewed (chainOf s id) (othersOf s id)) (marked (chainOf s id) (othersOf s id)) (f .close) m ≡ true) (Bad (f .close) m))
-    → (a : Answer) → Exactly (testedOf test s id k ≡ a) (Says (chainOf s id) (othersOf s id) Bad k a)
+    → (a : Answer) → Exactly (testedOf δ test s id k ≡ a) (Says (chainOf s id) (othersOf s id) Bad k a)
 unfolding demand.viewsOf
 tested-mean {s} {id} h k test Bad means a =
     let t = table-good (h .table) in
     let b = t .row (chainNumber s id) (h .there) in
     let r = others-good (tableOf s) t (chainNumber s id) in
     let p = others-paced (tableOf s) t (chainNumber s id) in (
-      λ e. subst (Says (chainOf s id) (othersOf s id) Bad k) (sym (tested-are h test k) ∙ e) (answer-says (chainOf s id) (othersOf s id) b r p k test Bad (means b r p)),
-      λ x. tested-are h test k ∙ says-answer (chainOf s id) (othersOf s id) b r p k test Bad (means b r p) x,
+      λ e. subst (Says (chainOf s id) (othersOf s id) Bad k) (sym (tested-are h δ test k) ∙ e) (answer-says (chainOf s id) (othersOf s id) b r p k test Bad (means b r p)),
+      λ x. tested-are h δ test k ∙ says-answer (chainOf s id) (othersOf s id) b r p k test Bad (means b r p) x,
     )
 
 -- demand 2: the answer of the miss query for a chain of an accepted table, and of the sieve
 pub misses-mean : {s : List ℕ} {id : ℕ} → Has s id → (k : ℕ) (a : Answer) → Exactly (missesOf s id k ≡ a) (SaysMissed (chainOf s id) (othersOf s id) k a)
 misses-mean {s} {id} h k a = tested-mean h k byWindows (IsBad (chainOf s id) (othersOf s id)) (λ b r p f. bad-means (chainOf s id) (othersOf s id) b r p (f .figures)) a
 
-pub sieve-means : {s : List ℕ} {id : ℕ} → Has s id → (k : ℕ) (a : Answer) → Exactly (testedOf bySieve s id k ≡ a) (SaysAtMost (chainOf s id) (othersOf s id) k a)
+pub sieve-means : {s : List ℕ} {id : ℕ} → Has s id → (k : ℕ) (a : Answer) → Exactly (testedOf δ bySieve s id k ≡ a) (SaysAtMost (chainOf s id) (othersOf s id) k a)
 sieve-means {s} {id} h k a = tested-mean h k bySieve (IsCalled (chainOf s id) (othersOf s id)) (λ b r p f. called-means (chainOf s id) (othersOf s id) (f .close)) a
 
 -- both at once

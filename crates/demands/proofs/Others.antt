@@ -11,6 +11,7 @@ use Rattle.search.specs.Lists.{sumOf, Paired, some, keep}
 use Rattle.search.proofs.Pairing.{paired-keep, paired-weaker, paired-cons, paired-map, paired-order, paired-length, paired-single}
 use Rattle.table.specs.Find.{rows}
 use Rattle.table.specs.declared.Row.{Row}
+use Rattle.arrivals.specs.Arrivals.{δ}
 use Rattle.segments.specs.Tasks.{Task, tasksOf, costOf, floorOf, tailOf, below, before}
 use Rattle.segments.specs.Segments.{cutSegments, cutSegmentsOf}
 use Rattle.segments.specs.View.{viewOf}
@@ -53,14 +54,14 @@ module _ {s r : List ℕ} {id : ℕ} (one : Has s id) (two : Has r id) (row : ch
   rows-unmoved : Unmoved s r id
   rows-unmoved = record {
     latency =
-        latency-is one
+        latency-is one δ
         ∙ ap (λ (w : Windows). w .answer) (alike-bound (paired-map alike (λ a. viewOf a b) (λ a. viewOf a b) (λ a c h. h)) b)
-        ∙ ap (λ x. boundOf x (map (λ a. viewOf a x) (othersOf r id)) .answer) row
-        ∙ sym (latency-is two);
+        ∙ ap (λ x. boundOf δ x (map (λ a. viewOf a x) (othersOf r id)) .answer) row
+        ∙ sym (latency-is two δ);
     misses = λ k.
-        tested-are one byWindows k ∙ alike-misses b alike k
+        tested-are one δ byWindows k ∙ alike-misses b alike k
         ∙ ap (λ x. missesBeside x (map (λ a. viewOf a x) (othersOf r id)) (overloads x (othersOf r id)) k) row
-        ∙ sym (tested-are two byWindows k);
+        ∙ sym (tested-are two δ byWindows k);
   }
 
 -- the latency answers are equal, and the miss answers are equal for every k, refusals included
@@ -142,7 +143,7 @@ module _ {s r : List ℕ} (id : ℕ) (one : IsTable s) (two : IsTable r) (pairs 
   pub paired-unmoved : Unmoved s r id
   paired-unmoved = ⊎-elim
       (λ p. ⊎-elim
-      (λ q. record { latency = latency-absent one id p ∙ sym (latency-absent two id q); misses = λ k. tested-absent one id p byWindows k ∙ sym (tested-absent two id q byWindows k) })
+      (λ q. record { latency = latency-absent one id p δ ∙ sym (latency-absent two id q δ); misses = λ k. tested-absent one id p δ byWindows k ∙ sym (tested-absent two id q δ byWindows k) })
       (λ q. absurd (omega (arith, paired-length owns, ap length (none-bears one id p), ap length (one-bears two id q))))
       (absent-or-there two id))
       (λ p. ⊎-elim

@@ -15,6 +15,7 @@ use Rattle.table.specs.declared.Row.{Row}
 use Rattle.table.specs.declared.Verdict.{Verdict}
 use Rattle.table.specs.declared.Verdict.the-variants.{Accepted, Refused as Faulty}
 use Rattle.table.proofs.Finds.{find-le}
+use Rattle.arrivals.specs.Arrivals.{δ}
 use Rattle.segments.specs.View.{View}
 use Rattle.windows.specs.Demand.{viewsOf, others}
 use Rattle.windows.proofs.Besides.{others-good}
@@ -46,11 +47,11 @@ module _ (s : List ℕ) (id : ℕ) where
   absent = eqb chain (tableOf s .count)
 
   -- never more than the run
-  pub answer-within : (test : Test) (k : ℕ) → Within k (testedOf test s id k)
+  pub answer-within : (test : Test) (k : ℕ) → Within k (testedOf δ test s id k)
   unfolding testedOf testedIn testedAt _when_else_ absent
   answer-within test k = by (readTable s .verdict) absent
     where
-      by : (v : Verdict) (t : Bool) → Within k (byVerdict Refused v (Refused 12 when t else testedAt test (tableOf s) chain k))
+      by : (v : Verdict) (t : Bool) → Within k (byVerdict Refused v (Refused 12 when t else testedAt δ test (tableOf s) chain k))
       by Accepted true = tt
       by Accepted false = beside-within test b views os k
       by (Faulty n place) t = tt

@@ -9,18 +9,17 @@ use lib.Dec.{ltb}
 use lib.ListN.{length}
 use borrow.Author.Tests.{ltb-true, lt-ltb, eq-eqb, ne-eqb, eqb-true}
 use Rattle.search.specs.Lists.{All, every}
-use Rattle.search.proofs.Choice.{when-yes, when-no, when-cases}
+use Rattle.search.proofs.Choice.{when-yes, when-no}
 use Rattle.table.specs.code.Good.{GoodRow}
 use Rattle.table.specs.declared.Row.{Row}
 use Rattle.arrivals.specs.Arrivals.{δ}
 use Rattle.table.specs.Record.{distances}
-use Rattle.segments.specs.View.{View}
 use Rattle.windows.specs.Demand.{demandOf, typical}
 use Rattle.windows.specs.Window.{Solution, windowOf}
 use Rattle.windows.specs.Latency.{longer}
 use Rattle.windows.specs.Sieve.{due}
 use Rattle.windows.specs.declared.Window.the-variants.{At}
-use Rattle.windows.proofs.Growth.{Paced}
+use Rattle.windows.proofs.Comparing.{Paced, typical-paced}
 use Rattle.windows.proofs.Least.{window-only, window-at}
 use Rattle.packing.specs.Packing.{bit}
 use Rattle.packing.proofs.Bits.{bit-suc}
@@ -118,11 +117,6 @@ pub combination-allowed : (ps : List Piece) (m : ℕ) → Combination ps m → a
 unfolding allowed
 combination-allowed ps m c = ap₂ _&&_ (lt-ltb _ _ (c .below)) (together-all ps m (λ i j h k x y. one-agree (pieceOf ps i) (pieceOf ps j) (c .one i j h k x y)))
 
-pub typical-paced : (vs : List View) → Paced vs → Paced (typical vs)
-unfolding typical
-typical-paced [] h = tt
-typical-paced (v ∷ vs) h = when-cases Paced _ (λ e. (h .0, typical-paced vs (h .1))) (λ e. typical-paced vs (h .1))
-
 -- where the figures close at K, each combination has its windows up to K, and bad is what it says
 module _ (b : Row) (l : List Row) (good : GoodRow b) (rows : All GoodRow l) (paced : Paced (viewed b l)) {deadline close latency late : ℕ} {margin : _}
     (c : Closes (full b l) (distances b) deadline close latency late margin) where
@@ -149,7 +143,7 @@ module _ (b : Row) (l : List Row) (good : GoodRow b) (rows : All GoodRow l) (pac
   bad-is : (m : ℕ) → IsBad b l close m → badOf byWindows b (viewed b l) (marked b l) close m ≡ true
   unfolding badOf bad over
   bad-is m h =
-      let d : ℕ → ℕ → ℕ = demandOf b (typical (viewed b l)) in
+      let d : ℕ → ℕ → ℕ = demandOf δ b (typical (viewed b l)) in
       let w : windowOf (withCost d (cost m) (h .q)) ≡ At (h .t) = ap (λ e. windowOf (withCost e (cost m) (h .q))) (unmarked-is b l) ∙ sym (window-only _ (At (h .t)) (h .window)) in
       ap₂ _&&_ (combination-allowed (pieces b l) m (h .combination))
       (some-one (λ q. longer (windowOf (withCost d (cost m) q)) (δ (distances b) q + b .deadline)) close (h .q) (h .low) (h .high)
@@ -161,23 +155,23 @@ module _ (b : Row) (l : List Row) (good : GoodRow b) (rows : All GoodRow l) (pac
 -- and called bad is what it says
 module _ (b : Row) (l : List Row) (close : ℕ) where
   abbrev demand : ℕ → ℕ → ℕ → ℕ
-  demand m = withCost (demandOf b (typical (viewed b l))) (setCost (members (pieces b l) m))
+  demand m = withCost (demandOf δ b (typical (viewed b l))) (setCost (members (pieces b l) m))
 
   abbrev passes : ℕ → ℕ → Bool
-  passes m q = ltb (due (distances b) (b .deadline) q) (demand m q (due (distances b) (b .deadline) q))
+  passes m q = ltb (due (δ (distances b)) (b .deadline) q) (demand m q (due (δ (distances b)) (b .deadline) q))
 
   pub called-means : (m : ℕ) → Exactly (badOf bySieve b (viewed b l) (marked b l) close m ≡ true) (IsCalled b l close m)
   unfolding badOf bad called
   called-means m = (is-called, called-is)
     where
-      same : demandOf b (typical (viewed b l)) ≡ without b l
+      same : demandOf δ b (typical (viewed b l)) ≡ without b l
       same = unmarked-is b l
 
       is-called : badOf bySieve b (viewed b l) (marked b l) close m ≡ true → IsCalled b l close m
       is-called e =
           let a = and-left (allowed (pieces b l) m) _ e in
           let f = some-found (passes m) close (and-right (allowed (pieces b l) m) _ e) in
-          let t = due (distances b) (b .deadline) (f .0) in
+          let t = due (δ (distances b)) (b .deadline) (f .0) in
           record {
             combination = allowed-combination (pieces b l) m a;
             q = f .0;
@@ -188,6 +182,6 @@ module _ (b : Row) (l : List Row) (close : ℕ) where
 
       called-is : IsCalled b l close m → badOf bySieve b (viewed b l) (marked b l) close m ≡ true
       called-is h =
-          let t = due (distances b) (b .deadline) (h .q) in
+          let t = due (δ (distances b)) (b .deadline) (h .q) in
           ap₂ _&&_ (combination-allowed (pieces b l) m (h .combination))
           (some-one (passes m) close (h .q) (h .low) (h .within) (lt-ltb _ _ (subst (λ d. t < withCost d (setCost (members (pieces b l) m)) (h .q) t) (sym same) (h .above))))

@@ -17,11 +17,12 @@ use Rattle.table.specs.declared.Row.{Row}
 use Rattle.table.specs.declared.Verdict.{Verdict}
 use Rattle.table.specs.declared.Verdict.the-variants.{Accepted, Refused as Faulty}
 use Rattle.table.proofs.Finds.{find-le}
+use Rattle.arrivals.specs.Arrivals.{δ}
 use Rattle.windows.specs.Demand.{viewsOf, others}
 use Rattle.windows.specs.Window.{windowOf}
 use Rattle.windows.specs.declared.Window.the-variants.{At}
 use Rattle.windows.proofs.Besides.{others-good, others-paced}
-use Rattle.windows.proofs.Growth.{Paced}
+use Rattle.windows.proofs.Comparing.{Paced, typical-paced}
 use Rattle.windows.proofs.Least.{window-only}
 use Rattle.misses.specs.Bad.{Test, byWindows}
 use Rattle.misses.specs.Misses.{testedAt, testedIn, testedOf, missesOf}
@@ -39,7 +40,7 @@ use Rattle.demands.specs.Sieve.{SecondWays}
 use Rattle.demands.proofs.Chains.{table-good}
 use Rattle.demands.proofs.Entries.{every-entry}
 use Rattle.demands.proofs.Equation.{viewed, equation-is}
-use Rattle.demands.proofs.Sets.{typical-paced, bad-means, called-means}
+use Rattle.demands.proofs.Sets.{bad-means, called-means}
 use Rattle.demands.proofs.Misses.{sieve-means}
 use Rattle.demands.proofs.Runs.{answer-within}
 use Rattle.demands.proofs.Twice.{twice-misses, twice-at-most}
@@ -86,12 +87,12 @@ module _ (s : List ℕ) (bytes : Bytes s) (id k : ℕ) where
   absent : Bool
   absent = eqb chain (tableOf s .count)
 
-  bounded : Bounded (missesOf s id k) (testedOf bySieve s id k)
+  bounded : Bounded (missesOf s id k) (testedOf δ bySieve s id k)
   unfolding testedOf testedIn testedAt viewsOf _when_else_ absent
   bounded = by (readTable s .verdict) refl absent refl
     where
       either : Test → Bool → Answer
-      either test t = Refused 12 when t else testedAt test (tableOf s) chain k
+      either test t = Refused 12 when t else testedAt δ test (tableOf s) chain k
 
       by : (v : Verdict) → readTable s .verdict ≡ v → (t : Bool) → absent ≡ t → Bounded (byVerdict Refused v (either byWindows t)) (byVerdict Refused v (either bySieve t))
       by Accepted e true f = Bounded.alike
@@ -102,7 +103,7 @@ module _ (s : List ℕ) (bytes : Bytes s) (id k : ℕ) where
           (typical-paced (viewsOf (tableOf s) chain) (others-paced (tableOf s) good chain)) k
       by (Faulty n place) e t f = Bounded.alike
 
-  sieved : (a : Answer) → atMostOf s id k ≡ asSieved a → testedOf bySieve s id k ≡ a
+  sieved : (a : Answer) → atMostOf s id k ≡ asSieved a → testedOf δ bySieve s id k ≡ a
   unfolding atMostOf
   sieved a e = same-answer _ a e
 
@@ -117,7 +118,7 @@ module _ (s : List ℕ) (bytes : Bytes s) (id k : ℕ) where
   alike : (n : ℕ) → Exactly (missesOf s id k ≡ Refused n) (atMostOf s id k ≡ NoBound n)
   unfolding atMostOf
   alike n = (
-    λ e. ap asSieved (to (subst (λ x. Bounded x (testedOf bySieve s id k)) e bounded)),
+    λ e. ap asSieved (to (subst (λ x. Bounded x (testedOf δ bySieve s id k)) e bounded)),
     λ f. from (subst (Bounded (missesOf s id k)) (sieved (Refused n) f) bounded),
   )
     where
@@ -129,7 +130,7 @@ module _ (s : List ℕ) (bytes : Bytes s) (id k : ℕ) where
 
 within-run : (s : List ℕ) (id k : ℕ) {n : ℕ} → atMostOf s id k ≡ AtMost n → n ≤ k
 unfolding atMostOf
-within-run s id k {n} e = let f : testedOf bySieve s id k ≡ Misses n = same-answer _ (Misses n) e in subst (Within k) f (answer-within s id bySieve k)
+within-run s id k {n} e = let f : testedOf δ bySieve s id k ≡ Misses n = same-answer _ (Misses n) e in subst (Within k) f (answer-within s id bySieve k)
 
 pub second-ways : SecondWays
 second-ways = record {

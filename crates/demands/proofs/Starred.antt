@@ -12,7 +12,7 @@ use Rattle.table.specs.Read.{tableOf}
 use Rattle.table.specs.declared.Row.{Row}
 use Rattle.table.specs.declared.Table.{Table}
 use Rattle.table.specs.declared.Reading.{Reading}
-use Rattle.arrivals.specs.Arrivals.{asListed, δ, η}
+use Rattle.arrivals.specs.Arrivals.{δ, η, countBy, sumsTo, greatest}
 use Rattle.segments.specs.Tasks.{tasksFrom, lowest}
 use Rattle.segments.specs.Segments.{stretches, onward, around, nonempty, segments, segmentsOf, cuts, parts}
 use Rattle.segments.specs.Actives.{startOf, numbered, inOrder, actives, activesOf}
@@ -59,30 +59,31 @@ unfolding sampled tasksFrom lowest stretches cuts parts startOf numbered inOrder
 active = refl
 
 -- list 10, 15
-delta-eta : (δ example 4 ≡ 25) × (δ example 5 ≡ 30)
-    × (η example 1 ≡ 1) × (η example 10 ≡ 1) × (η example 11 ≡ 2) × (η example 25 ≡ 3) × (η example 26 ≡ 4)
-unfolding δ asListed η last _when_else_
-delta-eta = (refl, refl, refl, refl, refl, refl, refl)
+delta-eta : (δ example 3 ≡ 20) × (δ example 4 ≡ 30) × (δ example 5 ≡ 40)
+    × (η example 1 ≡ 1) × (η example 10 ≡ 1) × (η example 11 ≡ 2) × (η example 25 ≡ 3) × (η example 26 ≡ 3)
+unfolding δ sumsTo greatest countBy last _when_else_
+delta-eta = (refl, refl, refl, refl, refl, refl, refl, refl)
 
 pub starred : Starred
 unfolding demand.viewsOf
 starred =
     record {
-      delta-4 = delta-eta .0;
-      delta-5 = delta-eta .1;
-      eta-1 = delta-eta .2;
-      eta-10 = delta-eta .3;
-      eta-11 = delta-eta .4;
-      eta-25 = delta-eta .5;
-      eta-26 = delta-eta .6;
+      delta-3 = delta-eta .0;
+      delta-4 = delta-eta .1;
+      delta-5 = delta-eta .2;
+      eta-1 = delta-eta .3;
+      eta-10 = delta-eta .4;
+      eta-11 = delta-eta .5;
+      eta-25 = delta-eta .6;
+      eta-26 = delta-eta .7;
       edge-figures = windows.edge-latency;
       edge-refused = windows.past-latency;
       window-1 = of-chain1 (λ b l. windowOf (words.full b l 1) ≡ At 64) (ap (λ d. windowOf (d 1)) (sym (equation-is _ _)) ∙ windows.sample-window);
       segment-3 = of-chain3 (λ a b. segmentsOf a b ≡ (task 2 7 10 ∷ task 0 8 6 ∷ []) ∷ []) segment;
       active-3 = of-chain3 (λ a b. map (λ x. x .cost) (activesOf a b) ≡ 6 ∷ 10 ∷ []) active;
       bad-sets = of-chain1 (λ b l. (n : ℕ) → badOf byWindows b (viewed b l) (words.marked b l) 1 n ≡ (eqb n 3 || eqb n 5 || eqb n 6 || eqb n 7)) misses.bad-sets;
-      room-10 = of-chain1 (λ b l. roomOf b (words.marked b l) 10 64 ≡ 2 ∷ 2 ∷ 2 ∷ []) misses.room-10;
-      room-11 = of-chain1 (λ b l. roomOf b (words.marked b l) 11 64 ≡ 3 ∷ 3 ∷ 3 ∷ []) misses.room-11;
+      room-10 = of-chain1 (λ b l. roomOf δ b (words.marked b l) 10 64 ≡ 2 ∷ 2 ∷ 2 ∷ []) misses.room-10;
+      room-11 = of-chain1 (λ b l. roomOf δ b (words.marked b l) 11 64 ≡ 3 ∷ 3 ∷ 3 ∷ []) misses.room-11;
       misses-10 = misses.misses-10;
       misses-11 = misses.misses-11;
       misses-1 = misses.misses-1;

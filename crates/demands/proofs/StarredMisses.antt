@@ -20,7 +20,7 @@ use Rattle.table.specs.Find.{rowOf, findOf}
 use Rattle.table.specs.declared.Row.{Row}
 use Rattle.table.specs.declared.Table.{Table}
 use Rattle.table.specs.declared.Reading.{Reading}
-use Rattle.arrivals.specs.Arrivals.{asListed, δ, η, largest, unknown}
+use Rattle.arrivals.specs.Arrivals.{δ, η, largest, unknown, sumsTo, greatest}
 use Rattle.table.specs.code.Good.{GoodDistances}
 use Rattle.arrivals.proofs.Counts.{η-some, η-counts, η-stops}
 use Rattle.segments.specs.Tasks.{tasksFrom, lowest, before}
@@ -87,7 +87,7 @@ pieces : piecesOf os ≡ piece 0 1 6 ∷ piece 0 1 10 ∷ piece 1 0 12 ∷ []
 unfolding sampled overloads piecesFrom actives inOrder numbered startOf parts stretches cuts tasksFrom lowest sumOf _when_else_
 pieces = refl
 
-room : (t : ℕ) → capacitiesOf t os ≡ (η (1000 ∷ []) t + 1) ∷ (η (1000 ∷ []) t + 1) ∷ (η (1000 ∷ []) t + 1) ∷ []
+room : (t : ℕ) → capacitiesOf δ t os ≡ (η (1000 ∷ []) t + 1) ∷ (η (1000 ∷ []) t + 1) ∷ (η (1000 ∷ []) t + 1) ∷ []
 unfolding sampled overloads capacitiesOf actives inOrder numbered startOf parts stretches cuts tasksFrom lowest sumOf _when_else_
 room t = refl
 
@@ -113,7 +113,7 @@ good-1000 = single 1000 (lit≤ tt) (lit≤ tt)
 
 -- the demand without overload: chain 1 takes 20, chain 2 takes 5 for each activation
 abbrev demand : ℕ → ℕ → ℕ
-demand = demandOf b (typical views)
+demand = demandOf δ b (typical views)
 
 demand-is : (t : ℕ) → demand 1 t ≡ 20 + 5 * η (50 ∷ []) t
 unfolding sampled demandOf viewsOf typical termOf countedPart viewOf tasksFrom lowest some before stretches onward around nonempty cuts parts cutSegments sumOf mostOf _when_else_
@@ -134,8 +134,8 @@ window-within d limit s low high far solves = go (windowOf d) refl
     go (At t) e = le-ltb limit t (omega (arith, window-at d t e .least s low solves))
     go Nothing e = absurd (window-none d e s low (omega arith) solves)
 
-over-is : (c : ℕ) → over demand (distances b) 40 1 c ≡ leb 16 c
-unfolding over upTo some sampled δ asListed
+over-is : (c : ℕ) → over demand (δ (distances b)) 40 1 c ≡ leb 16 c
+unfolding over upTo some sampled δ sumsTo greatest
 over-is c = ⊎-elim
     (λ h. ap (λ x. x || false) (window-within (withCost demand c 1) 40 (25 + c) (omega arith) (omega arith) (lit≤ tt) (solves h)) ∙ sym (lt-leb 16 c h))
     (λ h. ap (λ x. x || false) (window-past (withCost demand c 1) 40 (λ s l. omega (arith, demand-is s, η-some good-50 s l))) ∙ sym (le-leb 16 c h))
@@ -174,24 +174,24 @@ bad-sets m = bad-is m ∙ ⊎-elim (low-sets m)
     (λ h. ap (λ x. x && leb 16 (setCost (members (piecesOf os) m))) (allowed-past (piecesOf os) m (rw pieces h)) ∙ sym (no-more m h)) (lt-or-le m 8)
 
 -- the full analysis: K is 1, and the only activation is late by 24
-bounds : boundOf b views ≡ record { answer = Figures 1 64 1 (negsuc 23); last = 64 }
-unfolding sampled δ asListed _when_else_
+bounds : boundOf δ b views ≡ record { answer = Figures 1 64 1 (negsuc 23); last = 64 }
+unfolding sampled δ sumsTo greatest _when_else_
 bounds = bound-closes sample-reads 1 0 finds (lit≤ tt) 64 sample-window (lit≤ tt)
 
 -- a chain of the list 1000 starts once in up to 1000, and twice in up to 2000
 once : (t : ℕ) → 1 ≤ t → t ≤ 1000 → η (1000 ∷ []) t ≡ 1
-unfolding δ asListed
+unfolding δ sumsTo greatest
 once t low high = omega (arith, η-some good-1000 t low, η-stops good-1000 1 t high)
 
 twice : (t : ℕ) → 1000 < t → t ≤ 2000 → η (1000 ∷ []) t ≡ 2
-unfolding δ asListed
+unfolding δ sumsTo greatest
 twice t low high = omega (arith, η-counts good-1000 1 t low, η-stops good-1000 2 t high)
 
 starts-once : some (starts 64) os ≡ false
 unfolding sampled overloads some _when_else_
 starts-once = rw (once 64 (lit≤ tt) (lit≤ tt))
 
-rooms : (k n : ℕ) → η (1000 ∷ []) (largest b k + 64) + 1 ≡ n → roomOf b os k 64 ≡ n ∷ n ∷ n ∷ []
+rooms : (k n : ℕ) → η (1000 ∷ []) (largest b k + 64) + 1 ≡ n → roomOf δ b os k 64 ≡ n ∷ n ∷ n ∷ []
 unfolding roomOf
 rooms k n e = room (largest b k + 64) ∙ ap (λ x. x ∷ x ∷ x ∷ []) e
 
@@ -201,17 +201,17 @@ no-excess n h = rw (le-ltb 40 n h)
 
 -- a query that nothing refuses, where K is 1 and its activation is late
 module _ {s : List ℕ} {t : Table} (a : Reads s t) (id chain : ℕ) (found : findOf t id ≡ chain) (there : chain < t .count) (test : Test) (k x : ℕ) (margin : ℤ)
-    (early : earlyOf (rowOf t chain) k ≡ 0) (bound : boundOf (rowOf t chain) (viewsOf t chain) ≡ record { answer = Figures 1 x 1 margin; last = x }) where
+    (early : earlyOf (rowOf t chain) k ≡ 0) (bound : boundOf δ (rowOf t chain) (viewsOf t chain) ≡ record { answer = Figures 1 x 1 margin; last = x }) where
   pub tested-counts : length (piecesOf (overloadsOf t chain)) ≤ 6 → some (starts x) (overloadsOf t chain) ≡ false
-      → some (ltb 40) (roomOf (rowOf t chain) (overloadsOf t chain) k x) ≡ false
-      → testedOf test s id k ≡ Misses (missedOf test (rowOf t chain) (viewsOf t chain) (overloadsOf t chain) k 1 x 1)
+      → some (ltb 40) (roomOf δ (rowOf t chain) (overloadsOf t chain) k x) ≡ false
+      → testedOf δ test s id k ≡ Misses (missedOf δ test (rowOf t chain) (viewsOf t chain) (overloadsOf t chain) k 1 x 1)
   tested-counts few once within =
-      tested-accepted test s id k (ap (λ (r : Reading). r .verdict) (a .reads))
-      ∙ ap (λ (r : Reading). testedIn test (r .table) id k) (a .reads)
-      ∙ chain-found test t id k (λ e. omega (arith, e, found, there))
-      ∙ ap (λ j. testedAt test t j k) found
+      tested-accepted δ test s id k (ap (λ (r : Reading). r .verdict) (a .reads))
+      ∙ ap (λ (r : Reading). testedIn δ test (r .table) id k) (a .reads)
+      ∙ chain-found δ test t id k (λ e. omega (arith, e, found, there))
+      ∙ ap (λ j. testedAt δ test t j k) found
       ∙ sym (at-bound test t chain k early _ (sym bound))
-      ∙ counts test (rowOf t chain) (viewsOf t chain) (overloadsOf t chain) k 1 x 1 x (λ e. omega (arith, e)) few once within
+      ∙ counts δ test (rowOf t chain) (viewsOf t chain) (overloadsOf t chain) k 1 x 1 x (λ e. omega (arith, e)) few once within
 
 answers : (k n uses : ℕ) → earlyOf b k ≡ 0 → η (1000 ∷ []) (largest b k + 64) + 1 ≡ n → n ≤ 40 → mostUses anyTwo (each n) ≡ uses → missesOf sample 1 k ≡ Misses (min k uses)
 unfolding sampled packingFigure
@@ -219,18 +219,18 @@ answers k n uses early e few most =
     let r = rooms k n e in
     tested-counts sample-reads 1 0 finds (lit≤ tt) byWindows k 64 (negsuc 23) early bounds (rw pieces (lit≤ tt)) starts-once (ap (some (ltb 40)) r ∙ no-excess n few)
     ∙ ap Misses (missed-packed byWindows b views os k 1 64 1 (bad-sets 0))
-    ∙ ap (λ u. Misses (min k (1 * u))) (most-same (badOf byWindows b views os 1) anyTwo (λ i. getD (roomOf b os k 64) i 0) (each n) (λ m l h. bad-sets m) (λ i h. ap (λ l. getD l i 0) r) ∙ most)
+    ∙ ap (λ u. Misses (min k (1 * u))) (most-same (badOf byWindows b views os 1) anyTwo (λ i. getD (roomOf δ b os k 64) i 0) (each n) (λ m l h. bad-sets m) (λ i h. ap (λ l. getD l i 0) r) ∙ most)
     ∙ ap Misses (omega arith)
 
 room-of : (k n : ℕ) → η (1000 ∷ []) (largest b k + 64) ≡ n → η (1000 ∷ []) (largest b k + 64) + 1 ≡ n + 1
 room-of k n e = ap (λ x. x + 1) e
 
 -- capacities and answers for k = 10, 11 and 1
-pub room-10 : roomOf b os 10 64 ≡ 2 ∷ 2 ∷ 2 ∷ []
+pub room-10 : roomOf δ b os 10 64 ≡ 2 ∷ 2 ∷ 2 ∷ []
 unfolding sampled largest _when_else_
 room-10 = rooms 10 2 (room-of 10 1 (once 964 (lit≤ tt) (lit≤ tt)))
 
-pub room-11 : roomOf b os 11 64 ≡ 3 ∷ 3 ∷ 3 ∷ []
+pub room-11 : roomOf δ b os 11 64 ≡ 3 ∷ 3 ∷ 3 ∷ []
 unfolding sampled largest _when_else_
 room-11 = rooms 11 3 (room-of 11 2 (twice 1064 (lit≤ tt) (lit≤ tt)))
 

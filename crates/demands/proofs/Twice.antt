@@ -15,7 +15,7 @@ use Rattle.table.specs.Record.{distances}
 use Rattle.table.specs.Find.{rowOf, findOf}
 use Rattle.table.specs.declared.Row.{Row}
 use Rattle.table.specs.code.Good.{GoodDistances}
-use Rattle.arrivals.specs.Arrivals.{asListed, δ, η, largest, unknown}
+use Rattle.arrivals.specs.Arrivals.{δ, η, largest, unknown, countBy, sumsTo, greatest}
 use Rattle.arrivals.proofs.Counts.{η-some, η-stops}
 use Rattle.segments.specs.Tasks.{tasksFrom, lowest, before}
 use Rattle.segments.specs.Segments.{stretches, onward, around, nonempty, cuts, parts, cutSegments}
@@ -61,27 +61,27 @@ finds = refl
 
 -- the full analysis: the climb stops at 9 and at 14, its window, which is past the deadline
 demands : (demandAt twiceTable 0 1 1 ≡ 9) × (demandAt twiceTable 0 1 9 ≡ 14) × (demandAt twiceTable 0 1 14 ≡ 14)
-unfolding twiceTable demandOf viewsOf termOf countedPart viewOf tasksFrom lowest some before stretches onward around nonempty cuts parts cutSegments sumOf mostOf η δ asListed last _when_else_
+unfolding twiceTable demandOf viewsOf termOf countedPart viewOf tasksFrom lowest some before stretches onward around nonempty cuts parts cutSegments sumOf mostOf countBy δ sumsTo greatest last _when_else_
 demands = (refl, refl, refl)
 
 window : windowOf (demandAt twiceTable 0 1) ≡ At 14
 unfolding twiceTable
 window = two-turns twice-reads 1 0 finds (lit≤ tt) 9 14 (demands .0) (demands .1) (demands .2) (lit≤ tt)
 
-bounds : boundOf b views ≡ record { answer = Figures 1 14 1 (negsuc 3); last = 14 }
-unfolding twiceTable δ asListed _when_else_
+bounds : boundOf δ b views ≡ record { answer = Figures 1 14 1 (negsuc 3); last = 14 }
+unfolding twiceTable δ sumsTo greatest _when_else_
 bounds = bound-closes twice-reads 1 0 finds (lit≤ tt) 14 window (lit≤ tt)
 
 -- one active segment, of cost 1 and capacity 2
-segments : (length (piecesOf os) ≡ 1) × (setCost (piecesOf os) ≡ 1) × (some (starts 14) os ≡ false) × (roomOf b os 1 14 ≡ 2 ∷ [])
-unfolding twiceTable overloads piecesFrom capacitiesOf roomOf largest some actives inOrder numbered startOf parts stretches cuts tasksFrom lowest sumOf η δ asListed last _when_else_
+segments : (length (piecesOf os) ≡ 1) × (setCost (piecesOf os) ≡ 1) × (some (starts 14) os ≡ false) × (roomOf δ b os 1 14 ≡ 2 ∷ [])
+unfolding twiceTable overloads piecesFrom capacitiesOf roomOf largest some actives inOrder numbered startOf parts stretches cuts tasksFrom lowest sumOf countBy δ sumsTo greatest last _when_else_
 segments = (refl, refl, refl, refl)
 
 early : earlyOf b 1 ≡ 0
 unfolding twiceTable unknown earlyOf _when_else_
 early = refl
 
-counts : (test : Test) → testedOf test twice 1 1 ≡ Misses (missedOf test b views os 1 1 14 1)
+counts : (test : Test) → testedOf δ test twice 1 1 ≡ Misses (missedOf δ test b views os 1 1 14 1)
 unfolding twiceTable some
 counts test =
     tested-counts twice-reads 1 0 finds (lit≤ tt) test 1 14 (negsuc 3) early bounds (omega (arith, segments .0)) (segments .2)
@@ -89,15 +89,15 @@ counts test =
 
 -- without overload: chain 1 takes 2, chain 2 takes 5 for each activation
 abbrev demand : ℕ → ℕ → ℕ
-demand = demandOf b (typical views)
+demand = demandOf δ b (typical views)
 
 demand-is : (t : ℕ) → demand 1 t ≡ 2 + 5 * η (8 ∷ []) t
 unfolding twiceTable demandOf viewsOf typical termOf countedPart viewOf tasksFrom lowest some before stretches onward around nonempty cuts parts cutSegments sumOf mostOf _when_else_
 demand-is t = omega (arith, mul-zero (η (100 ∷ []) t - 1))
 
 -- a set that costs up to 1 ends within 8, before chain 2 comes again
-fine : (c : ℕ) → c ≤ 1 → over demand (distances b) 10 1 c ≡ false
-unfolding over upTo some twiceTable δ asListed
+fine : (c : ℕ) → c ≤ 1 → over demand (δ (distances b)) 10 1 c ≡ false
+unfolding over upTo some twiceTable δ sumsTo greatest
 fine c h = ap (λ x. x || false) (window-within (withCost demand c 1) 10 (7 + c) (omega arith) (omega arith) (lit≤ tt) solves)
   where
     good : GoodDistances (8 ∷ [])
@@ -126,11 +126,11 @@ unfolding packingFigure
 twice-misses =
     counts byWindows
     ∙ ap Misses (missed-packed byWindows b views os 1 1 14 1 (none-bad 0))
-    ∙ ap (λ u. Misses (min 1 (1 * u))) (most-same (badOf byWindows b views os 1) (λ m. false) (λ i. getD (roomOf b os 1 14) i 0) (λ i. getD (2 ∷ []) i 0) (λ m s h. none-bad m) (λ i h. ap (λ l. getD l i 0) (segments .3)) ∙ nothing-packed)
+    ∙ ap (λ u. Misses (min 1 (1 * u))) (most-same (badOf byWindows b views os 1) (λ m. false) (λ i. getD (roomOf δ b os 1 14) i 0) (λ i. getD (2 ∷ []) i 0) (λ m s h. none-bad m) (λ i h. ap (λ l. getD l i 0) (segments .3)) ∙ nothing-packed)
 
 -- when chain 1 is due, chain 2 has come twice: 12 is above 10
 called-none : badOf bySieve b views os 1 0 ≡ true
-unfolding badOf called upTo twiceTable demandOf viewsOf typical termOf countedPart viewOf tasksFrom lowest some before stretches onward around nonempty cuts parts cutSegments sumOf mostOf η δ asListed last _when_else_
+unfolding badOf called upTo twiceTable demandOf viewsOf typical termOf countedPart viewOf tasksFrom lowest some before stretches onward around nonempty cuts parts cutSegments sumOf mostOf countBy δ sumsTo greatest last _when_else_
 called-none = bad-none _ (piecesOf os)
 
 pub twice-at-most : atMostOf twice 1 1 ≡ AtMost 1

@@ -27,10 +27,11 @@ use Rattle.demands.specs.Merges.{MergeOfCopies}
 use Rattle.demands.specs.Rows.{RowsAndTables}
 use Rattle.demands.specs.Converts.{Conversions}
 use Rattle.demands.specs.Salvages.{Salvaging}
-use Rattle.demands.specs.Arrivals.{ArrivalRules, LargestRules}
+use Rattle.demands.specs.Arrivals.{ArrivalRules, FormerRules, LargestRules}
 use Rattle.demands.specs.Figures.{Exactly}
 use Rattle.demands.specs.Misses.{MeansOf, SaysMissed, LastColumn, Right}
 use Rattle.demands.specs.Sieve.{SecondWays}
+use Rattle.demands.specs.Former.{NoneGrows}
 use Rattle.demands.specs.Others.{Besides, SameBesides, Unmoved, Reordered, SameWork, RegroupedTasks, DeadlineOrLargest, SameCall}
 use Rattle.demands.specs.Starred.{sample}
 use Rattle.demands.specs.Witness.{altered}
@@ -56,9 +57,11 @@ pub record Demand1 : Type 0 where
 
 -- every figure equals the published chain analysis as document 01 fixes it
 pub record Demand2 : Type 0 where
-  -- arrivals are those of its rule for δ, and η(t) is the greatest n with δ(n) < t
+  -- arrivals are those of distances that add up, and η(t) is the greatest n with δ(n) < t (02, request 9)
   pub arrivals : {s : List ℕ} {id : ℕ} → Has s id → ArrivalRules (distances (chainOf s id))
-  -- the largest distance is (k − 1) times the gap, or the largest listed, which go on by the same rule (02, request 7)
+  -- the former δ, which stays for largest distances and for what is promised beside it
+  pub former-rule : {s : List ℕ} {id : ℕ} → Has s id → FormerRules (distances (chainOf s id))
+  -- the largest distance is (k − 1) times the gap, or the largest listed, which go on by that rule (02, request 7)
   pub largest : {s : List ℕ} {id : ℕ} → Has s id → LargestRules (chainOf s id)
   -- each window is the least solution of its demand equation up to the horizon, refused exactly when there is none; K, latency, late and
   -- margin are those of these windows
@@ -74,6 +77,8 @@ pub record Demand2 : Type 0 where
   pub longer-run : (s : List ℕ) → Bytes s → (id : ℕ) {k long n r : ℕ} → k ≤ long → missesOf s id k ≡ Misses n → missesOf s id long ≡ Misses r → n ≤ r
   -- and it comes out the same by the plain engine; the sieve is never below it, refused alike (02, request 6)
   pub second-ways : SecondWays
+  -- distances add up: no figure is greater than by the rule that 01 had before, and none is lost (02, request 9)
+  pub none-grows : NoneGrows
   -- the report prints a figure in decimal: the digits read back as the figure, and the first is no 0 but in 0 itself
   pub printed : (n : ℕ) → (valueFrom 0 (decimal n) ≡ n) × (0 < n → 48 < getD (decimal n) 0 0)
   -- an active segment is handed back as the records of its tasks

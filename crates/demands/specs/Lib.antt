@@ -7,6 +7,7 @@ pub mod Equation
 pub mod Figures
 pub mod Misses
 pub mod Sieve
+pub mod Former
 pub mod Others
 pub mod Merges
 pub mod Rows

@@ -1,4 +1,5 @@
--- The starred cases of document 01 in a single list, over the stored tables' bytes; k = 1 as document 02, request 3, has it.
+-- The starred cases of document 01 in a single list, over the stored tables' bytes; k = 1 and the list 10, 15 as document 02, requests 3 and
+-- 9, have them.
 use Prim.Native.Nat.{ℕ}
 use mathlib.Core.Path.{_≡_}
 use mathlib.Core.Bool.{_||_}
@@ -77,14 +78,15 @@ abbrev pub task : ℕ → ℕ → ℕ → Task
 task place priority cost = record { place = place; priority = priority; cost = cost }
 
 pub record Starred : Type 0 where
-  -- list 10, 15: δ(4) = 25, δ(5) = 30; η(1) = 1, η(10) = 1, η(11) = 2, η(25) = 3, η(26) = 4
-  pub delta-4 : δ example 4 ≡ 25
-  pub delta-5 : δ example 5 ≡ 30
+  -- list 10, 15, as document 02, request 9, has it: δ(3) = 20, δ(4) = 30, δ(5) = 40; η(1) = 1, η(10) = 1, η(11) = 2, η(25) = 3, η(26) = 3
+  pub delta-3 : δ example 3 ≡ 20
+  pub delta-4 : δ example 4 ≡ 30
+  pub delta-5 : δ example 5 ≡ 40
   pub eta-1 : η example 1 ≡ 1
   pub eta-10 : η example 10 ≡ 1
   pub eta-11 : η example 11 ≡ 2
   pub eta-25 : η example 25 ≡ 3
-  pub eta-26 : η example 26 ≡ 4
+  pub eta-26 : η example 26 ≡ 3
   -- at the edge: K 1, latency 10,000,000, late 0, margin 0; one tick more gives 16
   pub edge-figures : latencyOf edge 1 ≡ Figures 1 10000000 0 (pos 0)
   pub edge-refused : latencyOf past 1 ≡ Refused 16
@@ -96,8 +98,8 @@ pub record Starred : Type 0 where
   -- the bad sets are both of these, which have the bits 0 and 1, either with chain 4, which has the bit 2, and all three
   pub bad-sets : (m : ℕ) → badOf byWindows chain1 (map (λ a. viewOf a chain1) others1) (marked chain1 others1) 1 m ≡ (eqb m 3 || eqb m 5 || eqb m 6 || eqb m 7)
   -- k = 10: capacities 2, answer 3; k = 11: capacities 3, answer 4; k = 1: 1 (02, request 3)
-  pub room-10 : roomOf chain1 (marked chain1 others1) 10 64 ≡ 2 ∷ 2 ∷ 2 ∷ []
-  pub room-11 : roomOf chain1 (marked chain1 others1) 11 64 ≡ 3 ∷ 3 ∷ 3 ∷ []
+  pub room-10 : roomOf δ chain1 (marked chain1 others1) 10 64 ≡ 2 ∷ 2 ∷ 2 ∷ []
+  pub room-11 : roomOf δ chain1 (marked chain1 others1) 11 64 ≡ 3 ∷ 3 ∷ 3 ∷ []
   pub misses-10 : missesOf sample 1 10 ≡ Misses 3
   pub misses-11 : missesOf sample 1 11 ≡ Misses 4
   pub misses-1 : missesOf sample 1 1 ≡ Misses 1

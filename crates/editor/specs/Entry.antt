@@ -137,4 +137,4 @@ pub record ReportEntry (table text answer textAfter answerAfter : List ℕ) (r :
 
 -- the version of the entries, which a caller holds against its header's; a change of an answer, a refusal or an entry raises it
 abbrev pub version : ℕ
-version = 8
+version = 9

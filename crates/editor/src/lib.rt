@@ -26,7 +26,7 @@ ghost use Rattle.editor.specs.code.Single.{singleOf};
 const ANSWERED: u32 = 0;
 
 // Raised by each change that a caller can see, in the header and in specs/ too.
-const VERSION: u32 = 8;
+const VERSION: u32 = 9;
 
 // A signed number in two's complement.
 fn unsigned(x: i32) -> u32

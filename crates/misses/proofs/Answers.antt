@@ -20,17 +20,17 @@ use Rattle.windows.specs.Demand.{viewsOf}
 use Rattle.windows.specs.Latency.{boundAt}
 use Rattle.windows.specs.declared.Windows.{Windows}
 use Rattle.search.specs.Lists.{some}
-use Rattle.arrivals.specs.Arrivals.{unknown}
+use Rattle.arrivals.specs.Arrivals.{Rule, δ, unknown}
 use Rattle.misses.specs.Overloads.{Overload, piecesOf}
 use Rattle.misses.specs.Bad.{Test}
 use Rattle.misses.specs.Misses.{earlyOf, badOf, roomOf, packingFigure, missedOf, byFigures, byBound, testedBeside, overloadsOf, testedAt, testedIn, testedOf}
 use Rattle.misses.specs.declared.Answer.{Answer}
 use Rattle.misses.specs.declared.Answer.the-variants.{Misses, Refused}
-use Rattle.misses.proofs.Starts.{starts}
+use Rattle.misses.proofs.Starts.{startsBy}
 
-module _ (test : Test) (b : Row) (views : List View) (os : List Overload) (k close latency late last : ℕ) where
+module _ (rule : Rule) (test : Test) (b : Row) (views : List View) (os : List Overload) (k close latency late last : ℕ) where
   abbrev answer : Answer
-  answer = byFigures test b views os k close latency late last
+  answer = byFigures rule test b views os k close latency late last
 
   pub none-late : late ≡ 0 → answer ≡ Misses 0
   unfolding byFigures
@@ -42,27 +42,27 @@ module _ (test : Test) (b : Row) (views : List View) (os : List Overload) (k clo
     too-many h = when-no _ _ (ne-eqb late 0 some-late) ∙ when-yes _ _ (lt-ltb maxOverloads _ h)
 
     module _ (few : length (piecesOf os) ≤ maxOverloads) where
-      pub starts-again : some (starts last) os ≡ true → answer ≡ Refused 19
+      pub starts-again : some (startsBy rule last) os ≡ true → answer ≡ Refused 19
       unfolding byFigures
       starts-again e = when-no _ _ (ne-eqb late 0 some-late) ∙ when-no _ _ (le-ltb maxOverloads _ few) ∙ when-yes _ _ e
 
-      module _ (once : some (starts last) os ≡ false) where
-        pub too-roomy : some (ltb maxCapacity) (roomOf b os k latency) ≡ true → answer ≡ Refused 21
+      module _ (once : some (startsBy rule last) os ≡ false) where
+        pub too-roomy : some (ltb maxCapacity) (roomOf rule b os k latency) ≡ true → answer ≡ Refused 21
         unfolding byFigures
         too-roomy e = when-no _ _ (ne-eqb late 0 some-late) ∙ when-no _ _ (le-ltb maxOverloads _ few) ∙ when-no _ _ once ∙ when-yes _ _ e
 
-        module _ (within : some (ltb maxCapacity) (roomOf b os k latency) ≡ false) where
-          pub counts : answer ≡ Misses (missedOf test b views os k close latency late)
+        module _ (within : some (ltb maxCapacity) (roomOf rule b os k latency) ≡ false) where
+          pub counts : answer ≡ Misses (missedOf rule test b views os k close latency late)
           unfolding byFigures
           counts = when-no _ _ (ne-eqb late 0 some-late) ∙ when-no _ _ (le-ltb maxOverloads _ few) ∙ when-no _ _ once ∙ when-no _ _ within
 
 -- how many are missed
 module _ (test : Test) (b : Row) (views : List View) (os : List Overload) (k close latency late : ℕ) where
-  pub missed-all : badOf test b views os close 0 ≡ true → missedOf test b views os k close latency late ≡ k
+  pub missed-all : badOf test b views os close 0 ≡ true → missedOf δ test b views os k close latency late ≡ k
   unfolding missedOf
   missed-all e = when-yes _ _ e
 
-  pub missed-packed : badOf test b views os close 0 ≡ false → missedOf test b views os k close latency late ≡ min k (packingFigure test b views os k close latency late)
+  pub missed-packed : badOf test b views os close 0 ≡ false → missedOf δ test b views os k close latency late ≡ min k (packingFigure δ test b views os k close latency late)
   unfolding missedOf
   missed-packed e = when-no _ _ e
 
@@ -93,32 +93,32 @@ number-refuses zero rest h = absurd (h refl)
 number-refuses (suc n) rest h = refl
 
 module _ (test : Test) (t : Table) (chain k : ℕ) where
-  pub at-early : (earlyOf (rowOf t chain) k ≡ 0 → ⊥) → testedAt test t chain k ≡ Refused (earlyOf (rowOf t chain) k)
+  pub at-early : (earlyOf (rowOf t chain) k ≡ 0 → ⊥) → testedAt δ test t chain k ≡ Refused (earlyOf (rowOf t chain) k)
   unfolding testedAt testedBeside byNumber
   at-early h = number-refuses (earlyOf (rowOf t chain) k) _ h
 
   -- what windows w would give
   abbrev given : Windows → Answer
-  given w = byBound test (rowOf t chain) (viewsOf t chain) (overloadsOf t chain) k (w .answer) (w .last)
+  given w = byBound δ test (rowOf t chain) (viewsOf t chain) (overloadsOf t chain) k (w .answer) (w .last)
 
-  pub at-bound : earlyOf (rowOf t chain) k ≡ 0 → (w : Windows) → w ≡ boundAt t chain → given w ≡ testedAt test t chain k
+  pub at-bound : earlyOf (rowOf t chain) k ≡ 0 → (w : Windows) → w ≡ boundAt δ t chain → given w ≡ testedAt δ test t chain k
   unfolding testedAt testedBeside byNumber
-  at-bound e w f = ap given f ∙ sym (ap (λ n. byNumber Refused n (given (boundAt t chain))) e)
+  at-bound e w f = ap given f ∙ sym (ap (λ n. byNumber Refused n (given (boundAt δ t chain))) e)
 
-module _ (test : Test) (t : Table) (id k : ℕ) where
-  pub chain-none : findOf t id ≡ t .count → testedIn test t id k ≡ Refused 12
+module _ (rule : Rule) (test : Test) (t : Table) (id k : ℕ) where
+  pub chain-none : findOf t id ≡ t .count → testedIn rule test t id k ≡ Refused 12
   unfolding testedIn
   chain-none e = when-yes _ _ (eq-eqb _ _ e)
 
-  pub chain-found : (findOf t id ≡ t .count → ⊥) → testedIn test t id k ≡ testedAt test t (findOf t id) k
+  pub chain-found : (findOf t id ≡ t .count → ⊥) → testedIn rule test t id k ≡ testedAt rule test t (findOf t id) k
   unfolding testedIn
   chain-found h = when-no _ _ (ne-eqb _ _ h)
 
-module _ (test : Test) (s : List ℕ) (id k : ℕ) where
-  pub tested-refused : {n place : ℕ} → readTable s .verdict ≡ Faulty n place → testedOf test s id k ≡ Refused n
+module _ (rule : Rule) (test : Test) (s : List ℕ) (id k : ℕ) where
+  pub tested-refused : {n place : ℕ} → readTable s .verdict ≡ Faulty n place → testedOf rule test s id k ≡ Refused n
   unfolding testedOf
-  tested-refused e = ap (λ v. byVerdict Refused v (testedIn test (readTable s .table) id k)) e
+  tested-refused e = ap (λ v. byVerdict Refused v (testedIn rule test (readTable s .table) id k)) e
 
-  pub tested-accepted : readTable s .verdict ≡ Accepted → testedOf test s id k ≡ testedIn test (readTable s .table) id k
+  pub tested-accepted : readTable s .verdict ≡ Accepted → testedOf rule test s id k ≡ testedIn rule test (readTable s .table) id k
   unfolding testedOf
-  tested-accepted e = ap (λ v. byVerdict Refused v (testedIn test (readTable s .table) id k)) e
+  tested-accepted e = ap (λ v. byVerdict Refused v (testedIn rule test (readTable s .table) id k)) e

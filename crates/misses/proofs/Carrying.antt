@@ -16,6 +16,7 @@ use Rattle.search.specs.Lists.{Paired}
 use Rattle.search.proofs.Choice.{lt-or-le}
 use Rattle.search.proofs.Lists.{perm-sum}
 use Rattle.table.specs.Limits.{maxOverloads}
+use Rattle.arrivals.specs.Arrivals.{δ}
 use Rattle.segments.proofs.Lists.{sum-map, sum-ones}
 use Rattle.packing.specs.Packing.{usable, combinations}
 use Rattle.packing.specs.Most.{mostUses}
@@ -74,11 +75,11 @@ module _ {os ps : List Overload} (r : Paired Same os ps) (t : ℕ) where
   pub same-count : length (piecesOf os) ≡ length (piecesOf ps)
   same-count = sym before-length ∙ perm-length (label .order) ∙ after-length
 
-  rooms-before : map (λ p. p .room) before ≡ capacitiesOf t os
+  rooms-before : map (λ p. p .room) before ≡ capacitiesOf δ t os
   rooms-before = map-map (λ p. p .room) part-names (partsFrom t 0 os) ∙ parts-rooms t 0 os
 
   -- with the same capacities
-  pub same-rooms : List·Permᴰ (capacitiesOf t os) (capacitiesOf t ps)
+  pub same-rooms : List·Permᴰ (capacitiesOf δ t os) (capacitiesOf δ t ps)
   same-rooms = rw (← rooms-before, ← parts-rooms t 0 ps) (Permᴰ·map (λ p. p .room) (label .order))
 
   -- a set that is carried over holds the same active segments under other names
@@ -122,7 +123,7 @@ module _ {os ps : List Overload} (r : Paired Same os ps) (t : ℕ) where
     unfolding bad
     bad-below m u = carried-below m (and-left (allowed (piecesOf os) m) _ (usable-bad (bad over (piecesOf os)) m u))
 
-    places : (i : ℕ) → i < maxOverloads → Renumbered (bad over (piecesOf os)) (λ j. getD (capacitiesOf t os) j 0) (λ j. getD (capacitiesOf t ps) j 0) (carries .turn) i
+    places : (i : ℕ) → i < maxOverloads → Renumbered (bad over (piecesOf os)) (λ j. getD (capacitiesOf δ t os) j 0) (λ j. getD (capacitiesOf δ t ps) j 0) (carries .turn) i
     places i h = ⊎-elim
         (λ l. inl (
           carries .place i,
@@ -135,7 +136,7 @@ module _ {os ps : List Overload} (r : Paired Same os ps) (t : ℕ) where
         ap (λ n. n % 2) (div-eq-of-lt (omega (arith, bad-below m u)))))
         (lt-or-le i (length after))
 
-    renumbers : Renumbers (bad over (piecesOf os)) (bad over (piecesOf ps)) (λ i. getD (capacitiesOf t os) i 0) (λ i. getD (capacitiesOf t ps) i 0)
+    renumbers : Renumbers (bad over (piecesOf os)) (bad over (piecesOf ps)) (λ i. getD (capacitiesOf δ t os) i 0) (λ i. getD (capacitiesOf δ t ps) i 0)
     renumbers = record {
       turn = carries .turn;
       inside = λ m l u. below-all (length (piecesOf ps)) (carries .turn m) few (bad-below m u);
@@ -146,5 +147,5 @@ module _ {os ps : List Overload} (r : Paired Same os ps) (t : ℕ) where
 
 -- paired off there and back: the same greatest packing
 pub same-most : {os ps : List Overload} → Paired Same os ps → Paired Same ps os → (t : ℕ) (over : ℕ → Bool) → length (piecesOf os) ≤ maxOverloads
-    → mostUses (bad over (piecesOf os)) (λ i. getD (capacitiesOf t os) i 0) ≡ mostUses (bad over (piecesOf ps)) (λ i. getD (capacitiesOf t ps) i 0)
+    → mostUses (bad over (piecesOf os)) (λ i. getD (capacitiesOf δ t os) i 0) ≡ mostUses (bad over (piecesOf ps)) (λ i. getD (capacitiesOf δ t ps) i 0)
 same-most r q t over few = renumbered-same (renumbers r t over (omega (arith, same-count r t))) (renumbers q t over few)

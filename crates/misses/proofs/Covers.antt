@@ -18,6 +18,7 @@ use Rattle.search.proofs.Lists.{sum-append, perm-sum}
 use Rattle.table.specs.code.Good.{GoodRow}
 use Rattle.table.specs.declared.Row.{Row}
 use Rattle.table.specs.code.Good.{GoodDistances}
+use Rattle.arrivals.specs.Arrivals.{δ}
 use Rattle.arrivals.proofs.Counts.{η-some}
 use Rattle.segments.specs.Actives.{Active, activesOf}
 use Rattle.segments.specs.View.{View, viewOf, sum, allOf, dearestOf}
@@ -163,7 +164,7 @@ module _ (a b : Row) where
       all-pieces (i ∷ l) = (refl, all-pieces l)
 
 -- and the dearest segment no more than the chain's term
-pub dearest-term : (v : View) → GoodDistances (v .list) → (t : ℕ) → 1 ≤ t → dearestOf v ≤ termOf v t
+pub dearest-term : (v : View) → GoodDistances (v .list) → (t : ℕ) → 1 ≤ t → dearestOf v ≤ termOf δ v t
 unfolding termOf
 dearest-term v good t h =
     when-cases (λ n. dearestOf v ≤ n) (v .free)
@@ -173,7 +174,7 @@ dearest-term v good t h =
 -- a combination beside the chains without overload mark
 module _ (b : Row) (t : ℕ) (some : 1 ≤ t) where
   abbrev terms : List View → ℕ
-  terms vs = sumOf (λ v. termOf v t) vs
+  terms vs = sumOf (λ v. termOf δ v t) vs
 
   abbrev views : List Row → List View
   views l = map (λ a. viewOf a b) l

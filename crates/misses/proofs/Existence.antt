@@ -8,12 +8,15 @@ use native.Mathlib.Nat.{le-trans, le-of-eq}
 use Rattle.search.specs.Lists.{All}
 use Rattle.table.specs.code.Good.{GoodRow}
 use Rattle.table.specs.declared.Row.{Row}
+use Rattle.arrivals.specs.Arrivals.{δ}
 use Rattle.segments.specs.View.{View, viewOf}
 use Rattle.windows.specs.Window.{windowOf}
 use Rattle.windows.specs.Demand.{demandOf, typical}
 use Rattle.windows.specs.declared.Window.the-variants.{At}
 use Rattle.windows.proofs.Least.{window-at, window-fits}
-use Rattle.windows.proofs.Growth.{Paced, demand-growing}
+use Rattle.arrivals.proofs.Distances.{δ-good}
+use Rattle.windows.proofs.Comparing.{Paced}
+use Rattle.windows.proofs.Growth.{demand-growing}
 use Rattle.misses.specs.Overloads.{overloads, piecesOf}
 use Rattle.misses.specs.Sets.{members, allowed, setCost}
 use Rattle.misses.specs.Bad.{withCost}
@@ -29,14 +32,14 @@ module _ (b : Row) (l : List Row) (good : GoodRow b) (rows : All GoodRow l) (pac
   abbrev set : ℕ → ℕ
   set m = setCost (members (piecesOf (overloads b l)) m)
 
-  set-fits : (q m t : ℕ) → 1 ≤ t → allowed (piecesOf (overloads b l)) m ≡ true → withCost (demandOf b (typical views)) (set m) q t ≤ demandOf b views q t
+  set-fits : (q m t : ℕ) → 1 ≤ t → allowed (piecesOf (overloads b l)) m ≡ true → withCost (demandOf δ b (typical views)) (set m) q t ≤ demandOf δ b views q t
   unfolding demandOf
   set-fits q m t h e = omega (arith, covered b t h l rows 0 m (allowed-together (piecesOf (overloads b l)) m e))
 
   -- the window of a combination is there where B(q) is, and no longer than it
-  pub combination-window : (q m s : ℕ) → 1 ≤ q → windowOf (demandOf b views q) ≡ At s → allowed (piecesOf (overloads b l)) m ≡ true
-      → (t : ℕ) × (windowOf (withCost (demandOf b (typical views)) (set m) q) ≡ At t) × (t ≤ s)
+  pub combination-window : (q m s : ℕ) → 1 ≤ q → windowOf (demandOf δ b views q) ≡ At s → allowed (piecesOf (overloads b l)) m ≡ true
+      → (t : ℕ) × (windowOf (withCost (demandOf δ b (typical views)) (set m) q) ≡ At t) × (t ≤ s)
   combination-window q m s h e a =
-      let w = window-at (demandOf b views q) s e in
-      window-fits (withCost (demandOf b (typical views)) (set m) q) (cost-growing (demandOf b (typical views)) (demand-growing b (typical views) good paced) (set m) .grows q h)
+      let w = window-at (demandOf δ b views q) s e in
+      window-fits (withCost (demandOf δ b (typical views)) (set m) q) (cost-growing (demandOf δ b (typical views)) (demand-growing δ-good b (typical views) good paced) (set m) .grows q h)
       s (w .low) (w .high) (le-trans (set-fits q m s (w .low) a) (le-of-eq (sym (w .solves))))

@@ -17,7 +17,7 @@ use Rattle.table.specs.Find.{rowOf, rows}
 use Rattle.table.specs.code.Good.{GoodTable}
 use Rattle.table.specs.declared.Row.{Row}
 use Rattle.table.specs.declared.Table.{Table}
-use Rattle.arrivals.specs.Arrivals.{η}
+use Rattle.arrivals.specs.Arrivals.{δ, η}
 use Rattle.table.specs.Record.{distances}
 use Rattle.segments.specs.Actives.{Active, nothing, activesOf}
 use Rattle.segments.specs.code.Held.{arraysOf}
@@ -117,15 +117,15 @@ pieces-more n (x ∷ os) o =
     let e : n + suc (length os) ≡ n + 1 + length os = omega arith in
     rw e (ap (λ l. map (piece n) (x .actives) ++ l) (pieces-more (n + 1) os o) ∙ sym (append-assoc (map (piece n) (x .actives)) (piecesFrom (n + 1) os) _))
 
-capacities-more : (t : ℕ) (os : List Overload) (o : Overload) → capacitiesOf t (os ++ (o ∷ [])) ≡ capacitiesOf t os ++ map (λ i. η (o .list) t + 1) (o .actives)
+capacities-more : (t : ℕ) (os : List Overload) (o : Overload) → capacitiesOf δ t (os ++ (o ∷ [])) ≡ capacitiesOf δ t os ++ map (λ i. η (o .list) t + 1) (o .actives)
 unfolding capacitiesOf
 capacities-more t [] o = append-nil _
 capacities-more t (x ∷ os) o =
     ap (λ l. map (λ i. η (x .list) t + 1) (x .actives) ++ l) (capacities-more t os o)
-    ∙ sym (append-assoc (map (λ i. η (x .list) t + 1) (x .actives)) (capacitiesOf t os) _)
+    ∙ sym (append-assoc (map (λ i. η (x .list) t + 1) (x .actives)) (capacitiesOf δ t os) _)
 
 -- each active segment has a capacity
-pub capacities-length : (t n : ℕ) (os : List Overload) → length (capacitiesOf t os) ≡ length (piecesFrom n os)
+pub capacities-length : (t n : ℕ) (os : List Overload) → length (capacitiesOf δ t os) ≡ length (piecesFrom n os)
 unfolding capacitiesOf piecesFrom
 capacities-length t n [] = refl
 capacities-length t n (o ∷ os) = simp (length-append, length-map) (omega (arith, capacities-length t (n + 1) os))
@@ -145,10 +145,10 @@ adds-chain a b t os found most before p i e f g adds h =
     let z : 0 + n ≡ n = omega arith in
     let ps : piecesOf os ++ taken l n i ≡ piecesOf (os ++ (overload a b ∷ [])) =
     ap (λ r. piecesOf os ++ map (piece n) r) all ∙ ap (λ k. piecesOf os ++ map (piece k) l) (sym z) ∙ sym (pieces-more 0 os (overload a b)) in
-    let cs : capacitiesOf t os ++ map (λ s. η (distances a) t + 1) (take i l) ≡ capacitiesOf t (os ++ (overload a b ∷ [])) =
-    ap (λ r. capacitiesOf t os ++ map (λ s. η (distances a) t + 1) r) all ∙ sym (capacities-more t os (overload a b)) in
-    ap next (adds n (piecesOf os) (capacitiesOf t os) l _ (capacities-length t 0 os) e f g) ∙ ap₂ (λ x y. next (heldAs n x y)) ps cs
-    ∙ ap (λ k. heldAs k (piecesOf (os ++ (overload a b ∷ []))) (capacitiesOf t (os ++ (overload a b ∷ [])))) (sym (length-append os (overload a b ∷ [])))
+    let cs : capacitiesOf δ t os ++ map (λ s. η (distances a) t + 1) (take i l) ≡ capacitiesOf δ t (os ++ (overload a b ∷ [])) =
+    ap (λ r. capacitiesOf δ t os ++ map (λ s. η (distances a) t + 1) r) all ∙ sym (capacities-more t os (overload a b)) in
+    ap next (adds n (piecesOf os) (capacitiesOf δ t os) l _ (capacities-length t 0 os) e f g) ∙ ap₂ (λ x y. next (heldAs n x y)) ps cs
+    ∙ ap (λ k. heldAs k (piecesOf (os ++ (overload a b ∷ []))) (capacitiesOf δ t (os ++ (overload a b ∷ [])))) (sym (length-append os (overload a b ∷ [])))
 
 -- the overload chains of some rows and more
 pub overloads-append : (b : Row) (l r : List Row) → overloads b (l ++ r) ≡ overloads b l ++ overloads b r

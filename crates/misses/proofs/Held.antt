@@ -20,6 +20,7 @@ use Rattle.table.specs.Find.{rowOf, rows}
 use Rattle.table.specs.code.Good.{GoodRow, GoodTable}
 use Rattle.table.specs.declared.Row.{Row}
 use Rattle.table.specs.declared.Table.{Table}
+use Rattle.arrivals.specs.Arrivals.{δ}
 use Rattle.segments.specs.Actives.{Active, activesOf}
 use Rattle.segments.proofs.Bounds.{actives-each, all-max}
 use Rattle.windows.specs.Demand.{others}
@@ -99,7 +100,7 @@ module _ (t : ℕ) (os : List Overload) (p : Pieces) (is : p ≡ gathered t os) 
 
   pub held-size : length (p .capacity) ≡ maxOverloads
   unfolding gathered
-  held-size = ap (λ x. length (x .capacity)) is ∙ six-length (map (min (maxCapacity + 1)) (capacitiesOf t os))
+  held-size = ap (λ x. length (x .capacity)) is ∙ six-length (map (min (maxCapacity + 1)) (capacitiesOf δ t os))
 
   module _ (few : length (piecesOf os) ≤ maxOverloads) where
     pub held-pieces : piecesIn p ≡ piecesOf os
@@ -113,7 +114,7 @@ module _ (t : ℕ) (os : List Overload) (p : Pieces) (is : p ≡ gathered t os) 
 
     -- a capacity above its limit is held as one above it, and others as they are
     abbrev cs : List ℕ
-    cs = capacitiesOf t os
+    cs = capacitiesOf δ t os
 
     cs-few : length cs ≤ maxOverloads
     cs-few = omega (arith, capacities-length t 0 os)

@@ -12,7 +12,7 @@ use Rattle.table.specs.Find.{rowOf, rows}
 use Rattle.table.specs.code.Good.{GoodTable}
 use Rattle.table.specs.declared.Row.{Row}
 use Rattle.table.specs.declared.Table.{Table}
-use Rattle.arrivals.specs.Arrivals.{largest}
+use Rattle.arrivals.specs.Arrivals.{δ, largest}
 use Rattle.segments.specs.View.{View}
 use Rattle.windows.specs.Demand.{viewsOf}
 use Rattle.search.specs.Lists.{some}
@@ -57,7 +57,7 @@ module _ {t : Table} (good : GoodTable t) (chain : ℕ) (there : chain < t .coun
   beside = beside-others t good chain there (asked .typical)
 
   pub judged-late : late ≡ 0 → (test : Test) → Misses 0 ≡ answer test
-  judged-late e test = sym (none-late test b views os k close latency late last e)
+  judged-late e test = sym (none-late δ test b views os k close latency late last e)
 
   module _ (some-late : late ≡ 0 → ⊥) {p : Pieces} (gathers : p ≡ gathered (largest b k + latency) (overloads b (rows t))) where
     is : p ≡ gathered (largest b k + latency) os
@@ -70,7 +70,7 @@ module _ {t : Table} (good : GoodTable t) (chain : ℕ) (there : chain < t .coun
     judged-size = held-size (largest b k + latency) os p is
 
     pub judged-many : maxOverloads < p .count → (test : Test) → Refused 18 ≡ answer test
-    judged-many h test = sym (too-many test b views os k close latency late last some-late (omega (arith, count)))
+    judged-many h test = sym (too-many δ test b views os k close latency late last some-late (omega (arith, count)))
 
     module _ (six : p .count ≤ maxOverloads) {again : Bool} (starting : again ≡ some (starts last) (overloads b (rows t))) where
       few : length (piecesOf os) ≤ maxOverloads
@@ -80,19 +80,19 @@ module _ {t : Table} (good : GoodTable t) (chain : ℕ) (there : chain < t .coun
       twice = starting ∙ ap (some (starts last)) beside
 
       pub judged-again : again ≡ true → (test : Test) → Refused 19 ≡ answer test
-      judged-again e test = sym (starts-again test b views os k close latency late last some-late few (sym twice ∙ e))
+      judged-again e test = sym (starts-again δ test b views os k close latency late last some-late few (sym twice ∙ e))
 
       module _ (once : again ≡ false) {a : Bool} (found : a ≡ some (ltb maxCapacity) (p .capacity)) where
-        above : some (ltb maxCapacity) (roomOf b os k latency) ≡ a
+        above : some (ltb maxCapacity) (roomOf δ b os k latency) ≡ a
         unfolding roomOf
         above = sym (held-above (largest b k + latency) os p is few) ∙ sym found
 
         pub judged-roomy : a ≡ true → (test : Test) → Refused 21 ≡ answer test
-        judged-roomy e test = sym (too-roomy test b views os k close latency late last some-late few (sym twice ∙ once) (above ∙ e))
+        judged-roomy e test = sym (too-roomy δ test b views os k close latency late last some-late few (sym twice ∙ once) (above ∙ e))
 
         module _ (within : a ≡ false) where
           pub judged-admitted : Admitted t chain k f p
           judged-admitted = record { late = omega arith; all = is; few = six; within = sym found ∙ within }
 
           pub judged-missed : (test : Test) → Misses (missedAt test t chain k f) ≡ answer test
-          judged-missed test = sym (counts test b views os k close latency late last some-late few (sym twice ∙ once) (above ∙ within))
+          judged-missed test = sym (counts δ test b views os k close latency late last some-late few (sym twice ∙ once) (above ∙ within))

@@ -12,6 +12,8 @@ pub mod Packs
 pub mod Held
 pub mod Loading
 pub mod Answers
+pub mod Increase
+pub mod Relief
 pub mod Enough
 pub mod Judging
 pub mod Missed

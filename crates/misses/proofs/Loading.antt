@@ -9,6 +9,7 @@ use Rattle.table.specs.code.Good.{GoodTable}
 use Rattle.table.specs.declared.Row.{Row}
 use Rattle.table.specs.declared.Table.{Table}
 use Rattle.table.specs.Record.{distances}
+use Rattle.arrivals.specs.Arrivals.{δ}
 use Rattle.segments.specs.View.{View}
 use Rattle.windows.specs.Demand.{demandOf}
 use Rattle.windows.specs.code.Load.{onceLimit, viewsAt, viewsBetween, Load, Loads}
@@ -21,16 +22,16 @@ use Rattle.misses.specs.code.Settling.{overWith, beyond}
 
 -- what is over, by the load, is over by the demand
 pub loads-over : {b : Row} {vs : List View} {l : Load} → Loads b vs l → (close cost : ℕ)
-    → overWith l close cost ≡ over (demandOf b vs) (distances b) (b .deadline) close cost
+    → overWith l close cost ≡ over (demandOf δ b vs) (δ (distances b)) (b .deadline) close cost
 loads-over a close cost =
-    ap₂ (λ d (r : Row). over d (distances r) (r .deadline) close cost) (fun-ext (λ q. fun-ext (λ t. a .demand q t))) (a .chain)
+    ap₂ (λ d (r : Row). over d (δ (distances r)) (r .deadline) close cost) (fun-ext (λ q. fun-ext (λ t. a .demand q t))) (a .chain)
 
 -- and so what is called bad
 pub loads-called : {b : Row} {vs : List View} {l : Load} → Loads b vs l → (close cost : ℕ)
-    → aboveIn l close cost ≡ called (demandOf b vs) (distances b) (b .deadline) close cost
+    → aboveIn l close cost ≡ called (demandOf δ b vs) (δ (distances b)) (b .deadline) close cost
 unfolding called
 loads-called a close cost =
-    ap₂ (λ d (r : Row). called d (distances r) (r .deadline) close cost) (fun-ext (λ q. fun-ext (λ t. a .demand q t))) (a .chain)
+    ap₂ (λ d (r : Row). called d (δ (distances r)) (r .deadline) close cost) (fun-ext (λ q. fun-ext (λ t. a .demand q t))) (a .chain)
 
 -- and it has room for any set's cost
 pub loads-room : (t : Table) → GoodTable t → (chain : ℕ) → chain < t .count → (l : Load) → Loads (rowOf t chain) (viewsAt Typical t chain) l → l .once + beyond ≤ onceLimit

@@ -82,10 +82,10 @@ module _ {s : List ℕ} {chain k : ℕ} {f : Figures} {p : Pieces} (ready : Read
 
     module _ (fine : costly 0 ≡ false) (costs : List ℕ) (prices : (m : ℕ) → m < combinations → getD costs m 0 ≡ priceOf (piecesIn p) m) where
       most-is : {flag : ℕ → Bool} → ((m : ℕ) → m < combinations → flag m ≡ costly (getD costs m 0))
-          → mostUses flag (capacity (p .capacity)) ≡ mostUses (badOf test b views os close) (λ i. getD (roomOf b os k latency) i 0)
+          → mostUses flag (capacity (p .capacity)) ≡ mostUses (badOf test b views os close) (λ i. getD (roomOf δ b os k latency) i 0)
       unfolding badOf roomOf
       most-is {flag} flags =
-          most-same flag (badOf test b views os close) (capacity (p .capacity)) (λ i. getD (roomOf b os k latency) i 0)
+          most-same flag (badOf test b views os close) (capacity (p .capacity)) (λ i. getD (roomOf δ b os k latency) i 0)
           (λ m s h. flags m h ∙ ap costly (prices m h) ∙ sym (bad-price costly (piecesIn p) fine m)
           ∙ ap₂ (λ f ps. bad f ps m) (fun-ext same) (held-pieces (largest b k + latency) os p (ready .admitted .all) few-pieces))
           (held-room (largest b k + latency) os p (ready .admitted .all) few-pieces (sym (held-above (largest b k + latency) os p (ready .admitted .all) few-pieces) ∙ ready .admitted .within))

@@ -11,7 +11,7 @@ use Rattle.search.specs.Choice.{_when_else_}
 use Rattle.search.specs.Lists.{All, Paired}
 use Rattle.search.proofs.Choice.{when-yes, when-no}
 use Rattle.search.proofs.Lists.{all-map, all-append}
-use Rattle.arrivals.specs.Arrivals.{η}
+use Rattle.arrivals.specs.Arrivals.{δ, η}
 use Rattle.segments.proofs.Order.{labelOf, behind}
 use Rattle.segments.proofs.Renaming.{rename, Renamed}
 use Rattle.misses.specs.Overloads.{Overload, Piece, piecesFrom, capacitiesOf}
@@ -42,7 +42,7 @@ module _ (t : ℕ) where
       map-append (λ p. p .piece) (map (part t n (o .list)) (labelsOf o)) (partsFrom t (n + 1) os)
       ∙ ap₂ _++_ (map-map (λ p. p .piece) (part t n (o .list)) (labelsOf o) ∙ map-map _ labelOf (o .actives)) (parts-pieces (n + 1) os)
 
-  pub parts-rooms : (n : ℕ) (os : List Overload) → map (λ p. p .room) (partsFrom t n os) ≡ capacitiesOf t os
+  pub parts-rooms : (n : ℕ) (os : List Overload) → map (λ p. p .room) (partsFrom t n os) ≡ capacitiesOf δ t os
   unfolding partsFrom capacitiesOf
   parts-rooms n [] = refl
   parts-rooms n (o ∷ os) =

@@ -1,23 +1,24 @@
 -- The sieve and the windows: what is bad is called bad, so that the sieve's figure is never below the miss count, and both are refused alike.
 -- Assumes nothing.
-use Prim.Native.Nat.{ℕ, zero, suc, _≤_, _<_, min}
+use Prim.Native.Nat.{ℕ, zero, suc, _≤_, _<_}
 use mathlib.Core.Path.{_≡_, refl, ap, ap₂, sym, _∙_}
 use mathlib.Core.Bool.{Bool, true, false, _&&_}
 use mathlib.Core.List.{List, map}
 use mathlib.Core.Logic.{⊎-elim}
 use native.Mathlib.Omega.{arith}
-use native.Mathlib.Nat.{mul-le-mul-left, le-refl, eq-or-lt-of-le}
+use native.Mathlib.Nat.{le-refl, eq-or-lt-of-le}
 use borrow.Author.Tests.{lt-ltb, ltb-true}
 use lib.Dec.{ltb, eqb}
 use lib.IntN.{ℤ}
-use lib.ListN.{length, getD}
+use lib.ListN.{length}
 use Rattle.search.specs.Choice.{_when_else_, byNumber}
 use Rattle.search.specs.Lists.{All, some}
-use Rattle.search.proofs.Choice.{lt-or-le, true-not-false}
+use Rattle.search.proofs.Choice.{lt-or-le}
 use Rattle.table.specs.Limits.{maxOverloads, maxCapacity}
 use Rattle.table.specs.Record.{distances}
 use Rattle.table.specs.code.Good.{GoodRow}
 use Rattle.table.specs.declared.Row.{Row}
+use Rattle.arrivals.specs.Arrivals.{δ}
 use Rattle.segments.specs.View.{View, viewOf}
 use Rattle.windows.specs.Window.{windowOf}
 use Rattle.windows.specs.Demand.{demandOf, typical}
@@ -27,14 +28,15 @@ use Rattle.windows.specs.declared.Answer.{Answer as Bound}
 use Rattle.windows.specs.declared.Answer.the-variants.{Figures, Refused as Unbounded}
 use Rattle.windows.specs.declared.Window.the-variants.{At}
 use Rattle.windows.proofs.Least.{Grows, window-at, window-fits}
-use Rattle.windows.proofs.Growth.{Paced, demand-growing}
+use Rattle.arrivals.proofs.Distances.{δ-good}
+use Rattle.windows.proofs.Comparing.{Paced}
+use Rattle.windows.proofs.Growth.{demand-growing}
 use Rattle.windows.proofs.Closing.{Closes, answer-closed}
 use Rattle.windows.proofs.Sweeps.{some-one, some-found}
-use Rattle.packing.proofs.Laws.{most-rises}
 use Rattle.misses.specs.Overloads.{Overload, overloads, piecesOf}
 use Rattle.misses.specs.Sets.{members, allowed, setCost}
 use Rattle.misses.specs.Bad.{withCost, over, bad, Test, byWindows}
-use Rattle.misses.specs.Misses.{earlyOf, badOf, roomOf, packingFigure, missedOf, byFigures, byBound, testedBeside}
+use Rattle.misses.specs.Misses.{earlyOf, badOf, roomOf, missedOf, byFigures, byBound, testedBeside}
 use Rattle.misses.specs.Sieve.{called, bySieve}
 use Rattle.misses.specs.declared.Answer.{Answer}
 use Rattle.misses.specs.declared.Answer.the-variants.{Misses, Refused}
@@ -42,6 +44,7 @@ use Rattle.misses.proofs.Bools.{and-left, and-right}
 use Rattle.misses.proofs.Worsening.{cost-growing}
 use Rattle.misses.proofs.Existence.{combination-window}
 use Rattle.misses.proofs.Starts.{starts}
+use Rattle.misses.proofs.Increase.{missed-mono}
 
 -- a window past t: the demand at t is above t
 above-before : (d : ℕ → ℕ) → Grows d → (t end : ℕ) → 1 ≤ t → windowOf d ≡ At end → t < end → t < d t
@@ -53,7 +56,7 @@ above-before d grows t end low at past = ⊎-elim
 
 -- where each B(q) up to `close` is there
 module _ (b : Row) (l : List Row) (good : GoodRow b) (rows : All GoodRow l) (paced : Paced (typical (map (λ a. viewOf a b) l))) {close : ℕ}
-    (windows : (q : ℕ) → 1 ≤ q → q ≤ close → (s : ℕ) × (windowOf (demandOf b (map (λ a. viewOf a b) l) q) ≡ At s)) where
+    (windows : (q : ℕ) → 1 ≤ q → q ≤ close → (s : ℕ) × (windowOf (demandOf δ b (map (λ a. viewOf a b) l) q) ≡ At s)) where
   abbrev views : List View
   views = map (λ a. viewOf a b) l
 
@@ -61,21 +64,21 @@ module _ (b : Row) (l : List Row) (good : GoodRow b) (rows : All GoodRow l) (pac
   os = overloads b l
 
   abbrev demand : ℕ → ℕ → ℕ → ℕ
-  demand m = withCost (demandOf b (typical views)) (setCost (members (piecesOf os) m))
+  demand m = withCost (demandOf δ b (typical views)) (setCost (members (piecesOf os) m))
 
   -- what is bad is called bad
   pub bad-called : (m : ℕ) → badOf byWindows b views os close m ≡ true → badOf bySieve b views os close m ≡ true
   unfolding badOf bad over called
   bad-called m e =
       let a = and-left (allowed (piecesOf os) m) _ e in
-      let f = some-found (λ q. longer (windowOf (demand m q)) (due (distances b) (b .deadline) q)) close (and-right (allowed (piecesOf os) m) _ e) in
+      let f = some-found (λ q. longer (windowOf (demand m q)) (due (δ (distances b)) (b .deadline) q)) close (and-right (allowed (piecesOf os) m) _ e) in
       let q = f .0 in
       let w = combination-window b l good rows paced q m _ (f .1) (windows q (f .1) (f .2) .1) a in
-      let t = due (distances b) (b .deadline) q in
+      let t = due (δ (distances b)) (b .deadline) q in
       let late : t < w .0 = ltb-true _ _ (sym (ap (λ x. longer x t) (w .1)) ∙ f .3) in
-      let grows = cost-growing (demandOf b (typical views)) (demand-growing b (typical views) good paced) (setCost (members (piecesOf os) m)) .grows q (f .1) in
+      let grows = cost-growing (demandOf δ b (typical views)) (demand-growing δ-good b (typical views) good paced) (setCost (members (piecesOf os) m)) .grows q (f .1) in
       let above : t < demand m q t = above-before (demand m q) grows t (w .0) (omega (arith, good .deadline)) (w .1) late in
-      ap₂ _&&_ a (some-one (λ q. ltb (due (distances b) (b .deadline) q) (demand m q (due (distances b) (b .deadline) q))) close q (f .1) (f .2) (lt-ltb _ _ above))
+      ap₂ _&&_ a (some-one (λ q. ltb (due (δ (distances b)) (b .deadline) q) (demand m q (due (δ (distances b)) (b .deadline) q))) close q (f .1) (f .2) (lt-ltb _ _ above))
 
 -- two answers: both refused, with one number, or the second's number is no less
 pub data Bounded : Answer → Answer → Type 0 where
@@ -95,55 +98,41 @@ bounded-number (suc n) x y h = Bounded.alike
 -- a test that calls bad whatever another does
 module _ (test wider : Test) (b : Row) (views : List View) (os : List Overload) (k : ℕ) where
   module _ (close latency late : ℕ) (calls : (m : ℕ) → badOf test b views os close m ≡ true → badOf wider b views os close m ≡ true) where
-    missed-bounded : missedOf test b views os k close latency late ≤ missedOf wider b views os k close latency late
-    unfolding missedOf packingFigure _when_else_
-    missed-bounded = go (badOf test b views os close 0) refl (badOf wider b views os close 0) refl
-      where
-        room : ℕ → ℕ
-        room i = getD (roomOf b os k latency) i 0
+    missed-bounded : missedOf δ test b views os k close latency late ≤ missedOf δ wider b views os k close latency late
+    missed-bounded = missed-mono δ δ test wider b b views views os os close close latency latency (le-refl k) (le-refl late) calls (λ i. le-refl _)
 
-        more : packingFigure test b views os k close latency late ≤ packingFigure wider b views os k close latency late
-        more = mul-le-mul-left late (most-rises (badOf test b views os close) (badOf wider b views os close) room room (λ m s h e. calls m e) (λ i h. le-refl (room i)))
-
-        go : (t : Bool) → badOf test b views os close 0 ≡ t → (u : Bool) → badOf wider b views os close 0 ≡ u
-            → (k when t else min k (packingFigure test b views os k close latency late)) ≤ (k when u else min k (packingFigure wider b views os k close latency late))
-        go true e true f = le-refl k
-        go true e false f = absurd (true-not-false (calls 0 e) f)
-        go false e true f = omega arith
-        go false e false f = omega (arith, more)
-
-    figures-bounded : (last : ℕ) → Bounded (byFigures test b views os k close latency late last) (byFigures wider b views os k close latency late last)
+    figures-bounded : (last : ℕ) → Bounded (byFigures δ test b views os k close latency late last) (byFigures δ wider b views os k close latency late last)
     unfolding byFigures
     figures-bounded last =
         bounded-when _ _ _ _ (eqb late 0) (Bounded.both (le-refl 0))
         (bounded-when _ _ _ _ (ltb maxOverloads (length (piecesOf os))) Bounded.alike
         (bounded-when _ _ _ _ (some (starts last) os) Bounded.alike
-        (bounded-when _ _ _ _ (some (ltb maxCapacity) (roomOf b os k latency)) Bounded.alike
+        (bounded-when _ _ _ _ (some (ltb maxCapacity) (roomOf δ b os k latency)) Bounded.alike
         (Bounded.both missed-bounded))))
 
   -- has no smaller figure, and refuses alike
-  pub beside-bounded : ((close latency late : ℕ) (margin : ℤ) → boundOf b views .answer ≡ Figures close latency late margin
+  pub beside-bounded : ((close latency late : ℕ) (margin : ℤ) → boundOf δ b views .answer ≡ Figures close latency late margin
       → (m : ℕ) → badOf test b views os close m ≡ true → badOf wider b views os close m ≡ true)
-      → Bounded (testedBeside test b views os k) (testedBeside wider b views os k)
+      → Bounded (testedBeside δ test b views os k) (testedBeside δ wider b views os k)
   unfolding testedBeside
-  beside-bounded calls = bounded-number (earlyOf b k) _ _ (by (boundOf b views .answer) refl)
+  beside-bounded calls = bounded-number (earlyOf b k) _ _ (by (boundOf δ b views .answer) refl)
     where
-      by : (x : Bound) → boundOf b views .answer ≡ x → Bounded (byBound test b views os k x (boundOf b views .last)) (byBound wider b views os k x (boundOf b views .last))
-      by (Figures close latency late margin) e = figures-bounded close latency late (calls close latency late margin e) (boundOf b views .last)
+      by : (x : Bound) → boundOf δ b views .answer ≡ x → Bounded (byBound δ test b views os k x (boundOf δ b views .last)) (byBound δ wider b views os k x (boundOf δ b views .last))
+      by (Figures close latency late margin) e = figures-bounded close latency late (calls close latency late margin e) (boundOf δ b views .last)
       by (Unbounded n) e = Bounded.alike
 
 -- the sieve beside the windows, for a chain b beside the others
 pub sieve-bounded : (b : Row) (l : List Row) → GoodRow b → All GoodRow l → Paced (typical (map (λ a. viewOf a b) l)) → (k : ℕ)
-    → Bounded (testedBeside byWindows b (map (λ a. viewOf a b) l) (overloads b l) k) (testedBeside bySieve b (map (λ a. viewOf a b) l) (overloads b l) k)
+    → Bounded (testedBeside δ byWindows b (map (λ a. viewOf a b) l) (overloads b l) k) (testedBeside δ bySieve b (map (λ a. viewOf a b) l) (overloads b l) k)
 unfolding boundOf
 sieve-bounded b l good rows paced k =
     beside-bounded byWindows bySieve b (map (λ a. viewOf a b) l) (overloads b l) k
-    (λ close latency late margin e. bad-called b l good rows paced (λ q low high. there close (answer-closed demand (distances b) (b .deadline) e .closes) q low high))
+    (λ close latency late margin e. bad-called b l good rows paced (λ q low high. there close (answer-closed demand (δ (distances b)) (b .deadline) e .closes) q low high))
   where
     demand : ℕ → ℕ → ℕ
-    demand = demandOf b (map (λ a. viewOf a b) l)
+    demand = demandOf δ b (map (λ a. viewOf a b) l)
 
-    there : (close : ℕ) {t : ℕ} → Closes demand (distances b) close t → (q : ℕ) → 1 ≤ q → q ≤ close → (s : ℕ) × (windowOf (demand q) ≡ At s)
+    there : (close : ℕ) {t : ℕ} → Closes demand (δ (distances b)) close t → (q : ℕ) → 1 ≤ q → q ≤ close → (s : ℕ) × (windowOf (demand q) ≡ At s)
     there close {t} c q low high = ⊎-elim
         (λ e. (t, ap (λ q. windowOf (demand q)) e ∙ c .last))
         (λ h. let r = c .reach q low h in (r .0, r .1))

@@ -16,16 +16,19 @@ use Rattle.table.specs.Find.{rowOf, rows}
 use Rattle.table.specs.code.Good.{GoodTable}
 use Rattle.table.specs.declared.Row.{Row}
 use Rattle.table.specs.declared.Table.{Table}
-use Rattle.arrivals.specs.Arrivals.{η}
+use Rattle.arrivals.specs.Arrivals.{Rule, δ, countBy, η}
 use Rattle.table.specs.Record.{distances}
 use Rattle.search.specs.Lists.{some}
 use Rattle.misses.specs.Overloads.{Overload, overload, overloads}
 use Rattle.misses.proofs.Bools.{drop-past, some-append, some-end, some-single}
 use Rattle.misses.proofs.Gathers.{overloads-append}
 
--- it may start more than once in t
+-- it may start more than once in t, by a rule for distances and by δ
+abbrev pub startsBy : Rule → ℕ → Overload → Bool
+startsBy rule t o = ltb 1 (countBy rule (o .list) t)
+
 abbrev pub starts : ℕ → Overload → Bool
-starts t o = ltb 1 (η (o .list) t)
+starts = startsBy δ
 
 -- a count that stops at 2 tells
 pub above-one : (n m : ℕ) → n ≡ min m 2 → ltb 1 n ≡ ltb 1 m

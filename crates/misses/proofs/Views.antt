@@ -13,7 +13,7 @@ use Rattle.search.proofs.Lists.{paired-perm}
 use Rattle.search.proofs.Pairing.{paired-keep, paired-weaker, paired-turn, paired-map}
 use Rattle.table.specs.Limits.{maxOverloads, maxCapacity}
 use Rattle.table.specs.declared.Row.{Row}
-use Rattle.arrivals.specs.Arrivals.{η, largest}
+use Rattle.arrivals.specs.Arrivals.{δ, η, largest}
 use Rattle.table.specs.Record.{distances}
 use Rattle.segments.specs.View.{View, viewOf}
 use Rattle.segments.proofs.Renaming.{alike-renamed}
@@ -73,46 +73,46 @@ module _ (b : Row) {vs ws : List View} (views : Paired Alike vs ws) {os ps : Lis
         ∙ perm-some test (paired-perm (λ o. o .list) (λ o. o .list) (paired-weaker r (λ o p h. h .list)))
         ∙ some-map (λ o. o .list) test ps
 
-    same-bad : (m : ℕ) → badOf byWindows b vs os close m ≡ bad (over (demandOf b (typical ws)) (distances b) (b .deadline) close) (piecesOf os) m
+    same-bad : (m : ℕ) → badOf byWindows b vs os close m ≡ bad (over (demandOf δ b (typical ws)) (δ (distances b)) (b .deadline) close) (piecesOf os) m
     unfolding badOf
-    same-bad m = ap (λ d. bad (over d (distances b) (b .deadline) close) (piecesOf os) m) (alike-demand (alike-typical views) b)
+    same-bad m = ap (λ d. bad (over d (δ (distances b)) (b .deadline) close) (piecesOf os) m) (alike-demand (alike-typical views) b)
 
     empty : badOf byWindows b vs os close 0 ≡ badOf byWindows b ws ps close 0
     unfolding badOf
     empty = same-bad 0 ∙ bad-none _ (piecesOf os) ∙ sym (bad-none _ (piecesOf ps))
 
-    above : some (ltb maxCapacity) (roomOf b os k latency) ≡ some (ltb maxCapacity) (roomOf b ps k latency)
+    above : some (ltb maxCapacity) (roomOf δ b os k latency) ≡ some (ltb maxCapacity) (roomOf δ b ps k latency)
     unfolding roomOf
     above = perm-some (ltb maxCapacity) (same-rooms r (largest b k + latency))
 
     most : length (piecesOf ps) ≤ maxOverloads
-        → mostUses (badOf byWindows b vs os close) (λ i. getD (roomOf b os k latency) i 0) ≡ mostUses (badOf byWindows b ws ps close) (λ i. getD (roomOf b ps k latency) i 0)
+        → mostUses (badOf byWindows b vs os close) (λ i. getD (roomOf δ b os k latency) i 0) ≡ mostUses (badOf byWindows b ws ps close) (λ i. getD (roomOf δ b ps k latency) i 0)
     unfolding badOf roomOf
     most few =
-        ap (λ f. mostUses f (λ i. getD (capacitiesOf (largest b k + latency) os) i 0)) (fun-ext same-bad)
+        ap (λ f. mostUses f (λ i. getD (capacitiesOf δ (largest b k + latency) os) i 0)) (fun-ext same-bad)
         ∙ same-most r q (largest b k + latency) _ (omega (arith, same-count r 0))
 
-    same-missed : length (piecesOf ps) ≤ maxOverloads → missedOf byWindows b vs os k close latency late ≡ missedOf byWindows b ws ps k close latency late
+    same-missed : length (piecesOf ps) ≤ maxOverloads → missedOf δ byWindows b vs os k close latency late ≡ missedOf δ byWindows b ws ps k close latency late
     unfolding missedOf packingFigure
     same-missed few = rw empty (ap (λ n. k when badOf byWindows b ws ps close 0 else min k (late * n)) (most few))
 
-    same-figures : byFigures byWindows b vs os k close latency late last ≡ byFigures byWindows b ws ps k close latency late last
+    same-figures : byFigures δ byWindows b vs os k close latency late last ≡ byFigures δ byWindows b ws ps k close latency late last
     unfolding byFigures
     same-figures =
         rw (same-count r 0, again, above)
         (choose _ _ _ _ (eqb late 0) (λ e. refl) (λ e.
         choose _ _ _ _ (ltb maxOverloads (length (piecesOf ps))) (λ f. refl) (λ f.
         choose _ _ _ _ (some (starts last) ps) (λ g. refl) (λ g.
-        choose _ _ _ _ (some (ltb maxCapacity) (roomOf b ps k latency)) (λ g. refl) (λ g.
+        choose _ _ _ _ (some (ltb maxCapacity) (roomOf δ b ps k latency)) (λ g. refl) (λ g.
         ap Misses (same-missed (ltb-false _ _ f)))))))
 
-  same-byBound : (x : Bound) (last : ℕ) → byBound byWindows b vs os k x last ≡ byBound byWindows b ws ps k x last
+  same-byBound : (x : Bound) (last : ℕ) → byBound δ byWindows b vs os k x last ≡ byBound δ byWindows b ws ps k x last
   same-byBound (Figures close latency late margin) last = same-figures close latency late last
   same-byBound (Unbounded n) last = refl
 
 -- other chains that pair off alike, in any order: the same answer for every k
 pub alike-misses : (b : Row) {l r : List Row} → Paired (λ a c. Alike (viewOf a b) (viewOf c b)) l r → (k : ℕ)
-    → testedBeside byWindows b (map (λ a. viewOf a b) l) (overloads b l) k ≡ testedBeside byWindows b (map (λ a. viewOf a b) r) (overloads b r) k
+    → testedBeside δ byWindows b (map (λ a. viewOf a b) l) (overloads b l) k ≡ testedBeside δ byWindows b (map (λ a. viewOf a b) r) (overloads b r) k
 unfolding testedBeside
 alike-misses b {l} {r} p k =
     let vs = map (λ a. viewOf a b) l in
@@ -122,5 +122,5 @@ alike-misses b {l} {r} p k =
     let two = alike-overloads b (paired-turn (λ a c h. alike-turn h) p) in
     let same = alike-bound views b in
     ap (byNumber Refused (earlyOf b k))
-    (same-byBound b views one two k (boundOf b vs .answer) (boundOf b vs .last)
-    ∙ ap (λ (w : Windows). byBound byWindows b ws (overloads b r) k (w .answer) (w .last)) same)
+    (same-byBound b views one two k (boundOf δ b vs .answer) (boundOf δ b vs .last)
+    ∙ ap (λ (w : Windows). byBound δ byWindows b ws (overloads b r) k (w .answer) (w .last)) same)

@@ -1,5 +1,5 @@
--- The miss query (01, 'Misses' and 'Numbers given back'; 02, requests 3 and 7), for any test that says which costs are bad: by windows it is the
--- miss count, by the sieve (Sieve.antt) a number that this does not exceed.
+-- The miss query (01, 'Misses' and 'Numbers given back'; 02, requests 3 and 7), by a rule for distances, and for any test that says which costs are
+-- bad: by δ and by windows it is the miss count, by δ and the sieve (Sieve.antt) a number that this does not exceed.
 use Prim.Native.Nat.{ℕ, _+_, _*_, min}
 use mathlib.Core.Bool.{Bool, not}
 use mathlib.Core.List.{List, [], _∷_}
@@ -12,7 +12,7 @@ use Rattle.table.specs.Find.{rowOf, findOf}
 use Rattle.table.specs.Read.{byVerdict, readTable, tableOf}
 use Rattle.table.specs.declared.Row.{Row}
 use Rattle.table.specs.declared.Table.{Table}
-use Rattle.arrivals.specs.Arrivals.{η, largest, unknown}
+use Rattle.arrivals.specs.Arrivals.{Rule, δ, countBy, largest, unknown}
 use Rattle.segments.specs.View.{View}
 use Rattle.windows.specs.Demand.{others, viewsOf}
 use Rattle.windows.specs.Latency.{boundOf}
@@ -21,7 +21,7 @@ use Rattle.windows.specs.declared.Answer.the-variants.{Figures, Refused as Unbo
 use Rattle.packing.specs.Most.{mostUses}
 use Rattle.search.specs.Lists.{some}
 use Rattle.misses.specs.Overloads.{Overload, overloads, piecesOf, capacitiesOf}
-use Rattle.misses.specs.Bad.{bad, Test, byWindows}
+use Rattle.misses.specs.Bad.{bad, Test, windowsBy, byWindows}
 use Rattle.misses.specs.declared.Answer.{Answer}
 use Rattle.misses.specs.declared.Answer.the-variants.{Misses, Refused}
 
@@ -47,27 +47,27 @@ earlyOf b k =
 abbrev pub overloadsOf : Table → ℕ → List Overload
 overloadsOf t chain = overloads (rowOf t chain) (others t chain)
 
--- capacity of each active segment of a: η_a(b's largest distance of k activations + latency) + 1
-unfoldable pub roomOf : Row → List Overload → ℕ → ℕ → List ℕ
-roomOf b os k latency = capacitiesOf (largest b k + latency) os
+-- capacity of each active segment of a, by a rule for distances: η_a(b's largest distance of k activations + latency) + 1
+unfoldable pub roomOf : Rule → Row → List Overload → ℕ → ℕ → List ℕ
+roomOf rule b os k latency = capacitiesOf rule (largest b k + latency) os
 
--- the query by a test of costs
-module _ (test : Test) where
-  -- the bad combinations of a chain b beside the chains of these views, whose overload chains are `os`, for q up to `close`, which is
-  -- the K of the full analysis
-  unfoldable pub badOf : Row → List View → List Overload → ℕ → ℕ → Bool
-  badOf b views os close m = bad (test b views close) (piecesOf os) m
+-- the bad combinations of a chain b beside the chains of these views, whose overload chains are `os`, by a test of costs, for q up to `close`,
+-- which is the K of the full analysis
+unfoldable pub badOf : Test → Row → List View → List Overload → ℕ → ℕ → Bool
+badOf test b views os close m = bad (test b views close) (piecesOf os) m
 
+-- the query by a rule and a test of costs
+module _ (rule : Rule) (test : Test) where
   -- the misses of b in a run of k activations
   module _ (b : Row) (views : List View) (os : List Overload) (k : ℕ) where
     -- the packing figure: late times the most uses any packing of the bad combinations has
     unfoldable pub packingFigure : ℕ → ℕ → ℕ → ℕ
-    packingFigure close latency late = late * mostUses (badOf b views os close) (λ i. getD (roomOf b os k latency) i 0)
+    packingFigure close latency late = late * mostUses (badOf test b views os close) (λ i. getD (roomOf rule b os k latency) i 0)
 
     -- all k where the empty set is bad (by windows: a deadline is missed even without overload); else the smaller of k and the packing
     -- figure
     unfoldable pub missedOf : ℕ → ℕ → ℕ → ℕ
-    missedOf close latency late = k when badOf b views os close 0 else min k (packingFigure close latency late)
+    missedOf close latency late = k when badOf test b views os close 0 else min k (packingFigure close latency late)
 
     -- zero late activations answers 0; over 6 overload active segments; any overload chain, with segments or none, may start more
     -- than once in the last window; a capacity above 40; else so many are missed
@@ -75,8 +75,8 @@ module _ (test : Test) where
     byFigures close latency late last =
         Misses 0 when eqb late 0 else
         Refused 18 when ltb maxOverloads (length (piecesOf os)) else
-        Refused 19 when some (λ o. ltb 1 (η (o .list) last)) os else
-        Refused 21 when some (ltb maxCapacity) (roomOf b os k latency) else
+        Refused 19 when some (λ o. ltb 1 (countBy rule (o .list) last)) os else
+        Refused 21 when some (ltb maxCapacity) (roomOf rule b os k latency) else
         Misses (missedOf close latency late)
 
     -- 16 or 17, or the figures of the full analysis beside its last window
@@ -86,7 +86,7 @@ module _ (test : Test) where
 
     -- what is refused before any window, or the windows decide
     unfoldable pub testedBeside : Answer
-    testedBeside = byNumber Refused (earlyOf b k) (byBound (boundOf b views .answer) (boundOf b views .last))
+    testedBeside = byNumber Refused (earlyOf b k) (byBound (boundOf rule b views .answer) (boundOf rule b views .last))
 
   -- of a chain of a table, by its number there
   unfoldable pub testedAt : Table → ℕ → ℕ → Answer
@@ -100,13 +100,16 @@ module _ (test : Test) where
   unfoldable pub testedOf : List ℕ → ℕ → ℕ → Answer
   testedOf s id k = byVerdict Refused (readTable s .verdict) (testedIn (tableOf s) id k)
 
--- what the miss query answers for a run of k activations: bad is tested by windows
+-- what the miss query answers for a run of k activations: bad is tested by windows, and distances are those of δ
 abbrev pub missesBeside : Row → List View → List Overload → ℕ → Answer
-missesBeside b views os k = testedBeside byWindows b views os k
+missesBeside b views os k = testedBeside δ byWindows b views os k
 
 abbrev pub missesAt : Table → ℕ → ℕ → Answer
-missesAt t chain k = testedAt byWindows t chain k
+missesAt t chain k = testedAt δ byWindows t chain k
 
--- of the chain with the id, of a stored table
+-- of the chain with the id, of a stored table; by a rule for distances, and by δ
+abbrev pub missesBy : Rule → List ℕ → ℕ → ℕ → Answer
+missesBy rule s id k = testedOf rule (windowsBy rule) s id k
+
 abbrev pub missesOf : List ℕ → ℕ → ℕ → Answer
-missesOf s id k = testedOf byWindows s id k
+missesOf = missesBy δ

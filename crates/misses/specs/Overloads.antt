@@ -4,7 +4,7 @@ use mathlib.Core.List.{List, [], _∷_, _++_, map}
 use lib.Dec.{eqb}
 use Rattle.search.specs.Choice.{_when_else_}
 use Rattle.table.specs.declared.Row.{Row}
-use Rattle.arrivals.specs.Arrivals.{η}
+use Rattle.arrivals.specs.Arrivals.{Rule, countBy}
 use Rattle.table.specs.Record.{distances}
 use Rattle.segments.specs.Actives.{Active, activesOf}
 
@@ -39,7 +39,7 @@ piecesFrom n (o ∷ os) = map (piece n) (o .actives) ++ piecesFrom (n + 1) os
 abbrev pub piecesOf : List Overload → List Piece
 piecesOf os = piecesFrom 0 os
 
--- the capacity of each of them, where t is b's largest distance of k activations + latency: η_a(t) + 1
-unfoldable pub capacitiesOf : ℕ → List Overload → List ℕ
-capacitiesOf t [] = []
-capacitiesOf t (o ∷ os) = map (λ a. η (o .list) t + 1) (o .actives) ++ capacitiesOf t os
+-- the capacity of each of them by a rule for distances, where t is b's largest distance of k activations + latency: η_a(t) + 1
+unfoldable pub capacitiesOf : Rule → ℕ → List Overload → List ℕ
+capacitiesOf rule t [] = []
+capacitiesOf rule t (o ∷ os) = map (λ a. countBy rule (o .list) t + 1) (o .actives) ++ capacitiesOf rule t os

@@ -4,6 +4,7 @@ use Prim.Native.Nat.{ℕ}
 use mathlib.Core.Bool.{Bool}
 use mathlib.Core.List.{List, [], _∷_}
 use Rattle.table.specs.Record.{distances}
+use Rattle.arrivals.specs.Arrivals.{δ}
 use Rattle.windows.specs.Demand.{demandOf, typical}
 use Rattle.windows.specs.Sieve.{anyAbove}
 use Rattle.misses.specs.Bad.{withCost, Test}
@@ -14,12 +15,12 @@ use Rattle.misses.specs.declared.Sieved.{Sieved}
 use Rattle.misses.specs.declared.Sieved.the-variants.{AtMost, Refused as NoBound}
 
 -- a set that costs so much is called bad: for some q ≤ K, which is `close`, the demand at t = δ(q) + deadline plus its costs is above t
-unfoldable pub called : (ℕ → ℕ → ℕ) → List ℕ → ℕ → ℕ → ℕ → Bool
-called demand ds deadline close cost = anyAbove (withCost demand cost) ds deadline close
+unfoldable pub called : (ℕ → ℕ → ℕ) → (ℕ → ℕ) → ℕ → ℕ → ℕ → Bool
+called demand distance deadline close cost = anyAbove (withCost demand cost) distance deadline close
 
 -- as a test of costs: overload chains are left out of the demand
 abbrev pub bySieve : Test
-bySieve b views close cost = called (demandOf b (typical views)) (distances b) (b .deadline) close cost
+bySieve b views close cost = called (demandOf δ b (typical views)) (δ (distances b)) (b .deadline) close cost
 
 -- an answer by the sieve, told as such
 abbrev pub asSieved : Answer → Sieved
@@ -28,7 +29,7 @@ asSieved (Refused n) = NoBound n
 
 -- what the sieve answers: the miss query, K, late, capacities and refusals included, with this test
 unfoldable pub atMostOf : List ℕ → ℕ → ℕ → Sieved
-atMostOf s id k = asSieved (testedOf bySieve s id k)
+atMostOf s id k = asSieved (testedOf δ bySieve s id k)
 
 -- the documents' number for each answer, 0 or the refusal, and its value: how many deadlines are missed at most
 abbrev pub numberOf : Sieved → ℕ

@@ -34,7 +34,7 @@ ghost use Rattle.table.specs.Record.{formAt, headLength, rowAt};
 ghost use Rattle.table.specs.Find.{rowOf, rows};
 ghost use Rattle.table.specs.code.Taken.{Taken, Stands};
 ghost use Rattle.table.specs.Read.{tableOf};
-ghost use Rattle.arrivals.specs.Arrivals.{η};
+ghost use Rattle.arrivals.specs.Arrivals.{δ, η};
 ghost use Rattle.windows.specs.Latency.{boundAt};
 ghost use Rattle.search.specs.Lists.{some};
 ghost use Rattle.misses.specs.Overloads.{overloads};
@@ -141,8 +141,8 @@ fn by_figures(s: &[u8], chain: usize, k: u32, f: Figures, how: How) -> Packings
 
 // 16 or 17, or what the figures leave, where nothing is refused before any window.
 fn by_bound(s: &[u8], chain: usize, k: u32, w: Windows, how: How) -> Packings
-    requires { ⌜ Taken (now s) × (chain < tableOf (now s) .count) × (earlyOf (rowOf (tableOf (now s)) chain) k ≡ 0) × (w ≡ boundAt (tableOf (now s)) chain) ⌝ }
-    ensures { λ r. ⌜ LeadsTo k (testedAt (testOf how) (tableOf (now (s .entry))) chain k) r ⌝ }
+    requires { ⌜ Taken (now s) × (chain < tableOf (now s) .count) × (earlyOf (rowOf (tableOf (now s)) chain) k ≡ 0) × (w ≡ boundAt δ (tableOf (now s)) chain) ⌝ }
+    ensures { λ r. ⌜ LeadsTo k (testedAt δ (testOf how) (tableOf (now (s .entry))) chain k) r ⌝ }
 {
     let answer = w.answer;
     match answer {
@@ -166,8 +166,8 @@ fn by_bound(s: &[u8], chain: usize, k: u32, w: Windows, how: How) -> Packings
 
 // What is to be packed for the chain of that number in a run of k activations, where its windows are worked out already.
 pub fn packings_with(s: &[u8], chain: usize, k: u32, w: Windows, how: How) -> Packings
-    requires { ⌜ Taken (now s) × (chain < tableOf (now s) .count) × (w ≡ boundAt (tableOf (now s)) chain) ⌝ }
-    ensures { λ r. ⌜ LeadsTo k (testedAt (testOf how) (tableOf (now (s .entry))) chain k) r ⌝ }
+    requires { ⌜ Taken (now s) × (chain < tableOf (now s) .count) × (w ≡ boundAt δ (tableOf (now s)) chain) ⌝ }
+    ensures { λ r. ⌜ LeadsTo k (testedAt δ (testOf how) (tableOf (now (s .entry))) chain k) r ⌝ }
 {
     match early(s, place(s, chain), k) {
         0 => by_bound(s, chain, k, w, how),
@@ -178,7 +178,7 @@ pub fn packings_with(s: &[u8], chain: usize, k: u32, w: Windows, how: How) -> Pa
 // For the chain with the id, of an accepted table.
 pub fn packings_in(s: &[u8], id: u32, k: u32, how: How) -> Packings
     requires { ⌜ Taken (now s) ⌝ }
-    ensures { λ r. ⌜ LeadsTo k (testedIn (testOf how) (tableOf (now (s .entry))) id k) r ⌝ }
+    ensures { λ r. ⌜ LeadsTo k (testedIn δ (testOf how) (tableOf (now (s .entry))) id k) r ⌝ }
 {
     let chain = find(s, id);
     if chain == count(s) {
@@ -192,7 +192,7 @@ pub fn packings_in(s: &[u8], id: u32, k: u32, how: How) -> Packings
 
 // For the chain with the id in a run of k activations, of a stored table.
 pub fn packings_of(table: &[u8], id: u32, k: u32, how: How) -> Packings
-    ensures { λ r. ⌜ LeadsTo k (testedOf (testOf how) (now (table .entry)) id k) r ⌝ }
+    ensures { λ r. ⌜ LeadsTo k (testedOf δ (testOf how) (now (table .entry)) id k) r ⌝ }
 {
     match judge(table) {
         Verdict::Accepted => packings_in(table, id, k, how),

@@ -16,6 +16,7 @@ ghost use mathlib.Core.Bool.{true};
 ghost use Prim.Native.Nat.{_*_, _<_, min};
 ghost use Rattle.table.specs.code.Taken.{Taken};
 ghost use Rattle.table.specs.Read.{tableOf};
+ghost use Rattle.arrivals.specs.Arrivals.{δ};
 ghost use Rattle.windows.specs.Latency.{boundAt};
 ghost use Rattle.misses.specs.Misses.{missesAt, missesOf};
 ghost use Rattle.misses.specs.Sieve.{asSieved, atMostOf};
@@ -46,7 +47,7 @@ fn packed(k: u32, p: Packings) -> Answer
 
 // The misses of the chain of that number in a run of k activations, where its windows are worked out already.
 pub fn misses_with(s: &[u8], chain: usize, k: u32, w: Windows) -> Answer
-    requires { ⌜ Taken (now s) × (chain < tableOf (now s) .count) × (w ≡ boundAt (tableOf (now s)) chain) ⌝ }
+    requires { ⌜ Taken (now s) × (chain < tableOf (now s) .count) × (w ≡ boundAt δ (tableOf (now s)) chain) ⌝ }
     ensures { λ r. ⌜ r ≡ missesAt (tableOf (now (s .entry))) chain k ⌝ }
 {
     packed(k, packings_with(s, chain, k, w, How::Lowest))

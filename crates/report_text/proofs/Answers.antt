@@ -15,6 +15,7 @@ use Rattle.table.specs.declared.Table.{Table}
 use Rattle.table.specs.declared.Verdict.the-variants.{Accepted, Refused as Faulty}
 use Rattle.table.proofs.Accepted.{taken}
 use Rattle.table.proofs.Finds.{find-is}
+use Rattle.arrivals.specs.Arrivals.{δ}
 use Rattle.windows.specs.Demand.{viewsOf}
 use Rattle.windows.specs.Latency.{boundOf, latencyOf}
 use Rattle.windows.proofs.Answers.{latency-accepted}
@@ -52,14 +53,14 @@ module _ (s : List ℕ) (bytes : Bytes s) (yes : readTable s .verdict ≡ Accept
     found : findOf t (rowOf t chain .id) ≡ chain
     found = find-is t good chain h
 
-    latency-is : latencyOf s (rowOf t chain .id) ≡ boundOf (rowOf t chain) (viewsOf t chain) .answer
+    latency-is : latencyOf s (rowOf t chain .id) ≡ boundOf δ (rowOf t chain) (viewsOf t chain) .answer
     latency-is =
-        latency-accepted s (rowOf t chain .id) yes ∙ latency-found t (rowOf t chain .id) (λ e. omega (arith, e, found, h))
-        ∙ ap (λ j. boundOf (rowOf t j) (viewsOf t j) .answer) found
+        latency-accepted δ s (rowOf t chain .id) yes ∙ latency-found δ t (rowOf t chain .id) (λ e. omega (arith, e, found, h))
+        ∙ ap (λ j. boundOf δ (rowOf t j) (viewsOf t j) .answer) found
 
     misses-is : missesOf s (rowOf t chain .id) missRun ≡ missesAt t chain missRun
     misses-is =
-        tested-accepted byWindows s (rowOf t chain .id) missRun yes ∙ misses-found byWindows t (rowOf t chain .id) missRun (λ e. omega (arith, e, found, h))
+        tested-accepted δ byWindows s (rowOf t chain .id) missRun yes ∙ misses-found δ byWindows t (rowOf t chain .id) missRun (λ e. omega (arith, e, found, h))
         ∙ ap (λ j. missesAt t j missRun) found
 
     line-is : lineOf s (rowOf t chain) ≡ lineIn t chain

@@ -8,6 +8,7 @@ use lib.Dec.{ltb}
 use Rattle.search.specs.Choice.{_when_else_}
 use Rattle.search.proofs.Choice.{when-cases}
 use Rattle.table.specs.Limits.{maxActivations}
+use Rattle.arrivals.specs.Arrivals.{δ}
 use Rattle.windows.specs.Latency.{closeOf, endsWith, windowsOf, boundOf}
 use Rattle.windows.specs.Window.{windowOf}
 use Rattle.windows.specs.declared.Window.{Window}
@@ -19,18 +20,18 @@ use Rattle.report_text.specs.Numbers.{decimal, digits}
 use Rattle.report_text.specs.Report.{afterSpace, refusalText}
 use Rattle.report_text.specs.code.Writing.{Bounded}
 
-windows-bounded : (demand : ℕ → ℕ → ℕ) (ds : List ℕ) (deadline : ℕ) → Bounded (windowsOf demand ds deadline .answer)
+windows-bounded : (demand : ℕ → ℕ → ℕ) (distance : ℕ → ℕ) (deadline : ℕ) → Bounded (windowsOf demand distance deadline .answer)
 unfolding windowsOf
-windows-bounded demand ds deadline =
-    when-cases (λ (w : Windows). Bounded (w .answer)) (ltb maxActivations (closeOf demand ds))
+windows-bounded demand distance deadline =
+    when-cases (λ (w : Windows). Bounded (w .answer)) (ltb maxActivations (closeOf demand distance))
     (λ e. record { refused = λ n r. inr (cc) })
-    (λ e. by (windowOf (demand (closeOf demand ds))))
+    (λ e. by (windowOf (demand (closeOf demand distance))))
   where
-    by : (w : Window) → Bounded (endsWith demand ds deadline (closeOf demand ds) w .answer)
+    by : (w : Window) → Bounded (endsWith demand distance deadline (closeOf demand distance) w .answer)
     by (At t) = record { refused = λ n r. absurd (let z : _≡_ {A = ℕ} 0 1 = cc in omega arith) }
     by Nothing = record { refused = λ n r. inl (cc) }
 
-pub bounded : (b : Row) (others : List View) → Bounded (boundOf b others .answer)
+pub bounded : (b : Row) (others : List View) → Bounded (boundOf δ b others .answer)
 unfolding boundOf
 bounded b others = windows-bounded _ _ _
 

@@ -4,3 +4,4 @@ pub mod Lists
 pub mod Rest
 pub mod Keeping
 pub mod Pairing
+pub mod Matching

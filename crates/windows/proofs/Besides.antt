@@ -25,7 +25,7 @@ use Rattle.windows.specs.Demand.{others as othersOf}
 use Rattle.windows.specs.code.Load.{addsTo, counted, viewsBetween}
 use Rattle.windows.specs.declared.Others.{Others}
 use Rattle.windows.specs.declared.Others.the-variants.{All as Whole, Typical}
-use Rattle.windows.proofs.Growth.{Paced}
+use Rattle.windows.proofs.Comparing.{Paced}
 
 pub typical-append : (vs ws : List View) → typical (vs ++ ws) ≡ typical vs ++ typical ws
 unfolding typical _when_else_

@@ -1,7 +1,6 @@
 -- K in words: the windows up to it, from the answer and back. Assumes nothing.
 use Prim.Native.Nat.{ℕ, zero, suc, _+_, _-_, _≤_, _<_}
 use mathlib.Core.Path.{_≡_, refl, ap, sym, subst₂, _∙_}
-use mathlib.Core.List.{List}
 use mathlib.Core.Bool.{Bool, false}
 use mathlib.Core.Logic.{⊎-elim}
 use lib.IntN.{ℤ}
@@ -11,9 +10,6 @@ use native.Mathlib.Nat.{le-trans, le-of-eq, eq-or-lt-of-le}
 use Rattle.search.proofs.Choice.{when-yes, when-no, true-not-false, lt-or-le}
 use Rattle.search.proofs.Find.{first-ge, first-hit, first-miss}
 use Rattle.table.specs.Limits.{maxActivations}
-use Rattle.arrivals.specs.Arrivals.{δ}
-use Rattle.table.specs.code.Good.{GoodDistances}
-use Rattle.arrivals.proofs.Distances.{δ-one}
 use Rattle.windows.specs.Window.{windowOf}
 use Rattle.windows.specs.Latency.{ends, closeOf, latencyTo, lateTo, marginOf, unbounded, endsWith, windowsOf}
 use Rattle.windows.specs.declared.Window.{Window}
@@ -25,84 +21,90 @@ use Rattle.windows.proofs.Growth.{Growing}
 use Rattle.windows.proofs.Walks.{Open, windows-end}
 
 -- the windows close at `close`, with t the last: each before it is there, and reaches past the next activation
-pub record Closes (demand : ℕ → ℕ → ℕ) (ds : List ℕ) (close t : ℕ) : Type 0 where
+pub record Closes (demand : ℕ → ℕ → ℕ) (distance : ℕ → ℕ) (close t : ℕ) : Type 0 where
   pub low : 1 ≤ close
   pub high : close ≤ maxActivations
   pub last : windowOf (demand close) ≡ At t
-  pub shut : t ≤ δ ds (close + 1)
-  pub reach : (q : ℕ) → 1 ≤ q → q < close → (s : ℕ) × (windowOf (demand q) ≡ At s) × (δ ds (q + 1) < s)
+  pub shut : t ≤ distance (close + 1)
+  pub reach : (q : ℕ) → 1 ≤ q → q < close → (s : ℕ) × (windowOf (demand q) ≡ At s) × (distance (q + 1) < s)
 
-module _ (demand : ℕ → ℕ → ℕ) (ds : List ℕ) where
+module _ (demand : ℕ → ℕ → ℕ) (distance : ℕ → ℕ) where
   abbrev test : ℕ → Bool
-  test q = ends (windowOf (demand q)) (δ ds (q + 1))
+  test q = ends (windowOf (demand q)) (distance (q + 1))
 
   -- where the walk does not end, a window reaches past the next activation
-  pub open-window : (q : ℕ) → test q ≡ false → (s : ℕ) × (windowOf (demand q) ≡ At s) × (δ ds (q + 1) < s)
+  pub open-window : (q : ℕ) → test q ≡ false → (s : ℕ) × (windowOf (demand q) ≡ At s) × (distance (q + 1) < s)
   open-window q f = go (windowOf (demand q)) refl
     where
-      go : (w : Window) → windowOf (demand q) ≡ w → (s : ℕ) × (windowOf (demand q) ≡ At s) × (δ ds (q + 1) < s)
-      go (At s) e = (s, e, leb-false s (δ ds (q + 1)) (sym (ap (λ w. ends w (δ ds (q + 1))) e) ∙ f))
-      go Nothing e = absurd (true-not-false (ap (λ w. ends w (δ ds (q + 1))) e) f)
+      go : (w : Window) → windowOf (demand q) ≡ w → (s : ℕ) × (windowOf (demand q) ≡ At s) × (distance (q + 1) < s)
+      go (At s) e = (s, e, leb-false s (distance (q + 1)) (sym (ap (λ w. ends w (distance (q + 1))) e) ∙ f))
+      go Nothing e = absurd (true-not-false (ap (λ w. ends w (distance (q + 1))) e) f)
+
+  -- the first activation at which it ends, where that is within the limit and has a window
+  pub closes-found : {t : ℕ} → closeOf demand distance ≤ maxActivations → windowOf (demand (closeOf demand distance)) ≡ At t → Closes demand distance (closeOf demand distance) t
+  unfolding closeOf
+  closes-found {t} h g =
+      let found = closeOf demand distance in
+      record {
+        low = first-ge test 1 maxActivations;
+        high = h;
+        last = g;
+        shut = leb-true t (distance (found + 1)) (sym (ap (λ w. ends w (distance (found + 1))) g) ∙ first-hit test 1 maxActivations (omega arith));
+        reach = λ q m n. open-window q (first-miss test 1 maxActivations q m n);
+      }
 
   module _ (deadline : ℕ) where
     -- then that is the answer
-    pub closes-answer : {close t : ℕ} → Closes demand ds close t
-        → windowsOf demand ds deadline
-        ≡ record { answer = Figures close (latencyTo demand ds close) (lateTo demand ds deadline close) (marginOf deadline (latencyTo demand ds close)); last = t }
+    pub closes-answer : {close t : ℕ} → Closes demand distance close t
+        → windowsOf demand distance deadline
+        ≡ record { answer = Figures close (latencyTo demand distance close) (lateTo demand distance deadline close) (marginOf deadline (latencyTo demand distance close)); last = t }
     unfolding Open
     closes-answer {close} {t} c =
-        windows-end demand ds deadline close (c .low) (c .high) (ap (λ w. ends w (δ ds (close + 1))) (c .last) ∙ le-leb t (δ ds (close + 1)) (c .shut))
+        windows-end demand distance deadline close (c .low) (c .high) (ap (λ w. ends w (distance (close + 1))) (c .last) ∙ le-leb t (distance (close + 1)) (c .shut))
         (λ q l h e. let r = c .reach q l h in
-        omega (arith, r .2, leb-true (r .0) (δ ds (q + 1)) (sym (ap (λ w. ends w (δ ds (q + 1))) (r .1)) ∙ e)))
-        ∙ ap (endsWith demand ds deadline close) (c .last)
+        omega (arith, r .2, leb-true (r .0) (distance (q + 1)) (sym (ap (λ w. ends w (distance (q + 1))) (r .1)) ∙ e)))
+        ∙ ap (endsWith demand distance deadline close) (c .last)
 
     -- what figures say
     pub record Closed (close latency late last : ℕ) (margin : ℤ) : Type 0 where
-      pub closes : Closes demand ds close last
-      pub greatest : latency ≡ latencyTo demand ds close
-      pub count : late ≡ lateTo demand ds deadline close
+      pub closes : Closes demand distance close last
+      pub greatest : latency ≡ latencyTo demand distance close
+      pub count : late ≡ lateTo demand distance deadline close
       pub rest : margin ≡ marginOf deadline latency
 
-    pub answer-closed : {close latency late : ℕ} {margin : ℤ} → windowsOf demand ds deadline .answer ≡ Figures close latency late margin
-        → Closed close latency late (windowsOf demand ds deadline .last) margin
-    unfolding windowsOf closeOf
+    pub answer-closed : {close latency late : ℕ} {margin : ℤ} → windowsOf demand distance deadline .answer ≡ Figures close latency late margin
+        → Closed close latency late (windowsOf demand distance deadline .last) margin
+    unfolding windowsOf
     answer-closed {close} {latency} {late} {margin} e = ⊎-elim still (λ h. by h (windowOf (demand found)) refl) (lt-or-le maxActivations found)
       where
         found : ℕ
-        found = closeOf demand ds
+        found = closeOf demand distance
 
-        still : maxActivations < found → Closed close latency late (windowsOf demand ds deadline .last) margin
+        still : maxActivations < found → Closed close latency late (windowsOf demand distance deadline .last) margin
         still h =
-            let f : windowsOf demand ds deadline ≡ unbounded 17 = when-yes _ _ (lt-ltb maxActivations found h) in
+            let f : windowsOf demand distance deadline ≡ unbounded 17 = when-yes _ _ (lt-ltb maxActivations found h) in
             let z : _≡_ {A = ℕ} 0 1 = cc in
             absurd (omega arith)
 
-        by : found ≤ maxActivations → (w : Window) → windowOf (demand found) ≡ w → Closed close latency late (windowsOf demand ds deadline .last) margin
+        by : found ≤ maxActivations → (w : Window) → windowOf (demand found) ≡ w → Closed close latency late (windowsOf demand distance deadline .last) margin
         by h Nothing g =
-            let f : windowsOf demand ds deadline ≡ unbounded 16 = when-no _ _ (le-ltb maxActivations found h) ∙ ap (endsWith demand ds deadline found) g in
+            let f : windowsOf demand distance deadline ≡ unbounded 16 = when-no _ _ (le-ltb maxActivations found h) ∙ ap (endsWith demand distance deadline found) g in
             let z : _≡_ {A = ℕ} 0 1 = cc in
             absurd (omega arith)
         by h (At t) g =
-            let f : windowsOf demand ds deadline ≡ endsWith demand ds deadline found (At t) =
-            when-no _ _ (le-ltb maxActivations found h) ∙ ap (endsWith demand ds deadline found) g in
+            let f : windowsOf demand distance deadline ≡ endsWith demand distance deadline found (At t) =
+            when-no _ _ (le-ltb maxActivations found h) ∙ ap (endsWith demand distance deadline found) g in
             let x : found ≡ close = cc in
-            let l : windowsOf demand ds deadline .last ≡ t = ap (λ (w : Windows). w .last) f in
-            let c : Closes demand ds found t = record {
-              low = first-ge test 1 maxActivations;
-              high = h;
-              last = g;
-              shut = leb-true t (δ ds (found + 1)) (sym (ap (λ w. ends w (δ ds (found + 1))) g) ∙ first-hit test 1 maxActivations (omega arith));
-              reach = λ q m n. open-window q (first-miss test 1 maxActivations q m n);
-            } in
+            let l : windowsOf demand distance deadline .last ≡ t = ap (λ (w : Windows). w .last) f in
             record {
-              closes = subst₂ (Closes demand ds) x (sym l) c;
+              closes = subst₂ (Closes demand distance) x (sym l) (closes-found h g);
               greatest = cc;
               count = cc;
               rest = cc;
             }
 
 -- every window up to the last is there: it reaches past its activation, and not past the last
-module _ {demand : ℕ → ℕ → ℕ} {ds : List ℕ} (growing : Growing demand) (good : GoodDistances ds) {close t : ℕ} (c : Closes demand ds close t) where
+module _ {demand : ℕ → ℕ → ℕ} {distance : ℕ → ℕ} (growing : Growing demand) (one : distance 1 ≡ 0) {close t : ℕ} (c : Closes demand distance close t) where
   -- the windows never fall
   rises : (q s r : ℕ) → 1 ≤ q → windowOf (demand q) ≡ At s → windowOf (demand (q + 1)) ≡ At r → s ≤ r
   rises q s r l e f =
@@ -122,15 +124,15 @@ module _ {demand : ℕ → ℕ → ℕ} {ds : List ℕ} (growing : Growing deman
       let r = there (q + 1) (omega arith) (omega arith) in
       le-trans (rises q s (r .0) l f (r .1)) (up n (q + 1) (r .0) (omega arith) (omega arith) (r .1))
 
-  behind : (q s : ℕ) → 1 ≤ q → q ≤ close → windowOf (demand q) ≡ At s → δ ds q ≤ s
+  behind : (q s : ℕ) → 1 ≤ q → q ≤ close → windowOf (demand q) ≡ At s → distance q ≤ s
   behind zero s l h f = absurd (omega arith)
-  behind (suc zero) s l h f = omega (arith, δ-one good)
+  behind (suc zero) s l h f = omega (arith, one)
   behind (suc (suc p)) s l h f =
       let r = c .reach (suc p) (omega arith) h in
       let e : suc p + 1 ≡ suc (suc p) = omega arith in
-      omega (arith, r .2, ap (δ ds) e, rises (suc p) (r .0) s (omega arith) (r .1) (ap (λ q. windowOf (demand q)) e ∙ f))
+      omega (arith, r .2, ap distance e, rises (suc p) (r .0) s (omega arith) (r .1) (ap (λ q. windowOf (demand q)) e ∙ f))
 
-  pub windows-there : (q : ℕ) → 1 ≤ q → q ≤ close → (s : ℕ) × (windowOf (demand q) ≡ At s) × (δ ds q ≤ s) × (s ≤ t)
+  pub windows-there : (q : ℕ) → 1 ≤ q → q ≤ close → (s : ℕ) × (windowOf (demand q) ≡ At s) × (distance q ≤ s) × (s ≤ t)
   windows-there q l h =
       let r = there q l h in
       (r .0, r .1, behind q (r .0) l h (r .1), up (close - q) q (r .0) (omega arith) l (r .1))

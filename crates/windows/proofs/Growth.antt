@@ -1,25 +1,22 @@
--- The demand never falls with t, and grows with q: its own first part costs less than the chain. Assumes nothing.
+-- The demand by a lawful rule never falls with t, and grows with q: its own first part costs less than the chain. Assumes nothing.
 use Prim.Native.Nat.{ℕ, zero, suc, _+_, _*_, _-_, _≤_, _<_}
 use mathlib.Core.List.{List}
-use mathlib.Core.Bool.{Bool, true, false}
 use native.Mathlib.Omega.{arith}
 use native.Mathlib.Nat.{mul-le-mul-right, mul-pos, le-refl}
-use Rattle.search.specs.Choice.{_when_else_}
-use Rattle.search.specs.Lists.{All}
 use Rattle.search.proofs.Choice.{when-cases}
-use Rattle.search.proofs.Lists.{sum-mono, all-map}
 use Rattle.table.specs.code.Good.{GoodRow}
 use Rattle.table.specs.declared.Row.{Row}
-use Rattle.arrivals.specs.Arrivals.{η}
-use Rattle.table.specs.code.Good.{GoodDistances}
+use Rattle.arrivals.specs.Arrivals.{Rule, countBy, η}
 use Rattle.table.specs.Record.{distances}
 use Rattle.arrivals.proofs.Counts.{η-mono}
 use Rattle.segments.specs.Tasks.{chainCost}
-use Rattle.segments.specs.View.{View, allOf, dearestOf}
+use Rattle.segments.specs.View.{View}
 use Rattle.segments.proofs.Bounds.{own-less}
-use Rattle.windows.specs.Demand.{asynchronous, termOf, countedPart, demandOf}
+use Rattle.windows.specs.Demand.{asynchronous, countedPart, demandOf}
 use Rattle.windows.specs.code.Load.{Load, heldRate, heldOf, Held, ownOf, demandIn, Sound}
 use Rattle.windows.proofs.Least.{Grows}
+use Rattle.arrivals.proofs.Rules.{GoodRule, slower-same}
+use Rattle.windows.proofs.Comparing.{demand-less, Paced, row-less, views-less}
 
 -- a demand for q activations in t that never falls with t, and not with q
 pub record Growing (demand : ℕ → ℕ → ℕ) : Type 0 where
@@ -35,47 +32,27 @@ again-more q part n =
     let k : n - q ≤ n - (q + 1) + 1 = omega arith in
     omega (arith, mul-le-mul-right part k)
 
--- each view has distances of an accepted table
-abbrev pub Paced : List View → Type 0
-Paced vs = All (λ v. GoodDistances (v .list)) vs
-
-pub term-mono : (v : View) → GoodDistances (v .list) → (s t : ℕ) → s ≤ t → termOf v s ≤ termOf v t
-unfolding termOf _when_else_
-term-mono v good s t h = go (v .free) (asynchronous (v .kind))
-  where
-    go : (free async : Bool)
-        → (η (v .list) s * allOf v when free else η (v .list) s * v .first + allOf v when async else dearestOf v)
-        ≤ (η (v .list) t * allOf v when free else η (v .list) t * v .first + allOf v when async else dearestOf v)
-    go true async = mul-le-mul-right (allOf v) (η-mono good s t h)
-    go false true = omega (arith, mul-le-mul-right (v .first) (η-mono good s t h))
-    go false false = le-refl (dearestOf v)
-
 pub part-less : (b : Row) → GoodRow b → countedPart b < chainCost b
 unfolding countedPart
 part-less b good =
     when-cases (λ p. p < chainCost b) (asynchronous (b .kind)) (λ e. own-less b good) (λ e. omega (arith, own-less b good))
 
-module _ (b : Row) (vs : List View) (good : GoodRow b) (paced : Paced vs) where
-  pub demand-mono : (q s t : ℕ) → s ≤ t → demandOf b vs q s ≤ demandOf b vs q t
-  unfolding demandOf
-  demand-mono q s t h =
-      omega (
-        arith,
-        again-mono q (countedPart b) _ _ (η-mono (good .list) s t h),
-        sum-mono (λ v. termOf v s) (λ v. termOf v t) vs (all-map (λ v g. term-mono v g s t h) vs paced),
-      )
+-- of one chain by one rule
+module _ {rule : Rule} (lawful : GoodRule rule) (b : Row) (vs : List View) (good : GoodRow b) (paced : Paced vs) where
+  pub demand-mono : (q s t : ℕ) → s ≤ t → demandOf rule b vs q s ≤ demandOf rule b vs q t
+  demand-mono = demand-less (row-less (slower-same lawful) b good) (views-less (slower-same lawful) vs paced)
 
-  pub demand-more : (q t : ℕ) → demandOf b vs q t < demandOf b vs (q + 1) t
+  pub demand-more : (q t : ℕ) → demandOf rule b vs q t < demandOf rule b vs (q + 1) t
   unfolding demandOf
-  demand-more q t = omega (arith, again-more q (countedPart b) (η (distances b) t), part-less b good)
+  demand-more q t = omega (arith, again-more q (countedPart b) (countBy rule (distances b) t), part-less b good)
 
-  pub demand-some : (q t : ℕ) → 1 ≤ q → 1 ≤ demandOf b vs q t
+  pub demand-some : (q t : ℕ) → 1 ≤ q → 1 ≤ demandOf rule b vs q t
   unfolding demandOf
   demand-some q t h =
       let c : 1 ≤ chainCost b = omega (arith, part-less b good) in
       omega (arith, mul-pos h c)
 
-  pub demand-growing : Growing (demandOf b vs)
+  pub demand-growing : Growing (demandOf rule b vs)
   demand-growing = record {
     grows = λ q h. record { some = λ t l. demand-some q t h; mono = demand-mono q };
     more = λ q t. omega (arith, demand-more q t);

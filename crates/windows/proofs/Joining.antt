@@ -14,7 +14,7 @@ use Rattle.table.specs.Record.{listPlace, rowAt}
 use Rattle.table.specs.declared.Row.{Row}
 use Rattle.table.specs.code.Listed.{distancesFrom, Lists}
 use Rattle.table.specs.code.Taken.{Stands}
-use Rattle.arrivals.specs.Arrivals.{η}
+use Rattle.arrivals.specs.Arrivals.{δ, η}
 use Rattle.segments.specs.Tasks.{chainCost}
 use Rattle.segments.specs.View.{View}
 use Rattle.segments.proofs.Bounds.{chain-max}
@@ -69,7 +69,7 @@ module _ (l : Load) (cost : ℕ) where
   dearer-demand q t = omega arith
 
 -- what one view adds
-one-term : (v : View) (t : ℕ) → sumOf (λ w. termOf w t) (v ∷ []) ≡ termOf v t
+one-term : (v : View) (t : ℕ) → sumOf (λ w. termOf δ w t) (v ∷ []) ≡ termOf δ v t
 unfolding sumOf
 one-term v t = omega arith
 
@@ -142,7 +142,7 @@ joined l x place =
 
 module _ (l : Load) (v : View) (x : Term) (place : ℕ) (ok : Sound l) (few : l .count < maxChains) (room : l .once + dearest ≤ onceLimit)
     (adds : Adds v x) (same : v .list ≡ distancesFrom (l .bytes) place) (there : Lists (l .bytes) place) where
-  joined-demand : (q t : ℕ) → demandIn (joined l x place) q t ≡ demandIn l q t + termOf v t
+  joined-demand : (q t : ℕ) → demandIn (joined l x place) q t ≡ demandIn l q t + termOf δ v t
   unfolding demandIn
   joined-demand q t =
       omega (
@@ -182,7 +182,7 @@ joined-on {vs = vs} {ws = ws} a b = record {
   at = b .at ∙ a .at;
   count = omega (arith, a .count, b .count, length-append vs ws);
   once = omega (arith, a .once, b .once, length-append vs ws);
-  demand = λ q t. omega (arith, a .demand q t, b .demand q t, sum-append (λ v. termOf v t) vs ws);
+  demand = λ q t. omega (arith, a .demand q t, b .demand q t, sum-append (λ v. termOf δ v t) vs ws);
 }
 
 pub loads-on : {b : Row} {l r : Load} {vs ws : List View} → Loads b vs l → Joined l ws r → Loads b (vs ++ ws) r
@@ -192,7 +192,7 @@ loads-on {vs = vs} {ws = ws} a j = record {
   chain = ap₂ rowAt (j .bytes) (j .at) ∙ a .chain;
   count = omega (arith, a .count, j .count, length-append vs ws);
   once = omega (arith, a .once, j .once, length-append vs ws);
-  demand = λ q t. omega (arith, a .demand q t, j .demand q t, sum-append (λ v. termOf v t) vs ws);
+  demand = λ q t. omega (arith, a .demand q t, j .demand q t, sum-append (λ v. termOf δ v t) vs ws);
 }
 
 -- the same row and the same views have the same loads

@@ -1,4 +1,5 @@
 pub mod Least
+pub mod Comparing
 pub mod Growth
 pub mod Views
 pub mod Bounds
@@ -12,5 +13,6 @@ pub mod Sweeps
 pub mod Sieves
 pub mod Closing
 pub mod Margins
+pub mod Easing
 pub mod Signs
 pub mod Answers

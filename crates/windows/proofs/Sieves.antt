@@ -9,6 +9,7 @@ use borrow.Author.Tests.{lt-ltb, le-ltb, le-leb, lt-leb}
 use lib.Dec.{leb, ltb}
 use Rattle.search.specs.Lists.{some}
 use Rattle.search.proofs.Choice.{lt-or-le}
+use Rattle.arrivals.specs.Arrivals.{δ}
 use Rattle.windows.specs.Latency.{upTo}
 use Rattle.windows.specs.Sieve.{due}
 use Rattle.windows.specs.code.Load.{Load, rowIn, ownOf, demandIn}
@@ -35,11 +36,11 @@ module _ (l : Load) (most : ℕ) where
   called-none = record { tells = λ cost h. lt-leb most cost h }
 
   -- one activation more, due at t: a cost is called bad that was, or that is more than the demand leaves of t
-  pub called-on : {done least : ℕ} → CalledFrom l done most least → (t room : ℕ) → t ≡ due (ownOf l) (rowIn l .deadline) (done + 1)
+  pub called-on : {done least : ℕ} → CalledFrom l done most least → (t room : ℕ) → t ≡ due (δ (ownOf l)) (rowIn l .deadline) (done + 1)
       → room ≡ t + 1 - demandIn l (done + 1) t → CalledFrom l (done + 1) most (min least room)
   called-on {done} {least} called t room due-is room-is = record {
     tells = λ cost h.
         one-within least room t (demandIn l (done + 1) t) cost room-is
         ∙ ap₂ (λ u b. ltb u (demandIn l (done + 1) u + cost) || b) due-is (called .tells cost h)
-        ∙ sym (some-next (λ q. ltb (due (ownOf l) (rowIn l .deadline) q) (demandIn l q (due (ownOf l) (rowIn l .deadline) q) + cost)) done);
+        ∙ sym (some-next (λ q. ltb (due (δ (ownOf l)) (rowIn l .deadline) q) (demandIn l q (due (δ (ownOf l)) (rowIn l .deadline) q) + cost)) done);
   }

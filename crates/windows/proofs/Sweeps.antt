@@ -2,7 +2,6 @@
 use Prim.Native.Nat.{ℕ, zero, suc, _+_, _≤_, _<_}
 use mathlib.Core.Path.{_≡_, refl, ap, sym, _∙_}
 use mathlib.Core.Bool.{Bool, true, false, _||_, or-true}
-use mathlib.Core.List.{List}
 use mathlib.Core.Logic.{⊎-elim}
 use native.Mathlib.Omega.{arith}
 use native.Mathlib.Numerals.{add-one}
@@ -10,7 +9,6 @@ use native.Mathlib.Nat.{eq-or-lt-of-le, le-of-suc-le-suc}
 use borrow.Author.Tests.{lt-ltb, le-ltb}
 use Rattle.search.specs.Lists.{some}
 use Rattle.search.proofs.Choice.{true-not-false}
-use Rattle.arrivals.specs.Arrivals.{δ}
 use Rattle.windows.specs.Window.{windowOf}
 use Rattle.windows.specs.Latency.{upTo, longer, anyOver}
 use Rattle.windows.specs.code.Climb.{Under}
@@ -46,34 +44,34 @@ module _ (p : ℕ → Bool) where
   unfolding some upTo
   some-none = refl
 
-module _ (demand : ℕ → ℕ → ℕ) (ds : List ℕ) (deadline : ℕ) where
+module _ (demand : ℕ → ℕ → ℕ) (distance : ℕ → ℕ) (deadline : ℕ) where
   -- the window for q activations is over
   abbrev passes : ℕ → Bool
-  passes q = longer (windowOf (demand q)) (δ ds q + deadline)
+  passes q = longer (windowOf (demand q)) (distance q + deadline)
 
   -- `done` of them were not, and the next is not under `start`
   pub record Swept (done start : ℕ) : Type 0 where
     pub under : Under (demand (done + 1)) start
-    pub none : anyOver demand ds deadline done ≡ false
+    pub none : anyOver demand distance deadline done ≡ false
 
   pub swept-start : Swept 0 1
   swept-start = record { under = under-one (demand (0 + 1)); none = some-none passes }
 
   module _ (close done : ℕ) (more : done < close) where
-    swept-over : passes (done + 1) ≡ true → anyOver demand ds deadline close ≡ true
+    swept-over : passes (done + 1) ≡ true → anyOver demand distance deadline close ≡ true
     swept-over e = some-one passes close (done + 1) (omega arith) (omega arith) e
 
-    pub swept-none : windowOf (demand (done + 1)) ≡ Nothing → anyOver demand ds deadline close ≡ true
-    swept-none e = swept-over (ap (λ w. longer w (δ ds (done + 1) + deadline)) e)
+    pub swept-none : windowOf (demand (done + 1)) ≡ Nothing → anyOver demand distance deadline close ≡ true
+    swept-none e = swept-over (ap (λ w. longer w (distance (done + 1) + deadline)) e)
 
     module _ (t : ℕ) (at : windowOf (demand (done + 1)) ≡ At t) where
-      pub swept-past : δ ds (done + 1) + deadline < t → anyOver demand ds deadline close ≡ true
-      swept-past h = swept-over (ap (λ w. longer w (δ ds (done + 1) + deadline)) at ∙ lt-ltb _ t h)
+      pub swept-past : distance (done + 1) + deadline < t → anyOver demand distance deadline close ≡ true
+      swept-past h = swept-over (ap (λ w. longer w (distance (done + 1) + deadline)) at ∙ lt-ltb _ t h)
 
-      pub swept-on : Growing demand → (start : ℕ) → Swept done start → t ≤ δ ds (done + 1) + deadline → Swept (done + 1) t
+      pub swept-on : Growing demand → (start : ℕ) → Swept done start → t ≤ distance (done + 1) + deadline → Swept (done + 1) t
       swept-on growing start s h = record {
         under =
             under-lift (demand (done + 1)) (demand (done + 1 + 1)) t (growing .more (done + 1))
             (window-under (demand (done + 1)) (growing .grows (done + 1) (omega arith)) t at);
-        none = some-more passes done (s .none) (ap (λ w. longer w (δ ds (done + 1) + deadline)) at ∙ le-ltb _ t h);
+        none = some-more passes done (s .none) (ap (λ w. longer w (distance (done + 1) + deadline)) at ∙ le-ltb _ t h);
       }

@@ -9,30 +9,31 @@ use Rattle.search.specs.Lists.{sumOf, Paired, keep}
 use Rattle.search.proofs.Lists.{perm-sum, paired-perm}
 use Rattle.search.proofs.Pairing.{paired-keep, paired-weaker}
 use Rattle.table.specs.declared.Row.{Row}
+use Rattle.arrivals.specs.Arrivals.{δ}
 use Rattle.segments.specs.View.{View}
 use Rattle.segments.proofs.Lists.{sum-map}
 use Rattle.segments.proofs.Views.{Alike, alike-all, alike-dearest}
 use Rattle.windows.specs.Demand.{termOf, demandOf, typical}
 use Rattle.windows.specs.Latency.{boundOf}
 
-pub alike-term : {v w : View} → Alike v w → (t : ℕ) → termOf v t ≡ termOf w t
+pub alike-term : {v w : View} → Alike v w → (t : ℕ) → termOf δ v t ≡ termOf δ w t
 unfolding termOf
 alike-term s t = rw (s .list, s .free, s .kind, s .first, alike-all s, alike-dearest s)
 
 -- views that pair off alike, in any order, give the same demand
 module _ {vs ws : List View} (p : Paired Alike vs ws) where
-  alike-terms : (t : ℕ) → sumOf (λ v. termOf v t) vs ≡ sumOf (λ v. termOf v t) ws
+  alike-terms : (t : ℕ) → sumOf (λ v. termOf δ v t) vs ≡ sumOf (λ v. termOf δ v t) ws
   alike-terms t =
-      let f : View → ℕ = λ v. termOf v t in
+      let f : View → ℕ = λ v. termOf δ v t in
       let e : List·Permᴰ (map f vs) (map f ws) = paired-perm f f (paired-weaker p (λ v w h. alike-term h t)) in
       sym (sum-map f (λ n. n) vs) ∙ perm-sum (λ n. n) e ∙ sum-map f (λ n. n) ws
 
-  pub alike-demand : (b : Row) → demandOf b vs ≡ demandOf b ws
+  pub alike-demand : (b : Row) → demandOf δ b vs ≡ demandOf δ b ws
   unfolding demandOf
   alike-demand b = fun-ext (λ q. fun-ext (λ t. omega (arith, alike-terms t)))
 
   -- so every figure is the same: B(q), K, latency, late, margin, the last window, and each refusal
-  pub alike-bound : (b : Row) → boundOf b vs ≡ boundOf b ws
+  pub alike-bound : (b : Row) → boundOf δ b vs ≡ boundOf δ b ws
   unfolding boundOf
   alike-bound b = rw (alike-demand b)
 

@@ -1,43 +1,62 @@
--- `delta` meets its contract: n is one more than the whole lists and the rest into which the steps before it are split.
-use Prim.Native.Nat.{ℕ, _+_, _*_, _-_, _<_}
-use mathlib.Core.Path.{_≡_, ap, _∙_}
+-- `delta` meets its contract: by one distance, or by a list of more.
+use Prim.Native.Nat.{_+_, _*_, _-_}
+use mathlib.Core.Path.{_≡_, ap, sym, _∙_}
 use native.Mathlib.Omega.{arith}
 use borrow.Author.Needs.{needs}
 use denote.Ref.{now}
-use Rattle.table.specs.code.Listed.{listedFrom, distancesFrom}
+use Rattle.table.specs.code.Listed.{distancesFrom}
 use Rattle.arrivals.specs.Arrivals.{δ}
-use Rattle.arrivals.proofs.Lists.{split-whole}
-use Rattle.arrivals.proofs.Rows.{lists-some}
+use Rattle.arrivals.proofs.Distances.{δ-near}
+use Rattle.arrivals.proofs.Heads.{δ-single}
+use Rattle.arrivals.proofs.Rows.{lists-length}
 use Rattle.arrivals.proofs.delta.Statement.{statement}
 use Rattle.arrivals.proofs.delta.Tie as tie
 
-module _ (c : tie.After-split) where
-  abbrev s : tie.Start
-  s = c .before .before .before
-
-  abbrev listed : ℕ
-  listed = listedFrom (now (s .args .s)) (s .args .list)
-
-  whole : (c .split .result .lists * listed + c .split .result .rest ≡ s .args .n - 1) × (c .split .result .rest < listed)
-  whole = split-whole (s .args .n - 1) (lists-some (s .pre .0)) (c .before .listed-from .ensures .0) (c .split .ensures .0) (c .split .ensures .1)
-
-sub-split : tie.Need-sub-split
-sub-split c = search needs
-
 listed-from-requires : tie.Need-listed-from-requires
-listed-from-requires c κs = let h = c .before .pre .0 in (h .after, omega (arith, h .there))
+listed-from-requires c κs = search needs
 
-split-requires : tie.Need-split-requires
-split-requires c κs = omega (arith, c .listed-from .ensures .0, lists-some (c .before .before .pre .0))
+sub-result : tie.Need-sub-result
+sub-result c = search needs
 
-delta-at-requires : tie.Need-delta-at-requires
-delta-at-requires c κs = (s c .pre .0, omega (arith, whole c .1), omega (arith, whole c .0, s c .pre .1, s c .pre .2))
+as-listed-requires : tie.Need-as-listed-requires
+as-listed-requires c κs = search needs
+
+-- the one distance, so many times
+all : (c : tie.After-as-listed) → (c .before .before .before .before .args .n - 1) * c .as-listed .result ≡ δ (distancesFrom (now (c .before .before .before .before .args .s)) (c .before .before .before .before .args .list)) (c .before .before .before .before .args .n)
+all c =
+    let s = c .before .before .before .before in
+    let e : s .args .n - 1 + 1 ≡ s .args .n = omega (arith, s .pre .1) in
+    ap (λ d. (s .args .n - 1) * d) (c .as-listed .ensures)
+    ∙ sym (δ-single (s .pre .0 .good) (lists-length (s .pre .0) ∙ sym (c .before .before .listed-from .ensures .0) ∙ c .before .if1 .taken) (s .args .n - 1))
+    ∙ ap (δ (distancesFrom (now (s .args .s)) (s .args .list))) e
+
+mul-result : tie.Need-mul-result
+mul-result c = let s = c .before .before .before .before in omega (arith, all c, δ-near (s .pre .0 .good) (s .args .n), s .pre .2)
 
 returns : tie.Need-returns
-returns c =
-    let b = s (c .before) in
-    c .delta-at .ensures ∙ ap (δ (distancesFrom (now (b .args .s)) (b .args .list))) (omega (arith, whole (c .before) .0, b .pre .1))
+returns c = all c
+
+sub-delta-by-list : tie.Need-sub-delta-by-list
+sub-delta-by-list c = search needs
+
+delta-by-list-requires : tie.Need-delta-by-list-requires
+delta-by-list-requires c κs = search needs
+
+returns-2 : tie.Need-returns-2
+returns-2 c =
+    let s = c .before .before .before .before in
+    let e : s .args .n - 1 + 1 ≡ s .args .n = omega (arith, s .pre .1) in
+    c .delta-by-list .ensures ∙ ap (δ (distancesFrom (now (s .args .s)) (s .args .list))) e
 
 pub delta-spec : {M : Type 1} → statement M
 delta-spec =
-    tie.close (tie.spec sub-split listed-from-requires split-requires delta-at-requires returns)
+    tie.close
+    (tie.spec
+    listed-from-requires
+    sub-result
+    as-listed-requires
+    mul-result
+    returns
+    sub-delta-by-list
+    delta-by-list-requires
+    returns-2)

@@ -43,7 +43,7 @@ heldAs chains ps cs =
 
 -- those of some overload chains, with their capacities in t
 unfoldable pub gathered : ℕ → List Overload → Pieces
-gathered t os = heldAs (length os) (piecesOf os) (capacitiesOf t os)
+gathered t os = heldAs (length os) (piecesOf os) (capacitiesOf δ t os)
 
 -- the active segment after i others, out of arrays of their chains, segments and costs
 abbrev pub pieceAt : List ℕ → List ℕ → List ℕ → ℕ → Piece
@@ -90,11 +90,11 @@ pub record Asked (b : Row) (k : ℕ) (f : Figures) : Type 0 where
 
 -- what they give by a test, of a chain of a table
 abbrev pub figuresAt : Test → Table → ℕ → ℕ → Figures → Answer
-figuresAt test t chain k f = byFigures test (rowOf t chain) (viewsOf t chain) (overloadsOf t chain) k (f .close) (f .latency) (f .late) (f .last)
+figuresAt test t chain k f = byFigures δ test (rowOf t chain) (viewsOf t chain) (overloadsOf t chain) k (f .close) (f .latency) (f .late) (f .last)
 
 -- and how many are missed of it, where nothing is refused
 abbrev pub missedAt : Test → Table → ℕ → ℕ → Figures → ℕ
-missedAt test t chain k f = missedOf test (rowOf t chain) (viewsOf t chain) (overloadsOf t chain) k (f .close) (f .latency) (f .late)
+missedAt test t chain k f = missedOf δ test (rowOf t chain) (viewsOf t chain) (overloadsOf t chain) k (f .close) (f .latency) (f .late)
 
 -- what the count of these goes by, all of it known where nothing is refused: some activation is late, and the active segments held are
 -- all that there are beside the chain, six or fewer, none with a capacity above its limit

@@ -6,6 +6,7 @@ use mathlib.Core.List.{List}
 use lib.Dec.{leb}
 use lib.ListN.{getD}
 use Rattle.table.specs.Limits.{maxOverloads, maxActivations}
+use Rattle.arrivals.specs.Arrivals.{δ}
 use Rattle.windows.specs.code.Load.{onceLimit, Load, rowIn, ownOf, demandIn, Sound}
 use Rattle.packing.specs.Packing.{combinations}
 use Rattle.misses.specs.Bad.{over}
@@ -14,7 +15,7 @@ use Rattle.misses.specs.declared.Settled.{Settled}
 
 -- a set that costs so much is bad, by the demand of a load
 abbrev pub overWith : Load → ℕ → ℕ → Bool
-overWith l close cost = over (demandIn l) (ownOf l) (rowIn l .deadline) close cost
+overWith l close cost = over (demandIn l) (δ (ownOf l)) (rowIn l .deadline) close cost
 
 -- no set costs so much
 abbrev pub beyond : ℕ

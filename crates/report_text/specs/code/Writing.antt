@@ -5,6 +5,7 @@ use mathlib.Core.List.{List, [], _++_}
 use mathlib.Core.Logic.{_⊎_}
 use Rattle.table.specs.Find.{rowOf}
 use Rattle.table.specs.declared.Table.{Table}
+use Rattle.arrivals.specs.Arrivals.{δ}
 use Rattle.windows.specs.Demand.{viewsOf}
 use Rattle.windows.specs.Latency.{boundOf}
 use Rattle.windows.specs.declared.Answer.{Answer as Latency}
@@ -18,7 +19,7 @@ pub record Bounded (latency : Latency) : Type 0 where
 
 -- the line of a chain of a table, by its number, and the lines of the first n chains
 abbrev pub lineIn : Table → ℕ → List ℕ
-lineIn t chain = lineText (rowOf t chain .id) (boundOf (rowOf t chain) (viewsOf t chain) .answer) (missesAt t chain missRun)
+lineIn t chain = lineText (rowOf t chain .id) (boundOf δ (rowOf t chain) (viewsOf t chain) .answer) (missesAt t chain missRun)
 
 unfoldable pub linesIn : Table → ℕ → List ℕ
 linesIn t zero = []

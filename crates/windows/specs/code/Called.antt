@@ -10,7 +10,7 @@ use Rattle.windows.specs.code.Load.{Load, rowIn, ownOf, demandIn, Sound}
 
 -- with that cost more, the demand is above some t up to `close` where an activation is due
 abbrev pub aboveIn : Load → ℕ → ℕ → Bool
-aboveIn l close cost = anyAbove (λ q t. demandIn l q t + cost) (ownOf l) (rowIn l .deadline) close
+aboveIn l close cost = anyAbove (λ q t. demandIn l q t + cost) (δ (ownOf l)) (rowIn l .deadline) close
 
 -- what is asked for: each activation up to `close` starts within the horizon
 pub record Starts (l : Load) (close : ℕ) : Type 0 where

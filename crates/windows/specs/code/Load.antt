@@ -16,7 +16,7 @@ use Rattle.table.specs.declared.Row.{Row}
 use Rattle.table.specs.declared.Table.{Table}
 use Rattle.table.specs.code.Listed.{distancesFrom, Lists}
 use Rattle.table.specs.code.Taken.{Taken, Stands}
-use Rattle.arrivals.specs.Arrivals.{η}
+use Rattle.arrivals.specs.Arrivals.{δ, η}
 use Rattle.segments.specs.Tasks.{floorOf}
 use Rattle.segments.specs.View.{View, viewOf}
 use Rattle.segments.specs.code.Held.{dearest}
@@ -88,10 +88,10 @@ demandIn l q t = q * l .cost + (η (ownOf l) t - q) * l .part + l .once + heldOf
 
 -- what its windows give, and whether one up to `close` is over the deadline
 abbrev pub windowsIn : Load → Windows
-windowsIn l = windowsOf (demandIn l) (ownOf l) (rowIn l .deadline)
+windowsIn l = windowsOf (demandIn l) (δ (ownOf l)) (rowIn l .deadline)
 
 abbrev pub overIn : Load → ℕ → Bool
-overIn l close = anyOver (demandIn l) (ownOf l) (rowIn l .deadline) close
+overIn l close = anyOver (demandIn l) (δ (ownOf l)) (rowIn l .deadline) close
 
 -- its parts are within what a table can hold
 pub record Sound (l : Load) : Type 0 where
@@ -131,7 +131,7 @@ viewsFrom others s at span = viewsBetween others (tableOf s) (rowAt s at) (span 
 pub record Adds (v : View) (x : Term) : Type 0 where
   pub rate : x .rate ≤ dearest
   pub once : x .once ≤ dearest
-  pub term : (t : ℕ) → termOf v t ≡ η (v .list) t * x .rate + x .once
+  pub term : (t : ℕ) → termOf δ v t ≡ η (v .list) t * x .rate + x .once
 
 -- what is asked for where the chains of a span are to stand beside a load: room for all of them
 pub record Joins (s : List ℕ) (span : Span) (floor : ℕ) (own : Own) (held : List ℕ) : Type 0 where
@@ -151,7 +151,7 @@ pub record Joined (l : Load) (vs : List View) (r : Load) : Type 0 where
   pub at : r .at ≡ l .at
   pub count : r .count ≤ l .count + length vs
   pub once : r .once ≤ l .once + length vs * dearest
-  pub demand : (q t : ℕ) → demandIn r q t ≡ demandIn l q t + sumOf (λ v. termOf v t) vs
+  pub demand : (q t : ℕ) → demandIn r q t ≡ demandIn l q t + sumOf (λ v. termOf δ v t) vs
 
 -- l is the load of b beside the chains of these views
 pub record Loads (b : Row) (vs : List View) (l : Load) : Type 0 where
@@ -159,4 +159,4 @@ pub record Loads (b : Row) (vs : List View) (l : Load) : Type 0 where
   pub chain : rowIn l ≡ b
   pub count : l .count ≤ length vs
   pub once : l .once ≤ length vs * dearest
-  pub demand : (q t : ℕ) → demandIn l q t ≡ demandOf b vs q t
+  pub demand : (q t : ℕ) → demandIn l q t ≡ demandOf δ b vs q t

@@ -5,6 +5,7 @@ use denote.Ref.{now}
 use Rattle.table.specs.Find.{rowOf}
 use Rattle.table.specs.declared.Table.{Table}
 use Rattle.table.specs.Read.{tableOf}
+use Rattle.arrivals.specs.Arrivals.{δ}
 use Rattle.windows.specs.Demand.{viewsOf}
 use Rattle.windows.specs.declared.Answer.{Answer as Bound}
 use Rattle.misses.specs.Misses.{overloadsOf, byBound}
@@ -21,7 +22,7 @@ t s = tableOf (now (s .args .s))
 
 -- what an answer of the windows gives
 abbrev given : tie.Start → Bound → Answer
-given s x = byBound (testOf (s .args .how)) (rowOf (t s) (s .args .chain)) (viewsOf (t s) (s .args .chain)) (overloadsOf (t s) (s .args .chain)) (s .args .k) x (s .args .w .last)
+given s x = byBound δ (testOf (s .args .how)) (rowOf (t s) (s .args .chain)) (viewsOf (t s) (s .args .chain)) (overloadsOf (t s) (s .args .chain)) (s .args .k) x (s .args .w .last)
 
 enum-known-answer : tie.Need-enum-known-answer
 enum-known-answer c = search needs

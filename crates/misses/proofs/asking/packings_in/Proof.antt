@@ -9,6 +9,7 @@ use Rattle.table.specs.declared.Table.{Table}
 use Rattle.table.specs.Read.{tableOf}
 use Rattle.table.proofs.Finds.{find-le}
 use Rattle.table.proofs.Stands.{row-there, stands}
+use Rattle.arrivals.specs.Arrivals.{δ}
 use Rattle.misses.specs.Bad.{Test}
 use Rattle.misses.specs.Misses.{earlyOf, testedAt, testedIn}
 use Rattle.misses.specs.code.Packings.{testOf}
@@ -36,11 +37,11 @@ module _ (c : tie.Else1) where
   there = omega (arith, find-le (t start) (start .args .id), c .before .before .find .ensures, c .before .count .ensures, c .if1 .left)
 
   -- and what is asked is asked of it
-  found : testedAt test (t start) chain (start .args .k) ≡ testedIn test (t start) (start .args .id) (start .args .k)
+  found : testedAt δ test (t start) chain (start .args .k) ≡ testedIn δ test (t start) (start .args .id) (start .args .k)
   found =
       let f = c .before .before .find .ensures in
-      ap (λ j. testedAt test (t start) j (start .args .k)) f
-      ∙ sym (chain-found test (t start) (start .args .id) (start .args .k) (λ e. c .if1 .left (f ∙ e ∙ sym (c .before .count .ensures))))
+      ap (λ j. testedAt δ test (t start) j (start .args .k)) f
+      ∙ sym (chain-found δ test (t start) (start .args .id) (start .args .k) (λ e. c .if1 .left (f ∙ e ∙ sym (c .before .count .ensures))))
 
 -- what is refused of it before any window
 module _ (c : tie.After-early) where
@@ -64,7 +65,7 @@ returns c =
     let i = c .before in
     let s = i .before .before .before .before in
     leads-answered (c .answered .ensures)
-    (sym (chain-none (testOf (s .args .how)) (t s) (s .args .id) (s .args .k) (sym (i .before .before .find .ensures) ∙ i .if1 .taken ∙ i .before .count .ensures)))
+    (sym (chain-none δ (testOf (s .args .how)) (t s) (s .args .id) (s .args .k) (sym (i .before .before .find .ensures) ∙ i .if1 .taken ∙ i .before .count .ensures)))
 
 place-requires : tie.Need-place-requires
 place-requires c κs = (start c .pre, omega (arith, there c))

@@ -6,6 +6,7 @@ use denote.Ref.{now}
 use Rattle.table.specs.Read.{readTable}
 use Rattle.table.specs.declared.Verdict.the-variants.{Accepted}
 use Rattle.table.proofs.Accepted.{taken}
+use Rattle.arrivals.specs.Arrivals.{δ}
 use Rattle.misses.specs.code.Packings.{testOf}
 use Rattle.misses.proofs.Answers.{tested-refused, tested-accepted}
 use Rattle.misses.proofs.Leading.{leads-answered, leads-same}
@@ -33,14 +34,14 @@ answered-requires c κs = search needs
 returns : tie.Need-returns
 returns c =
     let a = c .before .before .before .before .before .args in
-    leads-same (c .packings-in .ensures) (sym (tested-accepted (testOf (a .how)) (now (a .table)) (a .id) (a .k) (accepted (c .before))))
+    leads-same (c .packings-in .ensures) (sym (tested-accepted δ (testOf (a .how)) (now (a .table)) (a .id) (a .k) (accepted (c .before))))
 
 returns-2 : tie.Need-returns-2
 returns-2 c =
     let a = c .before .before .before .before .before .before .args in
     let g = c .before .before .n .given in
     leads-answered (c .answered .ensures)
-    (sym (tested-refused (testOf (a .how)) (now (a .table)) (a .id) (a .k) (sym (c .before .before .before .before .judge .ensures) ∙ g .1)))
+    (sym (tested-refused δ (testOf (a .how)) (now (a .table)) (a .id) (a .k) (sym (c .before .before .before .before .judge .ensures) ∙ g .1)))
 
 pub packings-of-spec : {M : Type 1} → statement M
 packings-of-spec =

@@ -6,6 +6,7 @@ use denote.Ref.{now}
 use Rattle.table.specs.Read.{readTable}
 use Rattle.table.specs.declared.Verdict.the-variants.{Accepted}
 use Rattle.table.proofs.Accepted.{taken}
+use Rattle.arrivals.specs.Arrivals.{δ}
 use Rattle.misses.specs.Bad.{byWindows}
 use Rattle.misses.proofs.Answers.{tested-refused, tested-accepted}
 use Rattle.misses.proofs.counting.misses.Statement.{statement}
@@ -32,12 +33,12 @@ enum-known-n c = search needs
 returns : tie.Need-returns
 returns c =
     let a = c .before .before .before .before .before .before .args in
-    c .packed .ensures ∙ c .before .packings-in .ensures .is ∙ sym (tested-accepted byWindows (now (a .table)) (a .id) (a .k) (accepted (c .before .before)))
+    c .packed .ensures ∙ c .before .packings-in .ensures .is ∙ sym (tested-accepted δ byWindows (now (a .table)) (a .id) (a .k) (accepted (c .before .before)))
 
 returns-2 : tie.Need-returns-2
 returns-2 c =
     let a = c .before .before .before .before .before .args in
-    sym (tested-refused byWindows (now (a .table)) (a .id) (a .k) (sym (c .before .before .before .judge .ensures) ∙ c .before .n .given .1))
+    sym (tested-refused δ byWindows (now (a .table)) (a .id) (a .k) (sym (c .before .before .before .judge .ensures) ∙ c .before .n .given .1))
 
 pub misses-spec : {M : Type 1} → statement M
 misses-spec =

@@ -8,6 +8,7 @@ use Rattle.table.specs.Record.{rowAt}
 use Rattle.table.specs.Read.{tableOf}
 use Rattle.table.specs.declared.Row.{Row}
 use Rattle.table.proofs.Stands.{row-there, stands}
+use Rattle.arrivals.specs.Arrivals.{δ}
 use Rattle.windows.specs.Demand.{viewsOf}
 use Rattle.windows.specs.Latency.{boundOf}
 use Rattle.misses.specs.Misses.{missesAt}
@@ -78,8 +79,8 @@ returns c =
     let w = c .before .before .before .before .before .before .before .before .before .before .put-decimal .ensures in
     let a = c .before .before .before .before .before .before .put-answers .ensures in
     let n = c .before .before .put-byte in
-    let e : lineText (id .result) (x .result .answer) (m .result) ≡ lineText (rowOf t chain .id) (boundOf (rowOf t chain) (viewsOf t chain) .answer) (missesAt t chain missRun) =
-    ap₂ (λ (k : ℕ) (q : Windows). lineText k (q .answer) (m .result)) (id-is (c .before .before .before .before .before .before .before .before .before .before .before)) (x .ensures) ∙ ap (lineText (rowOf t chain .id) (boundOf (rowOf t chain) (viewsOf t chain) .answer)) (m .ensures) in (
+    let e : lineText (id .result) (x .result .answer) (m .result) ≡ lineText (rowOf t chain .id) (boundOf δ (rowOf t chain) (viewsOf t chain) .answer) (missesAt t chain missRun) =
+    ap₂ (λ (k : ℕ) (q : Windows). lineText k (q .answer) (m .result)) (id-is (c .before .before .before .before .before .before .before .before .before .before .before)) (x .ensures) ∙ ap (lineText (rowOf t chain .id) (boundOf δ (rowOf t chain) (viewsOf t chain) .answer)) (m .ensures) in (
       subst (λ l. Wrote (now (s .args .out)) (s .args .at) l (n .last .0) (n .result)) e (wrote-on (wrote-on w (a .0)) (n .ensures)),
       omega (arith, w .ends, a .1, n .ensures .ends, decimal-fits (id .result) (omega (arith, id .ensures .1))),
     )

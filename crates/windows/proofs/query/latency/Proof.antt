@@ -5,6 +5,7 @@ use borrow.Author.Needs.{needs}
 use Rattle.table.specs.Read.{readTable}
 use Rattle.table.specs.declared.Verdict.the-variants.{Accepted}
 use Rattle.table.proofs.Accepted.{taken}
+use Rattle.arrivals.specs.Arrivals.{δ}
 use Rattle.windows.proofs.Answers.{latency-refused, latency-accepted}
 use Rattle.windows.proofs.query.latency.Statement.{statement}
 use Rattle.windows.proofs.query.latency.Tie as tie
@@ -25,12 +26,12 @@ enum-known-n : tie.Need-enum-known-n
 enum-known-n c = search needs
 
 returns : tie.Need-returns
-returns c = let a = c .before .before .before .before .before .args in c .latency-in .ensures ∙ sym (latency-accepted (a .table .now) (a .id) (accepted (c .before)))
+returns c = let a = c .before .before .before .before .before .args in c .latency-in .ensures ∙ sym (latency-accepted δ (a .table .now) (a .id) (accepted (c .before)))
 
 returns-2 : tie.Need-returns-2
 returns-2 c =
     let a = c .before .before .before .before .before .args in
-    sym (latency-refused (a .table .now) (a .id) (sym (c .before .before .before .judge .ensures) ∙ c .before .n .given .1))
+    sym (latency-refused δ (a .table .now) (a .id) (sym (c .before .before .before .judge .ensures) ∙ c .before .n .given .1))
 
 pub latency-spec : {M : Type 1} → statement M
 latency-spec =

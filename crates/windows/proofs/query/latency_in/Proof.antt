@@ -4,6 +4,7 @@ use native.Mathlib.Omega.{arith}
 use borrow.Author.Needs.{needs}
 use Rattle.table.specs.Read.{tableOf}
 use Rattle.table.proofs.Finds.{find-le}
+use Rattle.arrivals.specs.Arrivals.{δ}
 use Rattle.windows.specs.Latency.{boundAt}
 use Rattle.windows.proofs.Answers.{chain-none, chain-found}
 use Rattle.windows.proofs.query.latency_in.Statement.{statement}
@@ -18,7 +19,7 @@ count-requires c κs = search needs
 returns : tie.Need-returns
 returns c =
     let a = c .before .before .before .before .args in
-    sym (chain-none (tableOf (a .s .now)) (a .id) (sym (c .before .before .find .ensures) ∙ c .if1 .taken ∙ c .before .count .ensures))
+    sym (chain-none δ (tableOf (a .s .now)) (a .id) (sym (c .before .before .find .ensures) ∙ c .if1 .taken ∙ c .before .count .ensures))
 
 bound-requires : tie.Need-bound-requires
 bound-requires c κs =
@@ -31,8 +32,8 @@ returns-2 c =
     let t = tableOf (a .s .now) in
     let f = c .before .before .before .find .ensures in
     ap (λ w. w .answer) (c .bound .ensures)
-    ∙ ap (λ j. boundAt t j .answer) f
-    ∙ sym (chain-found t (a .id) (λ e. c .before .if1 .left (f ∙ e ∙ sym (c .before .before .count .ensures))))
+    ∙ ap (λ j. boundAt δ t j .answer) f
+    ∙ sym (chain-found δ t (a .id) (λ e. c .before .if1 .left (f ∙ e ∙ sym (c .before .before .count .ensures))))
 
 pub latency-in-spec : {M : Type 1} → statement M
 latency-in-spec =

@@ -34,7 +34,7 @@ module _ (c : tie.After-delta Inv-loop μ-loop) where
   abbrev t : ℕ
   t = c .delta .result + c .before .before .before .deadline-at .result
 
-  due-is : t ≡ due (ownOf (load start)) (rowIn (load start) .deadline) (head .loop .done + 1)
+  due-is : t ≡ due (δ (ownOf (load start))) (rowIn (load start) .deadline) (head .loop .done + 1)
   unfolding rowAt
   due-is =
       ap₂ _+_

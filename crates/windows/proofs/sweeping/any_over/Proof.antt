@@ -22,7 +22,7 @@ use Rattle.windows.proofs.sweeping.any_over.Tie as tie
 
 abbrev Inv-loop : tie.InvT-loop
 Inv-loop s own held close deadline counts₀ start₀ done₀ counts start done =
-    (done ≤ close) × Swept (demandIn (loadOf s own held)) (ownOf (loadOf s own held)) deadline done start × Counted (loadOf s own held) start counts
+    (done ≤ close) × Swept (demandIn (loadOf s own held)) (δ (ownOf (loadOf s own held))) deadline done start × Counted (loadOf s own held) start counts
 
 abbrev μ-loop : tie.MeasureT-loop
 μ-loop s own held close deadline counts₀ start₀ done₀ counts start done = close - done
@@ -54,7 +54,7 @@ deadline-le c = omega (arith, deadline-is c, c .before .before .pre .0 .stands .
 
 -- what is said of it is said of the load
 abbrev over-by : tie.At-loop Inv-loop μ-loop → ℕ → Bool
-over-by h d = anyOver (demand (entry h)) (ownOf (load (entry h))) d (entry h .args .close)
+over-by h d = anyOver (demand (entry h)) (δ (ownOf (load (entry h)))) d (entry h .args .close)
 
 told : (h : tie.At-loop Inv-loop μ-loop) → over-by h (dated h .deadline-at .result) ≡ over-by h (rowAt (entry h .args .s .now) (entry h .args .own .at) .deadline)
 told h = ap (over-by h) (deadline-is (dated h))
@@ -90,7 +90,7 @@ returns : tie.Need-returns Inv-loop μ-loop
 returns c =
     let h = c .before .before .before .before .before in
     let s = entry h in
-    sym (swept-none (demand s) (ownOf (load s)) (dated h .deadline-at .result) (s .args .close) (h .loop .done) (c .before .before .before .before .loop-test .taken)
+    sym (swept-none (demand s) (δ (ownOf (load s))) (dated h .deadline-at .result) (s .args .close) (h .loop .done) (c .before .before .before .before .loop-test .taken)
     (sym (c .before .before .climb .ensures .window) ∙ c .enum-told .given .1)) ∙ told h
 
 delta-requires : tie.Need-delta-requires Inv-loop μ-loop
@@ -117,7 +117,7 @@ returns-2 c =
     let f = c .before .before in
     let h = head f in
     let s = entry h in
-    sym (swept-past (demand s) (ownOf (load s)) (dated h .deadline-at .result) (s .args .close) (h .loop .done) (f .before .before .before .before .before .loop-test .taken) _ (at f)
+    sym (swept-past (demand s) (δ (ownOf (load s))) (dated h .deadline-at .result) (s .args .close) (h .loop .done) (f .before .before .before .before .before .loop-test .taken) _ (at f)
     (omega (arith, starts (c .before), c .if1 .taken))) ∙ told h
 
 add-done : tie.Need-add-done Inv-loop μ-loop
@@ -132,7 +132,7 @@ loop-again c =
     let h = head f in
     let s = entry h in (
       omega (arith, f .before .before .before .before .before .loop-test .taken),
-      swept-on (demand s) (ownOf (load s)) (dated h .deadline-at .result) (s .args .close) (h .loop .done) (f .before .before .before .before .before .loop-test .taken) _ (at f)
+      swept-on (demand s) (δ (ownOf (load s))) (dated h .deadline-at .result) (s .args .close) (h .loop .done) (f .before .before .before .before .before .loop-test .taken) _ (at f)
           (load-growing (load s) (s .pre .0)) (h .loop .start) (h .loop .inv .1) (omega (arith, starts (c .before), c .if1 .left)),
       f .before .before .before .climb .ensures .counted _ (f .before .w .given .1),
     )
@@ -142,7 +142,7 @@ returns-3 c =
     let h = c .before in
     let s = entry h in
     let e : h .loop .done ≡ s .args .close = omega arith in
-    sym (h .loop .inv .1 .none) ∙ ap (anyOver (demand s) (ownOf (load s)) (dated h .deadline-at .result)) e ∙ told h
+    sym (h .loop .inv .1 .none) ∙ ap (anyOver (demand s) (δ (ownOf (load s))) (dated h .deadline-at .result)) e ∙ told h
 
 pub any-over-spec : {M : Type 1} → statement M
 any-over-spec =

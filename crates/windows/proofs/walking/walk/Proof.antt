@@ -1,7 +1,6 @@
 -- `walk` meets its contract. The loop's invariant is where the walk stands (`Walk`) and what is counted. The measure is how many activations are left.
 use Prim.Native.Nat.{ℕ, _+_, _-_, _≤_, _<_}
 use mathlib.Core.Path.{_≡_, ap, sym, _∙_}
-use mathlib.Core.List.{List}
 use native.Mathlib.Omega.{arith}
 use borrow.Author.Needs.{needs}
 use mir.Val.{toZ, ofZ}
@@ -10,6 +9,7 @@ use mir.Facts.{toZ-ofZ}
 use Rattle.table.specs.Limits.{horizon, maxActivations, maxDeadline}
 use Rattle.table.specs.Record.{rowAt}
 use Rattle.arrivals.specs.Arrivals.{δ}
+use Rattle.arrivals.proofs.Distances.{δ-one}
 use Rattle.windows.specs.Window.{windowOf}
 use Rattle.windows.specs.Latency.{marginOf, windowsOf}
 use Rattle.windows.specs.code.Load.{Load, loadOf, ownOf, demandIn}
@@ -25,7 +25,7 @@ use Rattle.windows.proofs.walking.walk.Tie as tie
 
 abbrev Inv-loop : tie.InvT-loop
 Inv-loop s own held deadline counts₀ done₀ start₀ behind₀ latency₀ late₀ counts done start behind latency late =
-    Walk (demandIn (loadOf s own held)) (ownOf (loadOf s own held)) deadline done start behind latency late
+    Walk (demandIn (loadOf s own held)) (δ (ownOf (loadOf s own held))) deadline done start behind latency late
     × Counted (loadOf s own held) start counts
 
 abbrev μ-loop : tie.MeasureT-loop
@@ -38,8 +38,8 @@ load c = loadOf (c .args .s .now) (c .args .own) (c .args .held .now)
 abbrev demand : tie.Start Inv-loop μ-loop → ℕ → ℕ → ℕ
 demand c = demandIn (load c)
 
-abbrev own : tie.Start Inv-loop μ-loop → List ℕ
-own c = ownOf (load c)
+abbrev own : tie.Start Inv-loop μ-loop → ℕ → ℕ
+own c = δ (ownOf (load c))
 
 growing : (c : tie.Start Inv-loop μ-loop) → Growing (demand c)
 growing c = load-growing (load c) (c .pre)
@@ -82,7 +82,7 @@ deadline-at-requires c κs = omega (arith, c .before .pre .stands .there)
 loop-holds : tie.Need-loop-holds Inv-loop μ-loop
 loop-holds c =
     let s = c .before .before in
-    (walk-start (demand s) (own s) (c .deadline-at .result) (s .pre .stands .good .list), counted-none (load s) 1 (s .pre))
+    (walk-start (demand s) (own s) (c .deadline-at .result) (δ-one (s .pre .stands .good .list)), counted-none (load s) 1 (s .pre))
 
 add-q : tie.Need-add-q Inv-loop μ-loop
 add-q c = search needs
@@ -127,7 +127,7 @@ delta-requires : tie.Need-delta-requires Inv-loop μ-loop
 delta-requires c κs = let h = head c in let s = entry h in (own-lists (load s) (s .pre), omega arith, omega arith)
 
 -- when the next activation starts, by the chain's own list
-starts : (c : tie.After-delta Inv-loop μ-loop) → c .delta .result ≡ δ (own (entry (head (c .before)))) (head (c .before) .loop .done + 1 + 1)
+starts : (c : tie.After-delta Inv-loop μ-loop) → c .delta .result ≡ own (entry (head (c .before))) (head (c .before) .loop .done + 1 + 1)
 starts c =
     let h = head (c .before) in
     let s = entry h in
