@@ -14,14 +14,14 @@ use Rattle.search.proofs.Choice.{lt-or-le, when-yes, when-no}
 use Rattle.table.specs.Limits.{maxDistances, maxDistance}
 use Rattle.table.specs.code.Good.{GoodDistances}
 use Rattle.arrivals.specs.Arrivals.{asListed, repeated, δ, countBy, η, Best}
-use Rattle.arrivals.specs.code.Settling.{AddsUp, Better, headOf, places, SumsAt, Settled, Tried, FirstFrom}
+use Rattle.arrivals.specs.code.Sums.{AddsUp, Better, headOf, places, SumsAt, FirstSum, GreatestTo, FirstFrom}
 use Rattle.arrivals.proofs.Blocks.{multiple}
 use Rattle.arrivals.proofs.Sums.{δ-none, δ-step, δ-last}
 use Rattle.arrivals.proofs.Rules.{count-fewer}
 use Rattle.arrivals.proofs.Repeating.{repeated-lawful}
 use Rattle.arrivals.proofs.Lists.{last-above}
 use Rattle.arrivals.proofs.Distances.{δ-mono, δ-above, δ-lawful, δ-far}
-use Rattle.arrivals.proofs.Settling.{settles, settled, adds-up-is}
+use Rattle.arrivals.proofs.Closed.{best-last, best-steps, adds-up-is}
 use Rattle.arrivals.proofs.Counts.{η-some, η-counts, η-stops, η-zero}
 
 -- a place among the eight
@@ -87,11 +87,11 @@ module _ (ds : List ℕ) where
       (b .0, best-all (length ds - 1 + 2) (b .0) (omega arith) (b .1))
 
   -- the last steps one after the other
-  pub tried-none : (m : ℕ) → Tried ds m 1 0
-  tried-none m = record { within = zero-le; each = λ i l h. absurd (omega arith); none = λ e. refl; one = λ h. absurd (omega arith) }
+  pub last-none : (m : ℕ) → GreatestTo ds m 1 0
+  last-none m = record { within = zero-le; each = λ i l h. absurd (omega arith); none = λ e. refl; one = λ h. absurd (omega arith) }
 
-  pub tried-on : (m j best x : ℕ) → 1 ≤ j → j ≤ length ds → j ≤ m → Tried ds m j best → x ≡ δ ds (suc (m - j)) → Tried ds m (j + 1) (max best (asListed ds j + x))
-  tried-on m j best x l h k t e =
+  pub last-on : (m j best x : ℕ) → 1 ≤ j → j ≤ length ds → j ≤ m → GreatestTo ds m j best → x ≡ δ ds (suc (m - j)) → GreatestTo ds m (j + 1) (max best (asListed ds j + x))
+  last-on m j best x l h k t e =
       let f : j + (m - j) ≡ m = omega arith in
       let step : asListed ds j + x ≤ δ ds (suc m) = omega (arith, e, δ-step ds j (m - j) l h, ap (λ n. δ ds (suc n)) f) in
       let this : best ≤ asListed ds j + x → (i : ℕ) × (1 ≤ i) × (i < j + 1) × (max best (asListed ds j + x) ≡ asListed ds i + δ ds (suc (m - i))) =
@@ -112,8 +112,8 @@ module _ (ds : List ℕ) where
             (eq-or-lt-of-le l);
       }
 
-  pub tried-all : (m j best : ℕ) → 1 ≤ length ds → 1 ≤ m → j ≡ min (length ds) m + 1 → Tried ds m j best → best ≡ δ ds (suc m)
-  tried-all m j best some l e t =
+  pub last-all : (m j best : ℕ) → 1 ≤ length ds → 1 ≤ m → j ≡ min (length ds) m + 1 → GreatestTo ds m j best → best ≡ δ ds (suc m)
+  last-all m j best some l e t =
       let r = δ-last ds some m l in
       le-antisymm (t .within) (omega (arith, r .4, t .each (r .0) (r .1) (omega (arith, e, r .2, r .3))))
 
@@ -162,15 +162,15 @@ module _ (ds : List ℕ) where
 
 module _ {ds : List ℕ} (good : GoodDistances ds) where
   -- up to a sum that none has
-  pub settled-all : (t most r : ℕ) → most ≤ places → places * maxDistance < t → Settled ds t most r → r ≡ most
-  settled-all t most r few never s = ⊎-elim
+  pub first-all : (t most r : ℕ) → most ≤ places → places * maxDistance < t → FirstSum ds t most r → r ≡ most
+  first-all t most r few never s = ⊎-elim
       (λ e. e)
       (λ h. absurd (omega (arith, h, δ-far good r, s .high, few, never)))
       (s .ends)
 
   -- it is a count
-  pub settled-min : (t most r : ℕ) → Settled ds t most r → r ≡ min (η ds t) most
-  settled-min t most r s = ⊎-elim (λ e. omega (arith, e, all)) (λ h. omega (arith, all, s .high, stops h)) (s .ends)
+  pub first-min : (t most r : ℕ) → FirstSum ds t most r → r ≡ min (η ds t) most
+  first-min t most r s = ⊎-elim (λ e. omega (arith, e, all)) (λ h. omega (arith, all, s .high, stops h)) (s .ends)
     where
       all : r ≤ η ds t
       all = ⊎-elim
@@ -224,7 +224,7 @@ module _ {ds : List ℕ} (good : GoodDistances ds) where
           let e : m + 1 ≡ suc (whole * s + (m - whole * s)) = omega (arith, whole-within) in
           let f : suc (m - whole * s) ≡ m - whole * s + 1 = omega arith in
           let past : headOf ds s < m - whole * s + s = omega (arith, ticks, mul-pos some (best .low), whole-within) in
-          ap (δ ds) e ∙ settled ds best whole (m - whole * s) past ∙ ap (λ n. whole * asListed ds s + δ ds n) f)
+          ap (δ ds) e ∙ best-steps ds best whole (m - whole * s) past ∙ ap (λ n. whole * asListed ds s + δ ds n) f)
           (λ none.
           let z : whole ≡ 0 = omega (arith, none) in
           let e : m - whole * s + 1 ≡ m + 1 = omega (arith, ap (λ n. n * s) z) in
@@ -238,12 +238,12 @@ module _ {ds : List ℕ} (good : GoodDistances ds) where
         none-more : η ds t ≤ whole * s + r
         none-more =
             let f : suc (whole * s + r) ≡ whole * s + r + 1 = omega arith in
-            η-stops good (whole * s + r) t (omega (arith, e, reaches, settled ds best whole r (omega (arith, past)), ap (δ ds) f))
+            η-stops good (whole * s + r) t (omega (arith, e, reaches, best-steps ds best whole r (omega (arith, past)), ap (δ ds) f))
 
         all-there : whole * s + r ≤ η ds t
         all-there =
             let f : suc (whole * s + (r - 1)) ≡ whole * s + (r - 1) + 1 = omega arith in
-            omega (arith, some, η-counts good (whole * s + (r - 1)) t (omega (arith, e, before, settled ds best whole (r - 1) past, ap (δ ds) f)))
+            omega (arith, some, η-counts good (whole * s + (r - 1)) t (omega (arith, e, before, best-steps ds best whole (r - 1) past, ap (δ ds) f)))
 
     -- where t lies past the head, whose next sum is known
     module _ (t sum whole : ℕ) (reached : sum ≡ δ ds (suc (head + 1))) (past : δ ds (suc head) < t) (is : whole ≡ (t + asListed ds s - 1 - sum) / asListed ds s) where
@@ -251,7 +251,7 @@ module _ {ds : List ℕ} (good : GoodDistances ds) where
       spans = ap (λ n. n * asListed ds s + (t + asListed ds s - 1 - sum) % asListed ds s) is ∙ div-add-mod' (t + asListed ds s - 1 - sum) (asListed ds s)
 
       earlier : sum ≡ asListed ds s + δ ds (suc (head + 1 - s))
-      earlier = reached ∙ settles ds best (head + 1) (omega arith)
+      earlier = reached ∙ best-last ds best (head + 1) (omega arith)
 
       pub spans-within : whole * asListed ds s ≤ t
       spans-within = omega (arith, spans, earlier)
@@ -268,8 +268,8 @@ module _ {ds : List ℕ} (good : GoodDistances ds) where
       left-all : whole ≡ 0 → left ≡ t
       left-all z = omega (arith, ap (λ n. n * asListed ds s) z)
 
-      pub η-settled : (sums : List ℕ) (r : ℕ) → SumsAt ds (head + 1) sums → FirstFrom sums (head + 1 + 1 - s) (head + 1) left r → η ds t ≡ whole * s + r
-      η-settled sums r at f = η-at t left whole r (omega (arith, spans-within)) (omega (arith, f .low, best .high)) (omega (arith, f .low, best .low)) before reaches
+      pub η-past : (sums : List ℕ) (r : ℕ) → SumsAt ds (head + 1) sums → FirstFrom sums (head + 1 + 1 - s) (head + 1) left r → η ds t ≡ whole * s + r
+      η-past sums r at f = η-at t left whole r (omega (arith, spans-within)) (omega (arith, f .low, best .high)) (omega (arith, f .low, best .low)) before reaches
         where
           here : (i : ℕ) → head + 1 + 1 - s ≤ i → i ≤ head + 1 → getD sums (i % maxDistances) 0 ≡ δ ds (suc i)
           here i low high = at .at i high (omega (arith, low, best .high, good .few))
@@ -295,7 +295,7 @@ module _ {ds : List ℕ} (good : GoodDistances ds) where
   δ-single one m =
       let best : Best ds 1 = record { low = le-refl 1; high = good .some; best = λ j l h. let e : j ≡ 1 = omega arith in omega (arith, ap (λ k. asListed ds k * 1) e, ap (λ k. asListed ds 1 * k) e) } in
       let e : m + 1 ≡ suc (m * 1 + 0) = omega arith in
-      omega (arith, ap (δ ds) e, settled ds best m 0 (omega arith), δ-none ds)
+      omega (arith, ap (δ ds) e, best-steps ds best m 0 (omega arith), δ-none ds)
 
   -- before the first distance there is one, and in no time none
   pub η-first : (t : ℕ) → t ≤ asListed ds 1 → (1 when ltb 0 t else 0) ≡ η ds t

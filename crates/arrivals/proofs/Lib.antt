@@ -4,7 +4,7 @@ pub mod Blocks
 pub mod Rules
 pub mod Repeating
 pub mod Distances
-pub mod Settling
+pub mod Closed
 pub mod Counts
 pub mod Heads
 pub mod Useful

@@ -13,7 +13,7 @@ use Rattle.search.specs.Choice.{_when_else_}
 use Rattle.search.proofs.Choice.{lt-or-le, when-yes, when-no}
 use Rattle.table.specs.Limits.{maxDistances}
 use Rattle.arrivals.specs.Arrivals.{asListed, δ}
-use Rattle.arrivals.specs.code.Settling.{Tried, Useful, UsefulIn}
+use Rattle.arrivals.specs.code.Sums.{GreatestTo, Useful, UsefulIn}
 use Rattle.arrivals.proofs.Sums.{δ-none, δ-step, δ-last}
 use Rattle.arrivals.proofs.Distances.{δ-adds}
 
@@ -90,7 +90,7 @@ module _ (ds : List ℕ) where
       is = getD-set-same steps 0 1 0 (omega (arith, size))
 
   module _ (m n found shortest : ℕ) (steps : List ℕ) (some : 2 ≤ m) (few : m ≤ length ds) (small : length ds ≤ maxDistances) (before : UsefulIn ds (m - 1) steps n)
-      (tried : Tried ds m m shortest) (is : found ≡ n + (1 when ltb shortest (asListed ds m) else 0)) where
+      (tried : GreatestTo ds m m shortest) (is : found ≡ n + (1 when ltb shortest (asListed ds m) else 0)) where
     abbrev put : List ℕ
     put = set steps n m
 
@@ -145,12 +145,12 @@ module _ (ds : List ℕ) where
         (eq-or-lt-of-le (r .3)))
 
   -- the n useful ones tried, one after the other
-  pub record TriedBy (steps : List ℕ) (m k best : ℕ) : Type 0 where
+  pub record GreatestBy (steps : List ℕ) (m k best : ℕ) : Type 0 where
     pub within : best ≤ δ ds (suc m)
     pub each : (i : ℕ) → i < k → asListed ds (getD steps i 0) + δ ds (suc (m - getD steps i 0)) ≤ best
 
-  pub by-on : (steps : List ℕ) (m k best x : ℕ) → 1 ≤ getD steps k 0 → getD steps k 0 ≤ length ds → getD steps k 0 ≤ m → TriedBy steps m k best → x ≡ δ ds (suc (m - getD steps k 0))
-      → TriedBy steps m (k + 1) (max best (asListed ds (getD steps k 0) + x))
+  pub by-on : (steps : List ℕ) (m k best x : ℕ) → 1 ≤ getD steps k 0 → getD steps k 0 ≤ length ds → getD steps k 0 ≤ m → GreatestBy steps m k best → x ≡ δ ds (suc (m - getD steps k 0))
+      → GreatestBy steps m (k + 1) (max best (asListed ds (getD steps k 0) + x))
   by-on steps m k best x low high within t e =
       let j : ℕ = getD steps k 0 in
       let f : j + (m - j) ≡ m = omega (arith, within) in
@@ -162,7 +162,7 @@ module _ (ds : List ℕ) where
             (eq-or-lt-of-le h);
       }
 
-  pub by-all : (steps : List ℕ) (m n best : ℕ) → 1 ≤ length ds → 1 ≤ m → UsefulIn ds (length ds) steps n → TriedBy steps m n best → best ≡ δ ds (suc m)
+  pub by-all : (steps : List ℕ) (m n best : ℕ) → 1 ≤ length ds → 1 ≤ m → UsefulIn ds (length ds) steps n → GreatestBy steps m n best → best ≡ δ ds (suc m)
   by-all steps m n best some l useful t =
       let r = useful-last some m l in
       let k = useful .all (r .0) (r .1) (r .2) (r .3) in

@@ -1,3 +1,3 @@
 pub mod Bounds
-pub mod Settling
+pub mod Sums
 pub mod WithinList

@@ -4,14 +4,14 @@ use crate::repetition::below;
 use table::Table;
 use table::listed_from;
 ghost use mathlib.Core.Path.{_≡_};
-ghost use mathlib.Core.Logic.{_⊎_};
 ghost use Prim.Native.Nat.{max, min, _+_, _*_, _-_, _≤_, _<_};
 ghost use lib.ListN.{length};
+ghost use Rattle.search.specs.Choice.{Tells};
 ghost use Rattle.table.specs.Limits.{maxDistances};
 ghost use Rattle.table.specs.code.Listed.{listedFrom, distancesFrom, Lists};
-ghost use Rattle.arrivals.specs.Arrivals.{asListed, repeated, δ, η, Best};
+ghost use Rattle.arrivals.specs.Arrivals.{repeated, δ, Best, η};
 ghost use Rattle.arrivals.specs.code.Bounds.{longestSpan, farthest};
-ghost use Rattle.arrivals.specs.code.Settling.{Tells, AddsUp, AddsWith, Better, headOf, places, SumsAt, Settled, Tried, UsefulIn, FirstFrom};
+ghost use Rattle.arrivals.specs.code.Sums.{AddsUp, AddsWith, Better, headOf, places, SumsAt, FirstSum, GreatestTo, UsefulIn, FirstFrom};
 
 // No sum of the head is as large.
 const NEVER: u64 = 1_000_000_000;
@@ -109,7 +109,7 @@ fn best_step(s: &[u8], list: usize) -> usize
 // The greatest sum for m steps whose last is no longer than `most`, by those of the eight numbers before: that of i steps stands at i % 8.
 fn greatest_to(s: &[u8], list: usize, sums: &[u64; Table::DISTANCES], m: usize, most: usize) -> u64
     requires { ⌜ Lists (now s) list × (most ≤ m) × (most ≤ listedFrom (now s) list) × (m ≤ places) × SumsAt (distancesFrom (now s) list) (m - 1) (now sums) ⌝ }
-    ensures { λ r. ⌜ Tried (distancesFrom (now (s .entry)) list) m (most + 1) r ⌝ }
+    ensures { λ r. ⌜ GreatestTo (distancesFrom (now (s .entry)) list) m (most + 1) r ⌝ }
 {
     let mut best: u64 = 0;
     let mut j: usize = 1;
@@ -133,9 +133,15 @@ fn put_sum(s: &[u8], list: usize, sums: &mut [u64; Table::DISTANCES], m: usize)
 }
 
 // The first number of steps whose greatest sum is t or more, or `most`. Its sum is the last that was put.
-fn settle(s: &[u8], list: usize, sums: &mut [u64; Table::DISTANCES], t: u64, most: usize) -> usize
+fn first_sum(
+    s: &[u8],
+    list: usize,
+    sums: &mut [u64; Table::DISTANCES],
+    t: u64,
+    most: usize,
+) -> usize
     requires { ⌜ Lists (now s) list × (most ≤ places) × SumsAt (distancesFrom (now s) list) 0 (now sums) ⌝ }
-    ensures { λ r. ⌜ Settled (distancesFrom (now (s .entry)) list) t most r × SumsAt (distancesFrom (now (s .entry)) list) r (now (sums .exit)) ⌝ }
+    ensures { λ r. ⌜ FirstSum (distancesFrom (now (s .entry)) list) t most r × SumsAt (distancesFrom (now (s .entry)) list) r (now (sums .exit)) ⌝ }
 {
     let mut m: usize = 0;
     while m < most {
@@ -154,7 +160,7 @@ pub fn sum_at(s: &[u8], list: usize, m: usize) -> u64
     ensures { λ r. ⌜ r ≡ δ (distancesFrom (now (s .entry)) list) (m + 1) ⌝ }
 {
     let mut sums = [0u64; Table::DISTANCES];
-    let at = settle(s, list, &mut sums, NEVER, m);
+    let at = first_sum(s, list, &mut sums, NEVER, m);
     sums[at % Table::DISTANCES]
 }
 
@@ -164,7 +170,7 @@ pub fn count_to(s: &[u8], list: usize, t: u64, most: usize) -> usize
     ensures { λ r. ⌜ r ≡ min (η (distancesFrom (now (s .entry)) list) t) most ⌝ }
 {
     let mut sums = [0u64; Table::DISTANCES];
-    settle(s, list, &mut sums, t, most)
+    first_sum(s, list, &mut sums, t, most)
 }
 
 // Puts the sums of the first list in their places, and which steps are useful: those that come to more than shorter ones together. The
@@ -248,7 +254,7 @@ fn head_of(s: &[u8], list: usize, step: usize) -> usize
 }
 
 // δ(m + 1): past the head each best step adds its distance.
-pub fn settled_distance(s: &[u8], list: usize, m: u64) -> u64
+pub fn distance_past(s: &[u8], list: usize, m: u64) -> u64
     requires { ⌜ Lists (now s) list × (listedFrom (now s) list ≤ m) × (m < farthest) ⌝ }
     ensures { λ r. ⌜ r ≡ δ (distancesFrom (now (s .entry)) list) (m + 1) ⌝ }
 {
@@ -275,7 +281,7 @@ fn first_from(sums: &[u64; Table::DISTANCES], from: usize, end: usize, t: u64) -
 }
 
 // η(t), which lies past the first list: in the head place by place; past it by best steps, and what lies inside the remainder.
-pub fn settled_count(s: &[u8], list: usize, t: u64) -> u64
+pub fn count_past(s: &[u8], list: usize, t: u64) -> u64
     requires { ⌜ Lists (now s) list × (listedFrom (now s) list ≤ η (distancesFrom (now s) list) t) × (t ≤ longestSpan) ⌝ }
     ensures { λ r. ⌜ r ≡ η (distancesFrom (now (s .entry)) list) t ⌝ }
 {

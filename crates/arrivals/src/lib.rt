@@ -4,9 +4,9 @@ mod head;
 mod repetition;
 
 use crate::head::adds_up;
+use crate::head::count_past;
 use crate::head::count_to;
-use crate::head::settled_count;
-use crate::head::settled_distance;
+use crate::head::distance_past;
 use crate::head::sum_at;
 use crate::repetition::as_listed;
 use crate::repetition::below;
@@ -44,7 +44,7 @@ fn delta_by_list(s: &[u8], list: usize, m: u64) -> u64
         let before = split(m, listed);
         return repeated_at(s, list, before.lists, before.rest);
     }
-    settled_distance(s, list, m)
+    distance_past(s, list, m)
 }
 
 // δ(n).
@@ -83,7 +83,7 @@ fn eta_past(s: &[u8], list: usize, t: u64) -> u64
     if adds_up(s, list) {
         return repeated_count(s, list, t);
     }
-    settled_count(s, list, t)
+    count_past(s, list, t)
 }
 
 // η(t) where a count past the first list is known. Often it is that, which 01's distance tells, since δ is never below it.

@@ -25,7 +25,7 @@ use Rattle.table.proofs.Largests.{largests-at, largests-long}
 use Rattle.arrivals.proofs.Repeating.{repeated-start, repeated-listed, repeated-rule}
 use Rattle.arrivals.proofs.Sums.{δ-ways}
 use Rattle.arrivals.proofs.Distances.{δ-one, δ-adds, δ-above, δ-good}
-use Rattle.arrivals.proofs.Settling.{settles, adds-up-is}
+use Rattle.arrivals.proofs.Closed.{best-last, adds-up-is}
 use Rattle.arrivals.proofs.Heads.{best-there}
 use Rattle.arrivals.proofs.Counts.{η-zero, η-greatest}
 use Rattle.arrivals.proofs.Lists.{rising}
@@ -250,7 +250,7 @@ module _ {s : List ℕ} {id : ℕ} (h : Has s id) where
         adds = δ-adds (distances b) (g .some);
         former = δ-above g;
         as-before = λ up. adds-up-is g (record { with = λ i low high. record { adds = λ j some less. up i j low high some (omega (arith, less, high)) } });
-        closed = (step .0, step .1, λ n h. rw (add-one, add-one) (settles (distances b) (step .1) n h));
+        closed = (step .0, step .1, λ n h. rw (add-one, add-one) (best-last (distances b) (step .1) n h));
         never = η-zero g;
         greatest = η-greatest g;
       }

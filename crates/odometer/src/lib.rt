@@ -7,10 +7,11 @@ use table::u32_from_u8;
 ghost use mathlib.Core.Path.{_≡_};
 ghost use mathlib.Core.Bool.{Bool, false};
 ghost use Prim.Native.Nat.{ℕ, _+_, _*_, _≤_, _<_, max};
+ghost use Rattle.search.specs.Choice.{Tells};
 ghost use Rattle.table.specs.Limits.{maxOverloads};
 ghost use Rattle.packing.specs.Packing.{bit, combinations};
 ghost use Rattle.packing.specs.Most.{mostUses, flagged, capacity};
-ghost use Rattle.packing.specs.code.Engine.{Tells, maxByte};
+ghost use Rattle.packing.specs.code.Engine.{maxByte};
 ghost use Rattle.odometer.specs.code.Gone.{Gone, Going, GoesOn, usesOf};
 ghost use Rattle.odometer.specs.code.Steps.{Fits, Raisable, Resettable, Changed};
 

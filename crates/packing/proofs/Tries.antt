@@ -1,7 +1,6 @@
 -- How often a kept combination is tried: the uses that come into question, fewer with each try that fails. Assumes nothing.
 use Prim.Native.Nat.{ℕ, zero, suc, _+_, _-_, _*_, _≤_, _<_, min}
 use mathlib.Core.Path.{_≡_, refl, ap, subst}
-use mathlib.Core.Bool.{true, false}
 use mathlib.Core.List.{List}
 use mathlib.Core.Logic.{⊎-elim}
 use native.Mathlib.Omega.{arith}
@@ -9,9 +8,9 @@ use native.Mathlib.Nat.{eq-or-lt-of-le, mul-le-mul-right}
 use lib.Dec.{eqb}
 use borrow.Author.Tests.{eq-eqb, ne-eqb}
 use Rattle.search.specs.Choice.{_when_else_}
-use Rattle.search.proofs.Choice.{when-yes, when-no, true-not-false}
+use Rattle.search.proofs.Choice.{when-yes, when-no}
 use Rattle.packing.specs.Packing.{bit, sumTo}
-use Rattle.packing.specs.code.Engine.{nth, Fitting, Packed, HasRoom, Tells, Ceiling, Choices}
+use Rattle.packing.specs.code.Engine.{nth, Fitting, Packed, HasRoom, Ceiling, Choices}
 use Rattle.packing.proofs.Sums.{sumTo-ext, sumTo-mono, sumTo-zero, sumTo-at}
 
 -- no use always has room
@@ -31,12 +30,6 @@ some-fit (suc k) h = omega arith
 pub empty-fit : {kept : List ℕ} {n k : ℕ} {room : ℕ → ℕ} → n ≡ 0 → HasRoom kept n room k → k ≡ 0
 unfolding sumTo
 empty-fit e g = let h = rw e at g in omega (arith, h .total)
-
-pub tells-so : {P : Type 0} → P → Tells true P
-tells-so p = record { so = λ e. p; not = λ e. absurd (true-not-false refl e) }
-
-pub tells-not : {P : Type 0} → (P → ⊥) → Tells false P
-tells-not n = record { so = λ e. absurd (true-not-false e refl); not = λ e. n }
 
 -- the first uses of a packing, up to `most` in all
 abbrev firstUses : ℕ → (ℕ → ℕ) → ℕ → ℕ

@@ -5,7 +5,7 @@ use mathlib.Core.Bool.{Bool, true, false, _&&_}
 use mathlib.Core.Logic.{_⊎_, inl, inr}
 use native.Mathlib.Omega.{arith}
 use native.Mathlib.Decide.{decLt}
-use Rattle.search.specs.Choice.{_when_else_}
+use Rattle.search.specs.Choice.{_when_else_, Tells}
 
 pub when-yes : {A : Type 0} (x y : A) {t : Bool} → t ≡ true → (x when t else y) ≡ x
 unfolding _when_else_
@@ -40,3 +40,10 @@ both-true false b e = absurd (true-not-false e refl)
 
 pub lt-or-le : (a b : ℕ) → (a < b) ⊎ (b ≤ a)
 lt-or-le a b = elim (decLt a b) [ yes h ↦ inl h | no h ↦ inr (omega arith) ]
+
+-- what a test says
+pub tells-so : {P : Type 0} → P → Tells true P
+tells-so p = record { so = λ e. p; not = λ e. absurd (true-not-false refl e) }
+
+pub tells-not : {P : Type 0} → (P → ⊥) → Tells false P
+tells-not n = record { so = λ e. absurd (true-not-false e refl); not = λ e. n }

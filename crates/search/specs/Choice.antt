@@ -1,5 +1,6 @@
--- One of two, by a test or by a number.
+-- One of two, by a test or by a number, and what a test says.
 use Prim.Native.Nat.{ℕ, zero, suc}
+use mathlib.Core.Path.{_≡_}
 use mathlib.Core.Bool.{Bool, true, false}
 
 infixr 5 _when_else_
@@ -12,3 +13,8 @@ _when_else_ x false y = y
 unfoldable pub byNumber : {A : Type 0} → (ℕ → A) → ℕ → A → A
 byNumber refuse zero answer = answer
 byNumber refuse (suc n) answer = refuse (suc n)
+
+-- b says whether P holds
+pub record Tells (b : Bool) (P : Type 0) : Type 0 where
+  pub so : b ≡ true → P
+  pub not : b ≡ false → P → ⊥

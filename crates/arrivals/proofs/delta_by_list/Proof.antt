@@ -9,7 +9,7 @@ use Rattle.table.specs.code.Listed.{listedFrom, distancesFrom}
 use Rattle.arrivals.specs.Arrivals.{repeated, δ}
 use Rattle.arrivals.proofs.Lists.{split-whole}
 use Rattle.arrivals.proofs.Distances.{δ-near}
-use Rattle.arrivals.proofs.Settling.{adds-up-is}
+use Rattle.arrivals.proofs.Closed.{adds-up-is}
 use Rattle.arrivals.proofs.Heads.{δ-few}
 use Rattle.arrivals.proofs.Rows.{lists-length, lists-some}
 use Rattle.arrivals.proofs.delta_by_list.Statement.{statement}
@@ -68,10 +68,10 @@ returns-3 : tie.Need-returns-3
 returns-3 c =
     let b = c .before in
     let n : b .split .result .lists * listed b + b .split .result .rest + 1 ≡ s b .args .m + 1 = omega (arith, whole b .0) in
-    c .repeated-at .ensures ∙ ap (repeated (ds b)) n ∙ sym (adds-up-is (s b .pre .0 .good) (b .before .before .adds-up .ensures .yes (b .before .if3 .taken)) (s b .args .m + 1))
+    c .repeated-at .ensures ∙ ap (repeated (ds b)) n ∙ sym (adds-up-is (s b .pre .0 .good) (b .before .before .adds-up .ensures .so (b .before .if3 .taken)) (s b .args .m + 1))
 
-settled-distance-requires : tie.Need-settled-distance-requires
-settled-distance-requires c κs =
+distance-past-requires : tie.Need-distance-past-requires
+distance-past-requires c κs =
     let e = c .before .before .before in
     let s = e .before .before .before in
     (s .pre .0, omega (arith, c .before .before .if2 .left, e .listed-from .ensures .0), s .pre .1)
@@ -93,5 +93,5 @@ delta-by-list-spec =
     split-requires
     repeated-at-requires
     returns-3
-    settled-distance-requires
+    distance-past-requires
     returns-4)

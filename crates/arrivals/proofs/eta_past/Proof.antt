@@ -19,10 +19,10 @@ repeated-count-requires c κs =
 returns : tie.Need-returns
 returns c =
     let s = c .before .before .before .before in
-    c .repeated-count .ensures ∙ adds-up-count (s .pre .0 .good) (c .before .before .adds-up .ensures .yes (c .before .if1 .taken)) (s .args .t)
+    c .repeated-count .ensures ∙ adds-up-count (s .pre .0 .good) (c .before .before .adds-up .ensures .so (c .before .if1 .taken)) (s .args .t)
 
-settled-count-requires : tie.Need-settled-count-requires
-settled-count-requires c κs = search needs
+count-past-requires : tie.Need-count-past-requires
+count-past-requires c κs = search needs
 
 returns-2 : tie.Need-returns-2
 returns-2 c = search needs
@@ -30,4 +30,4 @@ returns-2 c = search needs
 pub eta-past-spec : {M : Type 1} → statement M
 eta-past-spec =
     tie.close
-    (tie.spec adds-up-requires repeated-count-requires returns settled-count-requires returns-2)
+    (tie.spec adds-up-requires repeated-count-requires returns count-past-requires returns-2)

@@ -7,7 +7,7 @@ use Rattle.packing.specs.Most.{capacity}
 use borrow.Author.Count.{below-more}
 use borrow.Author.Tests.{eq-eqb, ne-eqb}
 use Rattle.search.proofs.Choice.{true-not-false}
-use Rattle.packing.proofs.Tries.{tells-so, tells-not}
+use Rattle.search.proofs.Choice.{tells-so, tells-not}
 use Rattle.odometer.proofs.fits.Statement.{statement}
 use Rattle.odometer.proofs.fits.Tie as tie
 

@@ -7,7 +7,8 @@ use borrow.Fn.Kinds.{In}
 use borrow.Fn.PlainCycle.{Measures, is, falls, and}
 use Rattle.packing.specs.Most.{capacity}
 use Rattle.packing.specs.code.Engine.{HasRoom, Choices}
-use Rattle.packing.proofs.Tries.{none-fit, empty-fit, tells-so, tells-not, choices-tried, choices-end, choices-found}
+use Rattle.search.proofs.Choice.{tells-so, tells-not}
+use Rattle.packing.proofs.Tries.{none-fit, empty-fit, choices-tried, choices-end, choices-found}
 use Rattle.packing.proofs.has_room.Reads as has-room
 use Rattle.packing.proofs.has_room.Kinds as kinds
 use Rattle.packing.proofs.+has_room.Lts-has_room as lts

@@ -1,7 +1,7 @@
 -- What the parts of the engine (src/) say of their results. The contracts of `most_uses` and `uses_up_to` need none of it.
 use Prim.Native.Nat.{ℕ, suc, _+_, _*_, _≤_, _<_}
 use mathlib.Core.Path.{_≡_}
-use mathlib.Core.Bool.{Bool, true, false}
+use mathlib.Core.Bool.{Bool, true}
 use mathlib.Core.List.{List}
 use lib.ListN.{length, getD}
 use lib.Dec.{eqb}
@@ -60,11 +60,6 @@ pub record HasRoom (kept : List ℕ) (n : ℕ) (room : ℕ → ℕ) (need : ℕ)
   pub uses : ℕ → ℕ
   pub packed : Packed kept n room uses
   pub total : sumTo n uses ≡ need
-
--- b says whether P holds
-pub record Tells (b : Bool) (P : Type 0) : Type 0 where
-  pub so : b ≡ true → P
-  pub not : b ≡ false → P → ⊥
 
 -- of the packings of kept combinations that have up to `limit` uses, none has more than r, which is no more than the limit
 pub record Ceiling (kept : List ℕ) (count : ℕ) (room : ℕ → ℕ) (limit r : ℕ) : Type 0 where

@@ -1,6 +1,6 @@
 -- `adds_up` meets its contract. The loop's invariant: each step shorter than i adds up. The measure is what is left of the list.
 use Prim.Native.Nat.{ℕ, _+_, _-_, _≤_, _<_}
-use mathlib.Core.Path.{_≡_, refl, sym, subst, _∙_}
+use mathlib.Core.Path.{_≡_, sym, subst, _∙_}
 use mathlib.Core.List.{List}
 use mathlib.Core.Logic.{⊎-elim}
 use native.Mathlib.Omega.{arith}
@@ -8,9 +8,9 @@ use native.Mathlib.Nat.{eq-or-lt-of-le}
 use borrow.Author.Tests.{not-true, not-false}
 use denote.Ref.{now}
 use lib.ListN.{length}
-use Rattle.search.proofs.Choice.{true-not-false}
+use Rattle.search.proofs.Choice.{tells-so, tells-not}
 use Rattle.table.specs.code.Listed.{distancesFrom}
-use Rattle.arrivals.specs.code.Settling.{AddsWith}
+use Rattle.arrivals.specs.code.Sums.{AddsWith}
 use Rattle.arrivals.proofs.Rows.{lists-length}
 use Rattle.arrivals.proofs.head.adds_up.Statement.{statement}
 use Rattle.arrivals.proofs.head.adds_up.Tie as tie
@@ -42,10 +42,7 @@ adds-with-requires c κs = (start (c .before) .pre, omega (arith, c .before .bef
 returns : tie.Need-returns Inv-loop μ-loop
 returns c =
     let l = c .before .before .before in
-    record {
-      yes = λ t. absurd (true-not-false t refl);
-      no = λ f a. c .before .adds-with .ensures .no (not-true _ (c .if1 .taken)) (a .with (l .loop .i) (l .loop .inv .0) (omega (arith, listed l)));
-    }
+    tells-not (λ a. c .before .adds-with .ensures .not (not-true _ (c .if1 .taken)) (a .with (l .loop .i) (l .loop .inv .0) (omega (arith, listed l))))
 
 add-i : tie.Need-add-i Inv-loop μ-loop
 add-i c = omega (arith, listed (c .before .before .before), start (c .before .before .before) .pre .good .few)
@@ -59,17 +56,14 @@ loop-again c =
       omega arith,
       omega arith,
       λ k low less. ⊎-elim
-          (λ e. let same : k ≡ l .loop .i = omega arith in subst (AddsWith (ds (start l))) (sym same) (c .before .adds-with .ensures .yes (not-false _ (c .if1 .left))))
+          (λ e. let same : k ≡ l .loop .i = omega arith in subst (AddsWith (ds (start l))) (sym same) (c .before .adds-with .ensures .so (not-false _ (c .if1 .left))))
           (λ g. l .loop .inv .2 k low (omega arith))
           (eq-or-lt-of-le less),
     )
 
 returns-2 : tie.Need-returns-2 Inv-loop μ-loop
 returns-2 c =
-    record {
-      yes = λ t. record { with = λ i low h. c .before .loop .inv .2 i low (omega (arith, h, listed (c .before))) };
-      no = λ f. absurd (true-not-false refl f);
-    }
+    tells-so (record { with = λ i low h. c .before .loop .inv .2 i low (omega (arith, h, listed (c .before))) })
 
 pub adds-up-spec : {M : Type 1} → statement M
 adds-up-spec =

@@ -1,12 +1,12 @@
 -- `adds_with` meets its contract. The loop's invariant: a step of i adds up with each shorter than j. The measure is what is left up to i.
 use Prim.Native.Nat.{ℕ, _+_, _-_, _≤_, _<_}
-use mathlib.Core.Path.{_≡_, refl, sym, subst}
+use mathlib.Core.Path.{_≡_, sym, subst}
 use mathlib.Core.List.{List}
 use mathlib.Core.Logic.{⊎-elim}
 use native.Mathlib.Omega.{arith}
 use native.Mathlib.Nat.{eq-or-lt-of-le}
 use denote.Ref.{now}
-use Rattle.search.proofs.Choice.{true-not-false}
+use Rattle.search.proofs.Choice.{tells-so, tells-not}
 use Rattle.table.specs.Limits.{maxDistances, maxDistance}
 use Rattle.table.specs.code.Listed.{distancesFrom}
 use Rattle.arrivals.specs.Arrivals.{asListed, repeated}
@@ -74,10 +74,7 @@ add-if1 c = omega (arith, own c, other c, near c (start (at c) .args .i), near c
 returns : tie.Need-returns Inv-loop μ-loop
 returns c =
     let e = c .before in
-    record {
-      yes = λ t. absurd (true-not-false t refl);
-      no = λ f a. omega (arith, own e, other e, both e, c .if1 .taken, a .adds (at e .loop .j) (at e .loop .inv .0) (omega arith));
-    }
+    tells-not (λ a. omega (arith, own e, other e, both e, c .if1 .taken, a .adds (at e .loop .j) (at e .loop .inv .0) (omega arith)))
 
 add-j : tie.Need-add-j Inv-loop μ-loop
 add-j c = omega (arith, few (c .before))
@@ -99,10 +96,7 @@ loop-again c =
     )
 
 returns-2 : tie.Need-returns-2 Inv-loop μ-loop
-returns-2 c = record {
-  yes = λ t. record { adds = λ j low h. c .before .loop .inv .2 j low (omega arith) };
-  no = λ f. absurd (true-not-false refl f);
-}
+returns-2 c = tells-so (record { adds = λ j low h. c .before .loop .inv .2 j low (omega arith) })
 
 pub adds-with-spec : {M : Type 1} → statement M
 adds-with-spec =

@@ -11,7 +11,7 @@ use Rattle.search.specs.Choice.{_when_else_}
 use Rattle.table.specs.Limits.{maxDistances}
 use Rattle.table.specs.code.Listed.{listedFrom, distancesFrom}
 use Rattle.arrivals.specs.Arrivals.{asListed}
-use Rattle.arrivals.specs.code.Settling.{SumsAt, Tried, UsefulIn}
+use Rattle.arrivals.specs.code.Sums.{SumsAt, GreatestTo, UsefulIn}
 use Rattle.arrivals.proofs.Heads.{inside, sums-first, sums-next}
 use Rattle.arrivals.proofs.Rows.{lists-length, lists-some}
 use Rattle.arrivals.proofs.Useful.{useful-first, useful-next, sum-is}
@@ -49,8 +49,8 @@ module _ (c : tie.After-below Inv-loop μ-loop) where
   more : l .loop .m ≤ length (ds (start l))
   more = omega (arith, listed-is l, c .before .before .before .before .loop-test .taken)
 
-  tried : Tried (ds (start l)) (l .loop .m) (l .loop .m) shortest
-  tried = let e : l .loop .m - 1 + 1 ≡ l .loop .m = omega (arith, l .loop .inv .0) in subst (λ j. Tried (ds (start l)) (l .loop .m) j shortest) e (c .before .before .greatest-to .ensures)
+  tried : GreatestTo (ds (start l)) (l .loop .m) (l .loop .m) shortest
+  tried = let e : l .loop .m - 1 + 1 ≡ l .loop .m = omega (arith, l .loop .inv .0) in subst (λ j. GreatestTo (ds (start l)) (l .loop .m) j shortest) e (c .before .before .greatest-to .ensures)
 
   found-is : l .loop .n + c .below .result ≡ l .loop .n + (1 when ltb shortest (asListed (ds (start l)) (l .loop .m)) else 0)
   found-is = ap (λ x. l .loop .n + x) (c .below .ensures ∙ ap (λ d. 1 when ltb shortest d else 0) (c .before .as-listed2 .ensures))

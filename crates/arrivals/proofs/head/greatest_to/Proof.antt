@@ -8,16 +8,16 @@ use lib.ListN.{length, getD}
 use Rattle.table.specs.Limits.{maxDistances}
 use Rattle.table.specs.code.Listed.{distancesFrom}
 use Rattle.arrivals.specs.Arrivals.{δ}
-use Rattle.arrivals.specs.code.Settling.{Tried}
+use Rattle.arrivals.specs.code.Sums.{GreatestTo}
 use Rattle.arrivals.proofs.Distances.{δ-far}
-use Rattle.arrivals.proofs.Heads.{inside, tried-none, tried-on}
+use Rattle.arrivals.proofs.Heads.{inside, last-none, last-on}
 use Rattle.arrivals.proofs.Lists.{rising, listed-near}
 use Rattle.arrivals.proofs.Rows.{lists-length}
 use Rattle.arrivals.proofs.head.greatest_to.Statement.{statement}
 use Rattle.arrivals.proofs.head.greatest_to.Tie as tie
 
 abbrev Inv-loop : tie.InvT-loop
-Inv-loop s list sums m most best₀ j₀ best j = (1 ≤ j) × (j ≤ most + 1) × Tried (distancesFrom s list) m j best
+Inv-loop s list sums m most best₀ j₀ best j = (1 ≤ j) × (j ≤ most + 1) × GreatestTo (distancesFrom s list) m j best
 
 abbrev μ-loop : tie.MeasureT-loop
 μ-loop s list sums m most best₀ j₀ best j = most + 1 - j
@@ -38,7 +38,7 @@ module _ (c : tie.At-loop Inv-loop μ-loop) (more : c .loop .j ≤ start c .args
   earlier = start c .pre .4 .at (start c .args .m - c .loop .j) (omega (arith, c .loop .inv .0)) (omega (arith, in-list, more, start c .pre .1, start c .pre .0 .good .few))
 
 loop-holds : tie.Need-loop-holds Inv-loop μ-loop
-loop-holds c = (omega arith, omega arith, tried-none _ _)
+loop-holds c = (omega arith, omega arith, last-none _ _)
 
 as-listed-requires : tie.Need-as-listed-requires Inv-loop μ-loop
 as-listed-requires c κs = let s = start (c .before) in (s .pre .0, omega (arith, s .pre .2))
@@ -75,15 +75,15 @@ loop-again c =
     let x = getD (s .args .sums .now) ((s .args .m - l .loop .j) % maxDistances) 0 in (
       omega arith,
       omega arith,
-      subst (Tried (ds s) (s .args .m) (l .loop .j + 1)) (sym (c .larger .ensures ∙ ap (λ d. max (l .loop .best) (d + x)) (c .before .before .as-listed .ensures)))
-          (tried-on (ds s) (s .args .m) (l .loop .j) (l .loop .best) x (l .loop .inv .0) (in-list l more) (omega (arith, more, s .pre .1)) (l .loop .inv .2) (earlier l more)),
+      subst (GreatestTo (ds s) (s .args .m) (l .loop .j + 1)) (sym (c .larger .ensures ∙ ap (λ d. max (l .loop .best) (d + x)) (c .before .before .as-listed .ensures)))
+          (last-on (ds s) (s .args .m) (l .loop .j) (l .loop .best) x (l .loop .inv .0) (in-list l more) (omega (arith, more, s .pre .1)) (l .loop .inv .2) (earlier l more)),
     )
 
 returns : tie.Need-returns Inv-loop μ-loop
 returns c =
     let l = c .before in
     let e : l .loop .j ≡ start l .args .most + 1 = omega (arith, l .loop .inv .1) in
-    subst (λ j. Tried (ds (start l)) (start l .args .m) j (l .loop .best)) e (l .loop .inv .2)
+    subst (λ j. GreatestTo (ds (start l)) (start l .args .m) j (l .loop .best)) e (l .loop .inv .2)
 
 pub greatest-to-spec : {M : Type 1} → statement M
 greatest-to-spec =

@@ -9,7 +9,7 @@ use denote.Ref.{now}
 use lib.ListN.{length}
 use Rattle.table.specs.Limits.{maxDistances}
 use Rattle.table.specs.code.Listed.{distancesFrom}
-use Rattle.arrivals.specs.code.Settling.{headOf}
+use Rattle.arrivals.specs.code.Sums.{headOf}
 use Rattle.arrivals.proofs.Rows.{lists-length}
 use Rattle.arrivals.proofs.head.head_of.Statement.{statement}
 use Rattle.arrivals.proofs.head.head_of.Tie as tie

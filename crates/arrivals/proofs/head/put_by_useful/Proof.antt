@@ -8,17 +8,17 @@ use lib.ListN.{length, getD}
 use Rattle.table.specs.Limits.{maxDistances}
 use Rattle.table.specs.code.Listed.{listedFrom, distancesFrom}
 use Rattle.arrivals.specs.Arrivals.{δ}
-use Rattle.arrivals.specs.code.Settling.{UsefulIn}
+use Rattle.arrivals.specs.code.Sums.{UsefulIn}
 use Rattle.arrivals.proofs.Distances.{δ-far}
 use Rattle.arrivals.proofs.Heads.{inside, sums-next}
 use Rattle.arrivals.proofs.Lists.{rising, listed-near}
 use Rattle.arrivals.proofs.Rows.{lists-length}
-use Rattle.arrivals.proofs.Useful.{TriedBy, by-on, by-all}
+use Rattle.arrivals.proofs.Useful.{GreatestBy, by-on, by-all}
 use Rattle.arrivals.proofs.head.put_by_useful.Statement.{statement}
 use Rattle.arrivals.proofs.head.put_by_useful.Tie as tie
 
 abbrev Inv-loop : tie.InvT-loop
-Inv-loop s list sums steps n m best₀ k₀ best k = (k ≤ n) × TriedBy (distancesFrom s list) steps m k best
+Inv-loop s list sums steps n m best₀ k₀ best k = (k ≤ n) × GreatestBy (distancesFrom s list) steps m k best
 
 abbrev μ-loop : tie.MeasureT-loop
 μ-loop s list sums steps n m best₀ k₀ best k = n - k
@@ -97,7 +97,7 @@ loop-again c =
     let more = c .before .before .before .before .loop-test .taken in
     let x = getD (s .args .sums .now) ((s .args .m - step l) % maxDistances) 0 in (
       omega (arith, more),
-      subst (TriedBy (ds s) (s .args .steps .now) (s .args .m) (l .loop .k + 1)) (sym (c .larger .ensures ∙ ap (λ d. max (l .loop .best) (d + x)) (c .before .before .as-listed .ensures)))
+      subst (GreatestBy (ds s) (s .args .steps .now) (s .args .m) (l .loop .k + 1)) (sym (c .larger .ensures ∙ ap (λ d. max (l .loop .best) (d + x)) (c .before .before .as-listed .ensures)))
           (by-on (ds s) (s .args .steps .now) (s .args .m) (l .loop .k) (l .loop .best) x (low l more) (high l more) (within l more) (l .loop .inv .1) (earlier l more)),
     )
 
@@ -115,7 +115,7 @@ returns c =
     sums-next (ds s) (s .args .m) (l .loop .best) (s .args .sums .now) (omega (arith, s .pre .1)) (s .pre .3)
     (by-all (ds s) (s .args .steps .now) (s .args .m) (s .args .n) (l .loop .best) (s .pre .0 .good .some) (omega (arith, s .pre .1))
     (subst (λ n. UsefulIn (ds s) n (s .args .steps .now) (s .args .n)) (sym (long l)) (s .pre .4))
-    (subst (λ k. TriedBy (ds s) (s .args .steps .now) (s .args .m) k (l .loop .best)) e (l .loop .inv .1)))
+    (subst (λ k. GreatestBy (ds s) (s .args .steps .now) (s .args .m) k (l .loop .best)) e (l .loop .inv .1)))
 
 pub put-by-useful-spec : {M : Type 1} → statement M
 put-by-useful-spec =

@@ -5,7 +5,7 @@ use borrow.Author.Needs.{needs}
 use denote.Ref.{now}
 use lib.ListN.{length}
 use Rattle.table.specs.code.Listed.{distancesFrom}
-use Rattle.arrivals.proofs.Heads.{tried-all, sums-next}
+use Rattle.arrivals.proofs.Heads.{last-all, sums-next}
 use Rattle.arrivals.proofs.Rows.{lists-length}
 use Rattle.arrivals.proofs.head.put_sum.Statement.{statement}
 use Rattle.arrivals.proofs.head.put_sum.Tie as tie
@@ -32,7 +32,7 @@ returns c =
     let most : c .before .before .smaller .result ≡ min (length ds) (s .args .m) =
     c .before .before .smaller .ensures ∙ ap (λ n. min n (s .args .m)) (c .before .before .before .listed-from .ensures .0 ∙ sym (lists-length (s .pre .0))) in
     sums-next ds (s .args .m) (c .greatest-to .result) (s .args .sums .now) (s .pre .1) (s .pre .3)
-    (tried-all ds (s .args .m) _ (c .greatest-to .result) (s .pre .0 .good .some) (s .pre .1) (ap (λ n. n + 1) most) (c .greatest-to .ensures))
+    (last-all ds (s .args .m) _ (c .greatest-to .result) (s .pre .0 .good .some) (s .pre .1) (ap (λ n. n + 1) most) (c .greatest-to .ensures))
 
 pub put-sum-spec : {M : Type 1} → statement M
 put-sum-spec =

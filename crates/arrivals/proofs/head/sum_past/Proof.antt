@@ -6,7 +6,7 @@ use native.Mathlib.Omega.{arith}
 use denote.Ref.{now}
 use Rattle.table.specs.code.Listed.{listedFrom, distancesFrom}
 use Rattle.arrivals.specs.Arrivals.{δ}
-use Rattle.arrivals.specs.code.Settling.{SumsAt}
+use Rattle.arrivals.specs.code.Sums.{SumsAt}
 use Rattle.arrivals.proofs.Heads.{inside, sums-none}
 use Rattle.arrivals.proofs.head.sum_past.Statement.{statement}
 use Rattle.arrivals.proofs.head.sum_past.Tie as tie

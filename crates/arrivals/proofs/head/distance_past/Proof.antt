@@ -1,4 +1,4 @@
--- `settled_distance` meets its contract: its whole best steps and its rest are those of δ.
+-- `distance_past` meets its contract: its whole best steps and its rest are those of δ.
 use Prim.Native.Nat.{ℕ, max, _+_, _*_, _/_, _-_, _≤_}
 use mathlib.Core.Path.{_≡_, ap, ap₂, sym, _∙_}
 use mathlib.Core.List.{List}
@@ -10,12 +10,12 @@ use Rattle.table.specs.Limits.{maxDistance}
 use Rattle.table.specs.code.Listed.{distancesFrom}
 use Rattle.arrivals.specs.Arrivals.{asListed, δ, Best}
 use Rattle.arrivals.specs.code.Bounds.{farthest}
-use Rattle.arrivals.specs.code.Settling.{headOf}
+use Rattle.arrivals.specs.code.Sums.{headOf}
 use Rattle.arrivals.proofs.Distances.{δ-near}
 use Rattle.arrivals.proofs.Heads.{head, head-few, whole-within, rest-few, rest-long, δ-whole}
 use Rattle.arrivals.proofs.Rows.{lists-length}
-use Rattle.arrivals.proofs.head.settled_distance.Statement.{statement}
-use Rattle.arrivals.proofs.head.settled_distance.Tie as tie
+use Rattle.arrivals.proofs.head.distance_past.Statement.{statement}
+use Rattle.arrivals.proofs.head.distance_past.Tie as tie
 
 -- the step and the head, as they were worked out
 module _ (c : tie.After-head-of) where
@@ -107,8 +107,8 @@ add-result c = omega (arith, all c, near (e (c .before .before)))
 returns : tie.Need-returns
 returns c = all c
 
-pub settled-distance-spec : {M : Type 1} → statement M
-settled-distance-spec =
+pub distance-past-spec : {M : Type 1} → statement M
+distance-past-spec =
     tie.close
     (tie.spec
     best-step-requires

@@ -1,4 +1,4 @@
--- `settle` meets its contract. The loop's invariant: the sums up to m are put, and those before m lie below t. The measure is what is left.
+-- `first_sum` meets its contract. The loop's invariant: the sums up to m are put, and those before m lie below t. The measure is what is left.
 use Prim.Native.Nat.{ℕ, suc, _+_, _-_, _≤_, _<_}
 use mathlib.Core.Path.{_≡_, ap, subst}
 use mathlib.Core.List.{List}
@@ -8,10 +8,10 @@ use native.Mathlib.Nat.{eq-or-lt-of-le}
 use denote.Ref.{now}
 use Rattle.table.specs.code.Listed.{distancesFrom}
 use Rattle.arrivals.specs.Arrivals.{δ}
-use Rattle.arrivals.specs.code.Settling.{SumsAt}
+use Rattle.arrivals.specs.code.Sums.{SumsAt}
 use Rattle.arrivals.proofs.Heads.{inside, sums-here}
-use Rattle.arrivals.proofs.head.settle.Statement.{statement}
-use Rattle.arrivals.proofs.head.settle.Tie as tie
+use Rattle.arrivals.proofs.head.first_sum.Statement.{statement}
+use Rattle.arrivals.proofs.head.first_sum.Tie as tie
 
 abbrev Inv-loop : tie.InvT-loop
 Inv-loop s list sums₀ t most m₀ sums m = (m ≤ most) × SumsAt (distancesFrom s list) m sums × ((i : ℕ) → i < m → δ (distancesFrom s list) (suc i) < t)
@@ -71,8 +71,8 @@ returns-2 c =
     let l = c .before in
     (record { high = l .loop .inv .0; before = l .loop .inv .2; ends = inl (omega arith) }, l .loop .inv .1)
 
-pub settle-spec : {M : Type 1} → statement M
-settle-spec =
+pub first-sum-spec : {M : Type 1} → statement M
+first-sum-spec =
     tie.close
     (tie.spec
     Inv-loop

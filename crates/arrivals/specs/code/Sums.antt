@@ -1,17 +1,11 @@
--- How δ settles after a head, which is what the code counts by, and the greatest sums as the code holds them.
+-- How δ goes on after a head, which is what the code counts by, and the greatest sums as the code holds them.
 use Prim.Native.Nat.{ℕ, suc, _+_, _*_, _-_, _%_, _<_, _≤_}
 use mathlib.Core.Path.{_≡_}
-use mathlib.Core.Bool.{Bool, true, false}
 use mathlib.Core.List.{List}
 use mathlib.Core.Logic.{_⊎_}
 use lib.ListN.{length, getD}
 use Rattle.table.specs.Limits.{maxDistances}
 use Rattle.arrivals.specs.Arrivals.{asListed, repeated, δ}
-
--- r is true exactly where P holds
-pub record Tells (r : Bool) (P : Type 0) : Type 0 where
-  pub yes : r ≡ true → P
-  pub no : r ≡ false → P → ⊥
 
 -- a step of i and one of any length up to i come to no more than 01's rule has for them
 pub record AddsWith (ds : List ℕ) (i : ℕ) : Type 0 where
@@ -41,13 +35,13 @@ pub record SumsAt (ds : List ℕ) (m : ℕ) (sums : List ℕ) : Type 0 where
   pub at : (i : ℕ) → i ≤ m → m < i + maxDistances → getD sums (i % maxDistances) 0 ≡ δ ds (suc i)
 
 -- r is the first number of steps whose greatest sum is t or more, or `most`
-pub record Settled (ds : List ℕ) (t most r : ℕ) : Type 0 where
+pub record FirstSum (ds : List ℕ) (t most r : ℕ) : Type 0 where
   pub high : r ≤ most
   pub before : (i : ℕ) → i < r → δ ds (suc i) < t
   pub ends : (r ≡ most) ⊎ (t ≤ δ ds (suc r))
 
 -- of the last steps below j for m none comes to more than `best`, and one to as much; it is 0 where there is none, and no more than δ
-pub record Tried (ds : List ℕ) (m j best : ℕ) : Type 0 where
+pub record GreatestTo (ds : List ℕ) (m j best : ℕ) : Type 0 where
   pub within : best ≤ δ ds (suc m)
   pub each : (i : ℕ) → 1 ≤ i → i < j → asListed ds i + δ ds (suc (m - i)) ≤ best
   pub none : j ≡ 1 → best ≡ 0

@@ -12,7 +12,7 @@ use Rattle.search.proofs.Choice.{lt-or-le}
 use Rattle.search.proofs.Lists.{sum-append, sum-bound, all-append, all-map}
 use Rattle.table.specs.code.Good.{GoodDistances}
 use Rattle.arrivals.specs.Arrivals.{asListed, repeated, sumOfSteps, δ, Best}
-use Rattle.arrivals.specs.code.Settling.{headOf, AddsUp}
+use Rattle.arrivals.specs.code.Sums.{headOf, AddsUp}
 use Rattle.arrivals.proofs.Blocks.{sum-cut, block}
 use Rattle.arrivals.proofs.Lists.{rising, listed-none, repeated-lists, repeated-first}
 use Rattle.arrivals.proofs.Sums.{δ-step, δ-by-steps, δ-each-way, δ-ways}
@@ -98,8 +98,8 @@ module _ (ds : List ℕ) where
         )
 
     -- past the head the last step can be one of s
-    pub settles : (m : ℕ) → headOf ds s < m → δ ds (suc m) ≡ asListed ds s + δ ds (suc (m - s))
-    settles m h =
+    pub best-last : (m : ℕ) → headOf ds s < m → δ ds (suc m) ≡ asListed ds s + δ ds (suc (m - s))
+    best-last m h =
         let w = δ-ways ds (le-trans (best .low) (best .high)) m .holds in
         let steps = w .0 in
         let long : s ≤ length steps = ⊎-elim
@@ -113,11 +113,11 @@ module _ (ds : List ℕ) where
         (omega (arith, δ-step ds s (m - s) (best .low) (best .high), ap (λ n. δ ds (suc n)) e))
 
     -- so each step of s more adds its distance
-    pub settled : (q m : ℕ) → headOf ds s < m + s → δ ds (suc (q * s + m)) ≡ q * asListed ds s + δ ds (suc m)
-    settled zero m h = let e : 0 * s + m ≡ m = omega arith in omega (arith, ap (λ n. δ ds (suc n)) e)
-    settled (suc q) m h =
+    pub best-steps : (q m : ℕ) → headOf ds s < m + s → δ ds (suc (q * s + m)) ≡ q * asListed ds s + δ ds (suc m)
+    best-steps zero m h = let e : 0 * s + m ≡ m = omega arith in omega (arith, ap (λ n. δ ds (suc n)) e)
+    best-steps (suc q) m h =
         let e : suc q * s + m - s ≡ q * s + m = omega arith in
-        omega (arith, settles (suc q * s + m) (omega (arith, h)), ap (λ n. δ ds (suc n)) e, settled q m h)
+        omega (arith, best-last (suc q * s + m) (omega (arith, h)), ap (λ n. δ ds (suc n)) e, best-steps q m h)
 
 -- a list whose repetition adds up
 module _ {ds : List ℕ} (good : GoodDistances ds) (up : AddsUp ds) where

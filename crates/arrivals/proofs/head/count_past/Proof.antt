@@ -1,4 +1,4 @@
--- `settled_count` meets its contract. The loop's invariant: the sums up to m are put, and that before m, past the first list, lies below t. The
+-- `count_past` meets its contract. The loop's invariant: the sums up to m are put, and that before m, past the first list, lies below t. The
 -- measure is what is left of the head and one more. Past it the whole best steps and the remainder are those of η.
 use Prim.Native.Nat.{ℕ, suc, max, _+_, _*_, _/_, _-_, _%_, _<_, _≤_}
 use mathlib.Core.Path.{_≡_, refl, ap, sym, subst, _∙_}
@@ -12,13 +12,13 @@ use Rattle.table.specs.Limits.{maxDistances}
 use Rattle.table.specs.code.Good.{GoodDistances}
 use Rattle.table.specs.code.Listed.{listedFrom, distancesFrom}
 use Rattle.arrivals.specs.Arrivals.{asListed, δ, Best, η}
-use Rattle.arrivals.specs.code.Settling.{headOf, SumsAt, FirstFrom}
+use Rattle.arrivals.specs.code.Sums.{headOf, SumsAt, FirstFrom}
 use Rattle.arrivals.proofs.Lists.{rising, listed-near}
 use Rattle.arrivals.proofs.Counts.{η-near, η-counts, η-stops}
-use Rattle.arrivals.proofs.Heads.{inside, sums-none, sums-here, best-some, head, head-few, spans-within, η-settled}
+use Rattle.arrivals.proofs.Heads.{inside, sums-none, sums-here, best-some, head, head-few, spans-within, η-past}
 use Rattle.arrivals.proofs.Rows.{lists-length}
-use Rattle.arrivals.proofs.head.settled_count.Statement.{statement}
-use Rattle.arrivals.proofs.head.settled_count.Tie as tie
+use Rattle.arrivals.proofs.head.count_past.Statement.{statement}
+use Rattle.arrivals.proofs.head.count_past.Tie as tie
 
 abbrev Inv-loop : tie.InvT-loop
 Inv-loop s list t step head sums₀ steps n m₀ sums m =
@@ -107,7 +107,7 @@ all c =
     let p = c .before .before in
     let a = l (e p) in
     let h : ℕ = head (good (e p)) (best a) in
-    η-settled (good (e p)) (best a) (t a) (sum (e p)) (whole p) (reached (e p)) (past-head (e p)) (whole-is p) (a .loop .sums) (c .first-from .result)
+    η-past (good (e p)) (best a) (t a) (sum (e p)) (whole p) (reached (e p)) (past-head (e p)) (whole-is p) (a .loop .sums) (c .first-from .result)
     (subst (λ n. SumsAt (ds a) n (a .loop .sums)) (at-end (e p)) (a .loop .inv .2))
     (subst (λ d. FirstFrom (a .loop .sums) (h + 1 + 1 - step a) (h + 1) (t a - d) (c .first-from .result)) (spans p)
     (subst (λ n. FirstFrom (a .loop .sums) (n + 1 - step a) n (t a - whole p * e p .as-listed .result) (c .first-from .result)) (at-end (e p)) (c .first-from .ensures)))
@@ -225,8 +225,8 @@ add-result c = let a = l (e (c .before .before)) in omega (arith, all c, η-near
 returns-2 : tie.Need-returns-2 Inv-loop μ-loop
 returns-2 c = sym (all c)
 
-pub settled-count-spec : {M : Type 1} → statement M
-settled-count-spec =
+pub count-past-spec : {M : Type 1} → statement M
+count-past-spec =
     tie.close
     (tie.spec
     Inv-loop
