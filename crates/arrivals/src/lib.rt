@@ -128,13 +128,22 @@ pub fn eta_from(s: &[u8], list: usize, t: u64, from: u64) -> u64
     eta_by_list(s, list, t, from)
 }
 
-// The smaller of η(t) and `most`.
+fn smaller(a: u64, b: u64) -> u64
+    ensures { λ r. ⌜ r ≡ min a b ⌝ }
+{
+    if a < b { a } else { b }
+}
+
+// The smaller of η(t) and `most`. It asks the two by itself: a second call keeps `eta_by_list` out of `eta_from`, which so stays small enough
+// for a climb's loop.
 pub fn eta_up_to(s: &[u8], list: usize, t: u64, most: u64) -> u64
     requires { ⌜ Lists (now s) list × (t ≤ longestSpan) ⌝ }
     ensures { λ r. ⌜ r ≡ min (η (distancesFrom (now (s .entry)) list) t) most ⌝ }
 {
-    let n = eta_from(s, list, t, 0);
-    if n < most { n } else { most }
+    if listed_from(s, list) == 1 {
+        return smaller(eta_by_one(s, list, t, 0), most);
+    }
+    smaller(eta_by_list(s, list, t, 0), most)
 }
 
 // The largest distance of 1 + j activations as listed.
