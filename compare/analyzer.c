@@ -665,8 +665,8 @@ static bool last_meets_first(const struct chain *a, const struct stretch *stretc
     return count > 1 && stretches[0].first == 0 && stretches[count - 1].end == a->tasks;
 }
 
-/* The cost of every segment of a; how many there are. Inline, so that what is measured is built as if nothing else asked. */
-static inline unsigned segment_costs(const struct chain *a, uint32_t floor, uint64_t costs[MOST_TASKS])
+/* The cost of every segment of a; how many there are. */
+static unsigned segment_costs(const struct chain *a, uint32_t floor, uint64_t costs[MOST_TASKS])
 {
     struct stretch stretches[MOST_TASKS];
     unsigned count = cut_stretches(a, floor, stretches);
@@ -2097,33 +2097,4 @@ uint32_t plain_report(const uint8_t *table, size_t table_len, uint8_t *text, siz
     memcpy(text, report.words, report.length);
     put32(answer, (uint32_t)report.length);
     return 0;
-}
-
-/* ---- Bits for who stands where ---- */
-
-/* The segments so many places later than they were cut; the first place comes after the last. */
-static void place_segments(struct plain_cut *cut, const uint64_t *costs, const struct active_segment *active, unsigned later)
-{
-    for (unsigned i = 0; i < cut->segments; i++)
-        cut->segment_cost[(i + later) % cut->segments] = costs[i];
-    for (unsigned i = 0; i < cut->actives; i++)
-        cut->active[i] = (struct plain_active){active[i].tasks.first, active[i].tasks.end,
-                                               (active[i].segment + later) % cut->segments};
-}
-
-struct plain_cut plain_cut_by_priorities(const uint8_t *table, size_t table_len, uint32_t chain, uint32_t against)
-{
-    struct table read;
-    struct active_segment active[MOST_TASKS];
-    uint64_t costs[MOST_TASKS];
-    struct fault fault = read_table(table, table_len, &read);
-    assert(fault.number == 0);
-    const struct chain *a = find_chain(&read, chain), *b = find_chain(&read, against);
-    uint32_t floor = floor_of(b);
-    struct plain_cut cut = {.deferred = is_deferred(a, floor), .first_segment_cost = first_segment_cost(a, floor)};
-    cut.segments = segment_costs(a, floor, costs);
-    cut.actives = cut_active_segments(a, b, active);
-    bool first_is_last = cut.deferred && a->task[0].priority >= floor; /* the first task below the floor stands after it */
-    place_segments(&cut, costs, active, first_is_last ? cut.segments - 1 : 0);
-    return cut;
 }

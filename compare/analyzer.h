@@ -73,22 +73,4 @@ uint32_t plain_figure_at_most(const uint8_t *table, size_t table_len, uint32_t i
    UINT64_MAX. It meets none where the query is refused, nothing is late or the empty set is bad. */
 bool plain_packings_exceed(const uint8_t *table, size_t table_len, uint32_t id, uint32_t k, uint64_t limit);
 
-/* Tasks `first` up to, not including, `end`, counted from 0, and the segment that they are part of. */
-struct plain_active {
-    unsigned first, end, segment;
-};
-
-/* What a chain is cut into against chain b. Segments stand in order from the first task below the floor on, so that one with
-   the chain's first stretch is the last; active segments stand in task order. */
-struct plain_cut {
-    bool deferred;
-    uint64_t first_segment_cost;
-    unsigned segments, actives;
-    uint64_t segment_cost[MISHTODRAN_MOST_TASKS];
-    struct plain_active active[MISHTODRAN_MOST_TASKS];
-};
-
-/* The cut of the analyzer, which compares priorities: of a chain against another, both in an accepted table. */
-struct plain_cut plain_cut_by_priorities(const uint8_t *table, size_t table_len, uint32_t chain, uint32_t against);
-
 #endif

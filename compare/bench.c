@@ -758,69 +758,6 @@ static void stepped_cases(struct source *source)
     measure_one("steps: report, 49 places to settle", REPORT, late, 0, 0, 0);
 }
 
-/* ---- Every pair of chains ---- */
-
-/* Whether the misses of all chains that are not overload are answered for k = 10. */
-static bool misses_are_answered(const struct stored *table)
-{
-    uint8_t answer[4];
-    for (unsigned i = 0; i < table->rows; i++)
-        if (!table->row[i].overload && plain_misses(table->bytes, table->length, table->row[i].id, 10, answer, 4) != 0)
-            return false;
-    return true;
-}
-
-/* Tables of 16 chains of 4 tasks, of which two are overload; the misses of the others are answered. */
-static struct stored *keep_answered(struct source *source, unsigned count)
-{
-    struct stored *first = &tables[tables_used];
-    while (&tables[tables_used] < first + count)
-        if (!misses_are_answered(keep(even_table(source, 16, 4, 2))))
-            tables_used--;
-    return first;
-}
-
-/* The chains of several tables that are not overload. */
-static void measure_others(const char *name, unsigned entry, struct stored *first, unsigned count, uint32_t k)
-{
-    static struct bench_case what;
-    what = (struct bench_case){.name = name};
-    for (unsigned t = 0; t < count; t++)
-        for (unsigned i = 0; i < first[t].rows; i++)
-            if (!first[t].row[i].overload)
-                what.call[what.calls++] =
-                    (struct call){.entry = entry, .table = &first[t], .number = {first[t].row[i].id, k, 0}};
-    measure(&what);
-}
-
-/* The first active segment of each chain against each other one. */
-static void measure_pairs(const char *name, struct stored *first, unsigned count)
-{
-    static struct bench_case what;
-    what = (struct bench_case){.name = name};
-    for (unsigned t = 0; t < count; t++)
-        for (unsigned pair = 0; pair < first[t].rows * first[t].rows; pair++) {
-            uint32_t a = first[t].row[pair / first[t].rows].id, b = first[t].row[pair % first[t].rows].id;
-            if (a != b)
-                what.call[what.calls++] = (struct call){.entry = SEGMENT, .table = &first[t], .number = {a, b, 1}};
-        }
-    measure(&what);
-}
-
-static void pair_cases(struct source *source)
-{
-    tables_used = 0;
-    struct stored *short_chains = keep_answered(source, 16);
-    struct stored *long_chains = &tables[tables_used];
-    for (unsigned i = 0; i < 16; i++)
-        keep(even_table(source, 4, 16, 0));
-    measure_others("latency, 16 chains of 4 tasks", LATENCY, short_chains, 16, 0);
-    measure_others("misses, 16 chains of 4 tasks, k 10", MISSES, short_chains, 16, 10);
-    measure_pairs("segment, 16 chains of 4 tasks, every pair", short_chains, 2);
-    measure_others("latency, 4 chains of 16 tasks", LATENCY, long_chains, 16, 0);
-    measure_pairs("segment, 4 chains of 16 tasks, every pair", long_chains, 16);
-}
-
 /* ---- Growth ---- */
 
 /* So many chains with so many tasks and listed distances each; the first has the lowest priority. */
@@ -927,7 +864,6 @@ int main(int count, char **words)
     largest_cases(&source);
     salvage_cases(&source);
     stepped_cases(&source);
-    pair_cases(&source);
     growth_cases();
     bisected_cases();
     return 0;

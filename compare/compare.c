@@ -3,12 +3,10 @@
 
    Makes N tables from SEED, of both forms, and for each some to be merged, some rows to be written and some wrecks to be
    salvaged, asks both every question about them, and stops at the first difference, with the tables or the rows and the
-   call. Latency and misses are asked of the plain one by the former rule of smallest distances too: none has grown. Chains are
-   cut into segments by the plain one a second way, from bits: the cuts are the same. */
+   call. Latency and misses are asked of the plain one by the former rule of smallest distances too: none has grown. */
 #include "../include/mishtodran.h"
 #include "analyzer.h"
 #include "generate.h"
-#include "segments.h"
 #include "words.h"
 
 #include <inttypes.h>
@@ -42,7 +40,6 @@ enum { WRITE_ROOM = MISHTODRAN_MOST_TABLE_BYTES + 64, READ_ROOM = MISHTODRAN_MOS
 enum { SKIPPED_BYTES = 8, LIST_ROOM = MISHTODRAN_MOST_CHAINS * SKIPPED_BYTES + 16 }; /* more than any list takes */
 enum { MANY_ARRIVALS = 1000000 };  /* of one chain in a window: too many to be counted one by one */
 enum { MOST_PACKINGS = 100000 };   /* of a call that the engine which goes through every packing is asked */
-enum { MOST_MARKED = 7 };          /* tasks of a chain that is tried with every line of marks */
 enum { MOST_STEPS = 1000000 };     /* of the climbs to all windows of a table that is asked by the former rule too */
 
 static const char *const entry_name[] = {"latency", "misses", "misses plain", "misses at most", "segment",
@@ -128,66 +125,6 @@ static const char *const list_name[] = {"a list that goes on by whole lists", "a
                                         "one that does not, best step 3",     "one that does not, best step 4",
                                         "one that does not, best step 5",     "one that does not, best step 6",
                                         "one that does not, best step 7",     "one that does not, best step 8"};
-
-/* What a chain is that is cut into segments, and what its two numbers are; more than one of these may hold. */
-enum {
-    LEAST_TASKS,
-    ALL_ONES = LEAST_TASKS + 16,
-    ALL_16_ONES,
-    BELOW_TAIL_ALONE,
-    NO_ONES,
-    NO_16_ONES,
-    WRAPS,
-    WRAPS_CUT_BEFORE,
-    WRAPS_CUT_AFTER,
-    WRAPS_CUT_TWICE,
-    WRAPS_AND_MORE,
-    DEAREST_BY_WRAPPING,
-    ENDS_BEFORE_FIRST,
-    STARTS_AFTER_LAST,
-    NEITHER_END,
-    AT_FLOOR,
-    AT_TAIL,
-    FLOOR_IS_TAIL,
-    FLOOR_IS_TAIL_DEFERRED,
-    LOW_START,
-    CUT_GROUNDS
-};
-static const char *const cut_name[] = {"1 task",
-                                       "2 tasks",
-                                       "3 tasks",
-                                       "4 tasks",
-                                       "5 tasks",
-                                       "6 tasks",
-                                       "7 tasks",
-                                       "8 tasks",
-                                       "9 tasks",
-                                       "10 tasks",
-                                       "11 tasks",
-                                       "12 tasks",
-                                       "13 tasks",
-                                       "14 tasks",
-                                       "15 tasks",
-                                       "16 tasks",
-                                       "all at or above the floor and the tail",
-                                       "all 16 at or above the floor and the tail, 65535",
-                                       "all at or above the floor and below the tail",
-                                       "all below the floor, 0",
-                                       "all 16 below the floor, 0",
-                                       "a stretch that wraps",
-                                       "one that wraps, cut before the chain's end",
-                                       "one that wraps, cut after it",
-                                       "one that wraps, cut before it and after it",
-                                       "one that wraps, beside others",
-                                       "synchronous, the dearest segment wraps",
-                                       "a stretch up to the last task, the first below the floor",
-                                       "a stretch from the first task, the last below the floor",
-                                       "a stretch between, both ends below the floor",
-                                       "a task at the floor, below the tail",
-                                       "a task at the tail, above the floor",
-                                       "floor and tail the same, free",
-                                       "floor and tail the same, deferred",
-                                       "a stretch whose first task is below the tail"};
 
 /* What a check comes to where it is the form that decides. Of a largest distance that is at fault, the only reason. */
 enum {
@@ -325,7 +262,6 @@ static uint64_t latency_changed[LATENCY_CHANGES];
 static uint64_t misses_changed[MISSES_CHANGES];
 static uint64_t bound_changed[BOUND_CHANGES];
 static uint64_t list_met[MISSES + 1][LIST_GROUNDS];
-static uint64_t cut_met[CUT_GROUNDS];
 static uint64_t check_met[CHECK_GROUNDS];
 static uint64_t save_met[SAVE_GROUNDS];
 static uint64_t merge_met[MERGE_GROUNDS];
@@ -340,7 +276,6 @@ static const struct tally tallies[] = {{"misses", GROUNDS, ground_name, ground_m
                                        {"misses at most", BOUND_CHANGES, bound_change, bound_changed},
                                        {"latency", LIST_GROUNDS, list_name, list_met[LATENCY]},
                                        {"misses", LIST_GROUNDS, list_name, list_met[MISSES]},
-                                       {"segment", CUT_GROUNDS, cut_name, cut_met},
                                        {"check", CHECK_GROUNDS, check_name, check_met},
                                        {"save", SAVE_GROUNDS, save_name, save_met},
                                        {"merge", MERGE_GROUNDS, merge_name, merge_met},
@@ -842,194 +777,6 @@ static struct places find_places(const struct generated *table)
     return places;
 }
 
-/* ---- Segments ---- */
-
-static bool same_cuts(const struct plain_cut *one, const struct plain_cut *other)
-{
-    return one->deferred == other->deferred && one->first_segment_cost == other->first_segment_cost &&
-           one->segments == other->segments && one->actives == other->actives &&
-           memcmp(one->segment_cost, other->segment_cost, one->segments * sizeof one->segment_cost[0]) == 0 &&
-           memcmp(one->active, other->active, one->actives * sizeof one->active[0]) == 0;
-}
-
-static void print_cut(const char *whose, const struct plain_cut *cut)
-{
-    printf("%s: %s, first-segment cost %" PRIu64 ", segments:", whose, cut->deferred ? "deferred" : "free",
-           cut->first_segment_cost);
-    for (unsigned i = 0; i < cut->segments; i++)
-        printf(" %" PRIu64, cut->segment_cost[i]);
-    printf(", active segments:");
-    for (unsigned i = 0; i < cut->actives; i++)
-        printf(" %u to %u of %u", cut->active[i].first + 1, cut->active[i].end, cut->active[i].segment + 1);
-    putchar('\n');
-}
-
-/* Cuts a chain against another both ways: from bits and from priorities it is the same. */
-static struct plain_cut cut_both_ways(const struct generated *table, const struct mishtodran_row *a,
-                                      const struct mishtodran_row *b)
-{
-    struct plain_cut by_bits = cut_by_bits(a, b);
-    struct plain_cut by_priorities = plain_cut_by_priorities(table->bytes, table->length, a->id, b->id);
-    if (same_cuts(&by_bits, &by_priorities))
-        return by_bits;
-    printf("chain %u against chain %u is cut in two ways\n", a->id, b->id);
-    printf("family: %s %s\n", table->family, table->damage);
-    print_hex("table", table->bytes, table->length);
-    print_cut("from bits", &by_bits);
-    print_cut("from priorities", &by_priorities);
-    exit(1);
-}
-
-/* What a segment query must come to by the cut of a chain whose tasks stand at this byte. */
-static struct outcome by_cut(const struct plain_cut *cut, size_t tasks_at, uint32_t number)
-{
-    struct outcome outcome = nothing_yet();
-    if (number < 1 || number > cut->actives) {
-        outcome.returned = 26;
-        return outcome;
-    }
-    struct plain_active active = cut->active[number - 1];
-    put32(outcome.answer, tasks_at + 8 * active.first);
-    put32(outcome.answer + 4, 8 * (active.end - active.first));
-    return outcome;
-}
-
-/* Asks both for one active segment: it is the cut's. */
-static void ask_segment(const struct generated *table, const struct query *query, const struct plain_cut *cut,
-                        size_t tasks_at)
-{
-    struct outcome expected = by_cut(cut, tasks_at, query->number[2]), found = ask(table, *query);
-    if (same(&found, &expected))
-        return;
-    print_hex("table", table->bytes, table->length);
-    print_cut("from bits", cut);
-    stop_at_query(table, query, &found, &expected, false);
-}
-
-/* Numbers that no active segment has. */
-static const uint32_t far_off[] = {UINT32_MAX, 1u << 16 | 1};
-
-/* For every number up to one past the last, and for numbers far off. */
-static void ask_cut(const struct generated *table, const struct places *places, unsigned a, unsigned b,
-                    const struct plain_cut *cut)
-{
-    struct query query = {SEGMENT, {places->id[a], places->id[b], 0}, answer_bytes[SEGMENT]};
-    size_t tasks_at = places->at[a] + parts_of(table->bytes + places->at[a]).tasks_at;
-    for (; query.number[2] <= cut->actives + 1; query.number[2]++)
-        ask_segment(table, &query, cut, tasks_at);
-    for (unsigned i = 0; i < sizeof far_off / sizeof far_off[0]; i++) {
-        query.number[2] = far_off[i];
-        ask_segment(table, &query, cut, tasks_at);
-    }
-}
-
-static bool has_priority(const struct mishtodran_row *a, uint32_t priority)
-{
-    for (unsigned i = 0; i < a->tasks; i++)
-        if (a->priority[i] == priority)
-            return true;
-    return false;
-}
-
-static void note_priorities(const struct mishtodran_row *a, const struct mishtodran_row *b, bool deferred)
-{
-    uint32_t floor = floor_of_row(b), tail = tail_of_row(b);
-    cut_met[AT_FLOOR] += floor < tail && has_priority(a, floor);
-    cut_met[AT_TAIL] += floor < tail && has_priority(a, tail);
-    cut_met[FLOOR_IS_TAIL] += floor == tail && !deferred;
-    cut_met[FLOOR_IS_TAIL_DEFERRED] += floor == tail && deferred;
-}
-
-static void note_numbers(struct bits bits, unsigned tasks)
-{
-    uint32_t all = (1u << tasks) - 1, starts = bits.floor & ~((uint32_t)bits.floor << 1);
-    bool first = bits.floor & 1, last = bits.floor >> (tasks - 1) & 1, deferred = bits.floor != all;
-    cut_met[LEAST_TASKS + tasks - 1]++;
-    cut_met[ALL_ONES] += bits.tail == all;
-    cut_met[ALL_16_ONES] += bits.tail == 65535;
-    cut_met[BELOW_TAIL_ALONE] += !deferred && bits.tail == 0;
-    cut_met[NO_ONES] += bits.floor == 0;
-    cut_met[NO_16_ONES] += bits.floor == 0 && tasks == 16;
-    cut_met[ENDS_BEFORE_FIRST] += !first && last;
-    cut_met[STARTS_AFTER_LAST] += first && !last;
-    cut_met[NEITHER_END] += !first && !last && bits.floor != 0;
-    cut_met[LOW_START] += (starts & ~(uint32_t)bits.tail) != 0;
-}
-
-/* How many active segments follow one another from the chain's start, and up to its end, where a task between is below the
-   floor. */
-static unsigned actives_from_start(const struct plain_cut *cut)
-{
-    unsigned count = 1;
-    while (cut->active[count - 1].end == cut->active[count].first)
-        count++;
-    return count;
-}
-
-static unsigned actives_up_to_end(const struct plain_cut *cut)
-{
-    unsigned count = 1;
-    while (cut->active[cut->actives - count].first == cut->active[cut->actives - count - 1].end)
-        count++;
-    return count;
-}
-
-static bool last_is_dearest(const struct plain_cut *cut)
-{
-    for (unsigned i = 0; i + 1 < cut->segments; i++)
-        if (cut->segment_cost[i] >= cut->segment_cost[cut->segments - 1])
-            return false;
-    return true;
-}
-
-/* Of a cut with a segment that wraps, which is the last. */
-static void note_wrapped(const struct plain_cut *cut, bool synchronous)
-{
-    bool before = actives_up_to_end(cut) > 1, after = actives_from_start(cut) > 1;
-    cut_met[WRAPS]++;
-    cut_met[WRAPS_CUT_BEFORE] += before;
-    cut_met[WRAPS_CUT_AFTER] += after;
-    cut_met[WRAPS_CUT_TWICE] += before && after;
-    cut_met[WRAPS_AND_MORE] += cut->segments > 1;
-    cut_met[DEAREST_BY_WRAPPING] += synchronous && last_is_dearest(cut);
-}
-
-static void note_cut(const struct mishtodran_row *a, const struct mishtodran_row *b, const struct plain_cut *cut)
-{
-    struct bits bits = bits_of(a, b);
-    unsigned tasks = (unsigned)a->tasks;
-    note_priorities(a, b, cut->deferred);
-    note_numbers(bits, tasks);
-    if (cut->deferred && (bits.floor & 1) && bits.floor >> (tasks - 1))
-        note_wrapped(cut, a->kind == 0);
-}
-
-static void ask_itself(const struct generated *table, uint32_t id)
-{
-    for (unsigned i = 0; i < sizeof far_off / sizeof far_off[0]; i++)
-        ask_whole(table, SEGMENT, id, id, far_off[i]);
-    ask_whole(table, SEGMENT, id, id, 0);
-    ask_whole(table, SEGMENT, id, id, 1);
-}
-
-/* All pairs of an accepted table, and each chain against itself. */
-static void ask_segments(const struct generated *table, const struct places *places)
-{
-    struct mishtodran_row row[MISHTODRAN_MOST_CHAINS];
-    uint8_t answer[4];
-    plain_read(table->bytes, table->length, row, MISHTODRAN_MOST_CHAINS, answer, sizeof answer);
-    for (unsigned pair = 0; pair < places->chains * places->chains; pair++) {
-        unsigned a = pair / places->chains, b = pair % places->chains;
-        if (a == b) {
-            ask_itself(table, places->id[a]);
-            continue;
-        }
-        struct plain_cut cut = cut_both_ways(table, &row[a], &row[b]);
-        ask_cut(table, places, a, b, &cut);
-        note_cut(&row[a], &row[b], &cut);
-    }
-}
-
 /* ---- All questions about a table ---- */
 
 static const uint32_t runs[] = {0, 1, 2, 3, 10, 11, 999, 1000, 1001};
@@ -1043,6 +790,20 @@ static void ask_figures(struct source *source, const struct generated *table, co
             ask_around(table, places->id[i], runs[r]);
         ask_around(table, places->id[i], (uint32_t)draw(source, 1, one_in(source, 2) ? 50 : 1000));
     }
+}
+
+static void ask_segments(const struct generated *table, const struct places *places)
+{
+    for (unsigned a = 0; a < places->chains; a++)
+        for (unsigned b = 0; b < places->chains; b++) {
+            uint32_t number = 0;
+            uint32_t returned;
+            do
+                returned = ask_whole(table, SEGMENT, places->id[a], places->id[b], number++);
+            while (returned == 0 || number == 1);
+            ask_whole(table, SEGMENT, places->id[a], places->id[b], UINT32_MAX);
+            ask_whole(table, SEGMENT, places->id[a], places->id[b], 1u << 16 | 1);
+        }
 }
 
 /* With answer buffers of other lengths: of the second of six ids for k = 10, or of the first where the packings are too
@@ -2331,34 +2092,6 @@ static void compare_table(struct source *source, struct generated *table)
 /* The table under way, to be shown where a library crashes on it. */
 static struct generated under_way;
 
-/* A table of a chain whose tasks have some marks against the first chain: its segments, and the first chain's figures, which
-   come from all that it is cut into. */
-static void compare_marked(const struct made_table *made)
-{
-    under_way = (struct generated){.family = "marked", .damage = ""};
-    under_way.length = encode(made, under_way.bytes);
-    look_at_former(&under_way);
-    struct places places = find_places(&under_way);
-    ask_segments(&under_way, &places);
-    ask_whole(&under_way, LATENCY, 1, 0, 0);
-    ask_whole(&under_way, MISSES, 1, 10, 0);
-}
-
-/* Every line of marks of up to so many tasks, of a synchronous and of an asynchronous chain; how many tables these are. */
-static unsigned compare_all_marked(void)
-{
-    unsigned tables = 0, lines = 1;
-    for (unsigned tasks = 1; tasks <= MOST_MARKED; tasks++) {
-        lines *= 3;
-        for (unsigned line = 0; line < 2 * lines; line++) {
-            struct made_table made = marked_table(tasks, line / 2, line % 2);
-            compare_marked(&made);
-            tables++;
-        }
-    }
-    return tables;
-}
-
 static void on_crash(int number)
 {
     printf("a crash, signal %d\n", number);
@@ -2509,7 +2242,6 @@ int main(int count, char **words)
     print_met();
     if (tables >= 1000 && (lacks_number() || lacks_figures() || lacks_ground()))
         return 1;
-    printf("every line of marks of up to %d tasks: %u tables\n", MOST_MARKED, compare_all_marked());
     printf("%" PRIu64 " tables, no difference\n", tables);
     if (fflush(stdout) != 0 || ferror(stdout)) {
         fputs("compare: standard output cannot be written\n", stderr);

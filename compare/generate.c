@@ -572,32 +572,6 @@ struct made_table full_table(struct source *source)
     return table;
 }
 
-/* Tasks with priorities close together, so that chains of many tasks are free or deferred as often as those of few. */
-static void fill_close(struct source *source, struct made_chain *chain, unsigned tasks)
-{
-    uint32_t lowest = (uint32_t)draw(source, 1, 8);
-    for (unsigned i = 0; i < tasks; i++)
-        add_task(chain, lowest + (uint32_t)draw(source, 0, 6), (uint32_t)draw(source, 1, 100));
-}
-
-struct made_table even_table(struct source *source, unsigned chains, unsigned tasks, unsigned overload)
-{
-    struct made_table table = {0};
-    for (unsigned i = 0; i < chains; i++) {
-        struct made_chain *chain = add_chain(&table, 1, 0, 1);
-        fill_close(source, chain, tasks);
-        chain->asynchronous = one_in(source, 2);
-        chain->overload = i >= chains - overload;
-        uint64_t rare = chain->overload ? 20 : 1;
-        chain->distance[0] = (uint32_t)(cost_of(chain) * chains * draw(source, 15, 30) / 10 * rare);
-        chain->gap = least_gap(chain);
-    }
-    mix_ids(source, &table);
-    for (unsigned i = 0; i < chains - overload; i++)
-        make_late(source, &table, i);
-    return table;
-}
-
 /* Chains that ask for more than there is: no window closes, or none does within the horizon. */
 static struct made_table heavy_table(struct source *source)
 {
@@ -838,55 +812,6 @@ struct made_table packing_table(struct source *source, unsigned segments)
         fill_tasks(source, other, 2, 9, dearest);
     }
     make_late(source, &table, 0);
-    return table;
-}
-
-/* Tasks in stretches, each below a floor of 3, at it, between it and a tail of 5, at that, or above; now and then all are
-   alike, and then mostly below the floor. */
-static void fill_stretches(struct source *source, struct made_chain *chain, unsigned tasks, uint32_t dearest)
-{
-    bool alike = one_in(source, 3);
-    uint32_t priority = alike && one_in(source, 2) ? 2 : (uint32_t)draw(source, 2, 6);
-    for (unsigned i = 0; i < tasks; i++) {
-        add_task(chain, priority, (uint32_t)draw(source, 1, dearest));
-        if (!alike && one_in(source, 3))
-            priority = (uint32_t)draw(source, 2, 6);
-    }
-}
-
-/* Chains of many tasks, some of them overload, beside one with that floor and that tail, or with a tail at its floor. */
-static struct made_table in_stretches(struct source *source)
-{
-    struct made_table table = {0};
-    struct made_chain *b = add_chain(&table, 1, 10000, (uint32_t)draw(source, 5000, 10000));
-    add_task(b, 3, (uint32_t)draw(source, 1, 50));
-    add_task(b, one_in(source, 4) ? 3 : 5, (uint32_t)draw(source, 1, 50));
-    b->asynchronous = one_in(source, 2);
-    unsigned others = (unsigned)draw(source, 1, 3);
-    for (unsigned i = 0; i < others; i++) {
-        struct made_chain *chain = add_chain(&table, 1000, 0, (uint32_t)draw(source, 5000, 50000));
-        fill_stretches(source, chain, one_in(source, 3) ? (unsigned)draw(source, 1, 15) : 16, 50);
-        chain->asynchronous = one_in(source, 2);
-        chain->overload = one_in(source, 2);
-    }
-    mix_ids(source, &table);
-    make_late(source, &table, 0);
-    return table;
-}
-
-struct made_table marked_table(unsigned tasks, unsigned line, bool asynchronous)
-{
-    struct made_table table = {0};
-    struct made_chain *b = add_chain(&table, 1520, 100000, 100000);
-    add_task(b, 2, 10);
-    add_task(b, 3, 10);
-    struct made_chain *marked = add_chain(&table, 1000, 0, 300000);
-    marked->overload = true;
-    marked->asynchronous = asynchronous;
-    for (unsigned i = 0; i < tasks; i++) {
-        add_task(marked, 1 + line % 3, 1000 + (1u << i));
-        line /= 3;
-    }
     return table;
 }
 
@@ -1843,16 +1768,15 @@ struct family {
 };
 
 static const struct family families[] = {
-    {"of the documents", 2, documented}, {"light", 6, some_light},
-    {"full", 6, full_table},             {"heavy", 3, heavy_table},
+    {"of the documents", 2, documented}, {"light", 7, some_light},
+    {"full", 6, full_table},             {"heavy", 4, heavy_table},
     {"close to one", 4, close_to_one},   {"backlog", 6, backlog},
-    {"horizon", 4, horizon},             {"exact horizon", 3, exact_horizon},
+    {"horizon", 5, horizon},             {"exact horizon", 3, exact_horizon},
     {"limits", 5, at_limits},            {"wrong count", 7, wrong_count},
     {"packing", 8, some_packing},        {"refused misses", 5, refused_misses},
     {"sieved", 10, sieved},              {"past the horizon", 2, past_horizon},
-    {"frequent", 5, frequent},           {"at arrivals", 6, at_arrivals},
+    {"frequent", 6, frequent},           {"at arrivals", 6, at_arrivals},
     {"light, stepped", 4, some_stepped}, {"stepped", 10, stepped},
-    {"in stretches", 4, in_stretches},
 };
 
 static const struct family *any_family(struct source *source)

@@ -80,16 +80,8 @@ struct made_table light_table(struct source *source, unsigned chains);
 struct made_table stepped_table(struct source *source, unsigned chains);
 /* 16 chains, 8 distances each, 64 tasks: 1,284 bytes, and 1,748 in the form "CG". */
 struct made_table full_table(struct source *source);
-/* So many chains of so many tasks and one distance each, so many at the end overload: some interfere freely with others, some
-   are deferred, and the overload mostly makes the others late. */
-struct made_table even_table(struct source *source, unsigned chains, unsigned tasks, unsigned overload);
 /* Overload chains of `segments` active segments together, against the first chain, with capacities up to 40. */
 struct made_table packing_table(struct source *source, unsigned segments);
-
-/* An overload chain beside the first one: each task is below that one's floor, at it or at its tail, as 0, 1 or 2 says, the
-   digits of `line` to the base 3 from the last on. No two sets of tasks cost the same, and it takes two tasks to make the
-   first chain late. */
-struct made_table marked_table(unsigned tasks, unsigned line, bool asynchronous);
 
 /* A table of any family, that a plain analyzer works out soon. */
 struct generated generate(struct source *source);

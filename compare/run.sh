@@ -37,5 +37,5 @@ find_glpk() {
 
 glpk=()
 [ "$program" = compare ] || find_glpk
-c_program "$program" "$top/compare"/{"$program",generate,analyzer,segments,words}.c "$library" "${glpk[@]}"
+c_program "$program" "$top/compare"/{"$program",generate,analyzer,words}.c "$library" "${glpk[@]}"
 c_run "$c_program" "$@"

@@ -14,6 +14,6 @@ c_compilers=("${native_compilers[@]}")
 c_package=gcc
 c_flags=(-std=c11 -O2 -g -Wall -Wextra "-fsanitize=address,undefined" -fno-sanitize-recover=all)
 find_compiler
-c_program sanitized "$top/compare"/{compare,generate,analyzer,segments,words,shim}.c
+c_program sanitized "$top/compare"/{compare,generate,analyzer,words,shim}.c
 # Nothing is allocated, so there are no leaks to look for, which some machines do not allow.
 check "the plain side is not as it should be" env ASAN_OPTIONS=detect_leaks=0 "$c_program" "$1" "$2"

@@ -55,8 +55,8 @@ check_number() {
     whole_number "$2" "$3" "$4" || fail "$1 is a whole number from $3 to $4, not '$2'"
 }
 
-# What the programs of compare/ take: the seed of generated tables, how many of them, and how many that have a text, each of
-# which is two files or four.
+# What the programs of compare/ take: the seed of generated tables, how many of them, and how many reports, each of which
+# is two files.
 check_seed() {
     check_number SEED "$1" 0 4294967295
 }

@@ -46,7 +46,7 @@ help_and_links() {
     expect 0 "a report" "*built the report program in*" "*rt check report" "$room/links/two" report examples/sample.table
 }
 
-# says SCRIPT: what the programs of report, check, misses, segments, merge, convert and salvage do.
+# says SCRIPT: what the programs of report, check, misses, merge, convert and salvage do.
 says() {
     echo "$1" >"$room/says"
 }
@@ -124,32 +124,6 @@ misses() {
     expect 2 "" "" "" bash -c '"$@" | :; exit "${PIPESTATUS[0]}"' sh "${misses[@]}"
     says 'echo first && for n in $(seq 50); do [ ! -e "$ROOM/seen" ] || { echo second && exit; }; sleep 0.1; done'
     expect 0 $'first\nsecond' "" "" bash -o pipefail -c '"$@" | { read -r line && echo "$line" && touch "$ROOM/seen" && cat; }' sh "${misses[@]}"
-    says 'echo a report'
-}
-
-# The program is given the id, if any; its lines are passed on as those of the misses are.
-segments() {
-    local segments=(./mishtodran segments examples/sample.table)
-    says 'echo "<$*>" && wc -c'
-    expect 0 $'<>\n140' "*built the segments program in*" "*rt check table_segments" "${segments[@]}"
-    expect 0 $'<>\n140' "" "" "${segments[@]}"
-    expect 0 $'<1>\n140' "" "" "${segments[@]}" 1
-    expect 0 $'<65535>\n140' "" "" "${segments[@]}" 65535
-    expect 0 $'<8>\n140' "" "" "${segments[@]}" 008
-    cp "$copy/examples/sample.table" "$copy/-1"
-    expect 0 $'<2>\n140' "" "" ./mishtodran segments -1 2
-    says 'printf "against\n  a chain\n    a segment\n"'
-    expect 0 $'against\n  a chain\n    a segment' "" "" "${segments[@]}"
-    says 'echo refused 12: no such id && echo a note >&2'
-    expect 1 "refused 12: no such id" "a note" "" "${segments[@]}" 7
-    says 'echo it cannot read >&2'
-    expect 2 "" $'it cannot read\nmishtodran: there is no answer' "" "${segments[@]}"
-    says 'echo half && exit 3'
-    expect 2 half "mishtodran: the answer is not whole" "" "${segments[@]}"
-    says 'echo half && printf more'
-    expect 2 half "mishtodran: the answer is not whole" "" "${segments[@]}" 1
-    says 'echo a line'
-    expect 2 "" "mishtodran: standard output cannot be written" "" sh -c './mishtodran segments examples/sample.table 1 >/dev/full'
     says 'echo a report'
 }
 
@@ -509,8 +483,8 @@ glpk() {
 
 # The gate over checks that are stood in for: it locks while it proves, ends with a check's status, and its last line is rt's.
 gate() {
-    local checks=("$copy"/{tests/{wrong_uses,commands,table_commands,merge_command,convert_command,salvage_command,segments_command,text_commands,run_c}.sh,compare/{sanitized,run,run_report,run_segments}.sh})
-    local samples=(crates/{sample,report,save_story,merge_story,table_misses,table_segments}/stdin crates/{table_merge/data/ancestor,table_convert/data/sample}.table) one
+    local checks=("$copy"/{tests/{wrong_uses,commands,table_commands,merge_command,convert_command,salvage_command,text_commands,run_c}.sh,compare/{sanitized,run,run_report}.sh})
+    local samples=(crates/{sample,report,save_story,merge_story,table_misses}/stdin crates/{table_merge/data/ancestor,table_convert/data/sample}.table) one
     for one in "${samples[@]}"; do
         mkdir -p "$copy/${one%/*}"
         cp "$copy/examples/sample.table" "$copy/$one"
@@ -559,7 +533,6 @@ help_and_links
 reports
 checks
 misses
-segments
 merges
 converts
 salvages

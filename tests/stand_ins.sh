@@ -10,8 +10,8 @@
 #
 # The stand-in rt runs $room/during, where there is one, in the middle of a build. It makes no library where there is
 # $room/makes_nothing, finds a file that is not in its layout where there is $room/unformatted, and ends the gate with the
-# line of $room/verdict, if any. What it links as the program of report, table_check, table_misses, table_segments, table_merge,
-# table_convert or table_salvage runs $room/says.
+# line of $room/verdict, if any. What it links as the program of report, table_check, table_misses, table_merge, table_convert or
+# table_salvage runs $room/says.
 
 room=$(mktemp -d) || fail "no temporary folder can be made"
 trap 'rm -rf "$room"' EXIT
@@ -73,7 +73,7 @@ case $1 in
         shift
         for crate in "$@"; do
             case $crate in
-                report | table_check | table_misses | table_segments | table_merge | table_convert | table_salvage) printf '#!/bin/sh\n. "$ROOM/says"\n' >"target/bin/$crate" && chmod +x "target/bin/$crate" ;;
+                report | table_check | table_misses | table_merge | table_convert | table_salvage) printf '#!/bin/sh\n. "$ROOM/says"\n' >"target/bin/$crate" && chmod +x "target/bin/$crate" ;;
             esac
             echo "rt: $crate proved (1 s)"
         done

@@ -1,7 +1,7 @@
 #!/usr/bin/env python3
-"""Holds the docs, and the sentences of `./mishtodran check`, `merge`, `convert`, `salvage` and `segments` and of examples/rows.c,
-against what they speak of: the header's refusals, fields, entries and version, the bytes of the examples, and the lines for a
-damaged table and a conflict.
+"""Holds the docs, and the sentences of `./mishtodran check`, `merge`, `convert` and `salvage` and of examples/rows.c, against what
+they speak of: the header's refusals, fields, entries and version, the bytes of the examples, and the lines for a damaged table and
+a conflict.
 
 Usage: try_docs.py
 
@@ -79,13 +79,13 @@ def entries():
     return lines
 
 
-# The numbers that have a sentence: a table's, an id's, and those that a merge, a conversion or a salvage has besides.
-SAID = NUMBERS | {12, 24, 32, 34, 35, 36}
+# The numbers that have a sentence: a table's, and those that a merge, a conversion or a salvage has besides.
+SAID = NUMBERS | {24, 32, 34, 35, 36}
 
 
 def sentences():
-    """Lines for the sentences of `./mishtodran check`, `merge`, `convert`, `salvage` and `segments` that are not the header's, and for
-    docs that show another line."""
+    """Lines for the sentences of `./mishtodran check`, `merge`, `convert` and `salvage` that are not the header's, and for docs
+    that show another line."""
     said = re.findall(r'^ +(\d+) => put\(\s*to,\s*b"(.*)",?\s*\),$', text_of("crates/verdict_text/src/sentence.rt"), re.M)
     due = [(number, what) for _, number, what in REFUSALS if int(number) in SAID]
     lines = [f"sentence.rt has not the header's {number}: {what}" for number, what in due if (number, what) not in said]

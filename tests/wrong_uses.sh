@@ -123,21 +123,6 @@ for k in abc 0 1001 -1 +1 1e3 0x10 " 1" "" t --fast 18446744073709551617 "a[\$(t
     wrong 2 "mishtodran: K is a whole number from 1 to 1000, not '$k'" ./mishtodran misses t --all "$k"
 done
 
-# How the chains of a table stand against each other, or against one.
-usage="mishtodran: usage: ./mishtodran segments FILE [ID]"
-wrong 2 "$usage" ./mishtodran segments
-wrong 2 "$usage" ./mishtodran segments t 1 2
-for file in none loop "" -x; do
-    wrong 2 "mishtodran: there is no file $file" ./mishtodran segments "$file"
-    wrong 2 "mishtodran: there is no file $file" ./mishtodran segments "$file" 1
-done
-wrong 2 "mishtodran: examples is a folder" ./mishtodran segments examples
-wrong 2 "mishtodran: unread cannot be read" "${user[@]}" ./mishtodran segments unread
-wrong 2 "mishtodran: standard output is closed" bash -c "./mishtodran segments t 1 >&-"
-for id in abc 0 65536 -1 +1 1e3 0x10 " 1" "" t --all 18446744073709551617 "a[\$(touch x)]"; do
-    wrong 2 "mishtodran: ID is a whole number from 1 to 65535, not '$id'" ./mishtodran segments t "$id"
-done
-
 # A text into a table, and a table to text. Python is not among the stand-ins.
 usage="mishtodran: usage: ./mishtodran table TEXT TABLE"
 wrong 2 "$usage" ./mishtodran table
@@ -186,13 +171,11 @@ wrong 2 "compare: SEED is a whole number from 0 to 4294967295, not 'x'" compare/
 wrong 2 "compare: N is a whole number from 1 to 1000000000, not '-3'" compare/run.sh lib.a compare 1 -3
 wrong 2 "compare: SEED is a whole number from 0 to 4294967295, not '1.5'" compare/run.sh lib.a bench 1.5
 wrong 2 "compare: there is no library none.a" compare/run.sh none.a compare 1 1
-for script in run_report run_segments; do
-    wrong 2 "$script: usage: compare/$script.sh PROGRAM SEED N" "compare/$script.sh" lib.a 1
-    wrong 2 "$script: N is a whole number from 1 to 10000, not '-3'" "compare/$script.sh" lib.a 1 -3
-    wrong 2 "$script: N is a whole number from 1 to 10000, not '0'" "compare/$script.sh" lib.a 1 0
-    wrong 2 "$script: SEED is a whole number from 0 to 4294967295, not 'x'" "compare/$script.sh" lib.a x 1
-    wrong 2 "$script: there is no program none" "compare/$script.sh" none 1 1
-done
+wrong 2 "run_report: usage: compare/run_report.sh PROGRAM SEED N" compare/run_report.sh lib.a 1
+wrong 2 "run_report: N is a whole number from 1 to 10000, not '-3'" compare/run_report.sh lib.a 1 -3
+wrong 2 "run_report: N is a whole number from 1 to 10000, not '0'" compare/run_report.sh lib.a 1 0
+wrong 2 "run_report: SEED is a whole number from 0 to 4294967295, not 'x'" compare/run_report.sh lib.a x 1
+wrong 2 "run_report: there is no program none" compare/run_report.sh none 1 1
 wrong 2 "sanitized: usage: compare/sanitized.sh SEED N" compare/sanitized.sh 1
 wrong 2 "sanitized: N is a whole number from 1 to 1000000000, not '0'" compare/sanitized.sh 1 0
 wrong 2 "glpk: usage: compare/glpk.sh" compare/glpk.sh target
@@ -203,7 +186,6 @@ wrong 2 "table_commands: usage: tests/table_commands.sh" tests/table_commands.sh
 wrong 2 "merge_command: usage: tests/merge_command.sh" tests/merge_command.sh all
 wrong 2 "convert_command: usage: tests/convert_command.sh" tests/convert_command.sh all
 wrong 2 "salvage_command: usage: tests/salvage_command.sh" tests/salvage_command.sh all
-wrong 2 "segments_command: usage: tests/segments_command.sh" tests/segments_command.sh all
 wrong 2 "text_commands: usage: tests/text_commands.sh" tests/text_commands.sh all
 wrong 2 "gate: usage: .ci/run" .ci/run all
 
@@ -213,7 +195,7 @@ c_package=gcc
 find_compiler
 mkdir "$copy/built" || fail "$room cannot be written"
 for program in compare bench reports; do
-    "$c_compiler" -std=c11 -o "$copy/built/$program" "$top/compare"/{"$program",generate,analyzer,segments,words,shim}.c || fail "$program was not built"
+    "$c_compiler" -std=c11 -o "$copy/built/$program" "$top/compare"/{"$program",generate,analyzer,words,shim}.c || fail "$program was not built"
 done
 "$c_compiler" -std=c11 -o "$copy/built/worst" "$top/packing/worst.c" "$top/compare/words.c" || fail "worst was not built"
 n='N is a whole number from 1 to'
@@ -228,13 +210,10 @@ wrong 2 "compare: $n 1000000000, not '99999999999999999999999'" built/compare 1 
 wrong 2 "compare: standard output cannot be written" sh -c 'built/compare 1 1 >/dev/full'
 wrong 2 "bench: usage: bench [SEED]" built/bench 1 2
 wrong 2 "bench: $seed 'x'" built/bench x
-wrong 2 "reports: usage: reports SEED N FOLDER [segments]" built/reports 1 1
-wrong 2 "reports: usage: reports SEED N FOLDER [segments]" built/reports 1 1 examples windows
-wrong 2 "reports: usage: reports SEED N FOLDER [segments]" built/reports 1 1 examples segments segments
+wrong 2 "reports: usage: reports SEED N FOLDER" built/reports 1 1
 wrong 2 "reports: $seed ' 1'" built/reports " 1" 1 examples
 wrong 2 "reports: $n 10000, not '-3'" built/reports 1 -3 examples
 wrong 2 "reports: none/1.table cannot be written" built/reports 1 1 none
-wrong 2 "reports: none/1.table cannot be written" built/reports 1 1 none segments
 wrong 2 "worst: $seed 'x'" built/worst none table x 1
 wrong 2 "worst: RUNS is a whole number from 1 to 1000000000, not '-3'" built/worst none table 1 -3
 print "wrong_uses: $tried wrong uses are refused as they should be"

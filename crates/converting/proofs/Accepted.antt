@@ -119,8 +119,8 @@ module _ {rs : List Row} (t : RowsTogether rs) where
       (λ e f. absurd (not-accepted f)) (λ e f. f) together-accepted
 
   pub together-back : rows (table_of (table_bytes rs)) ≡ rs
-  together-back = read_back rs t.typed together-written ∙ all-clear rs t.good t.typed
+  together-back = read_back rs t.typed together-written ∙ all_clear rs t.good t.typed
     where
-      all-clear : (l : List Row) → All GoodRow l → All Typed l → map cleared l ≡ l
-      all-clear [] g f = refl
-      all-clear (r ∷ l) g f = rw (cleared-good g.0 f.0, all-clear l g.1 f.1)
+      all_clear : (l : List Row) → All GoodRow l → All Typed l → map cleared l ≡ l
+      all_clear [] g f = refl
+      all_clear (r ∷ l) g f = rw (cleared-good g.0 f.0, all_clear l g.1 f.1)

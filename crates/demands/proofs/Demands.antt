@@ -14,7 +14,6 @@ use Rattle.demands.proofs.Misses.{misses_mean, answers-right}
 use Rattle.demands.proofs.Runs.{within_run, last_column, longer_run}
 use Rattle.demands.proofs.Sieve.{second_ways}
 use Rattle.demands.proofs.Former.{none_grows}
-use Rattle.demands.proofs.Bits.{from_bits}
 use Rattle.demands.proofs.Others.{same-besides, reordered, ids-deadlines-largest, regrouped}
 use Rattle.demands.proofs.Saves.{saved-deadline_or_largest}
 use Rattle.demands.proofs.Calls.{same-latency_call, same-misses_call}
@@ -36,7 +35,6 @@ demand_2 = record {
   longer_run = longer_run;
   second_ways = second_ways;
   none_grows = none_grows;
-  from_bits = from_bits;
   printed = λ n. (decimal-value n, decimal-first n);
   segment = answer-records;
 }

@@ -12,7 +12,6 @@ pub mod Misses
 pub mod Runs
 pub mod Sieve
 pub mod Former
-pub mod Bits
 pub mod Regroupings
 pub mod Others
 pub mod Saves

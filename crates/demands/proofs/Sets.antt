@@ -8,10 +8,8 @@ use native.Mathlib.Decide.{ℕ_discrete}
 use lib.Dec.{ltb}
 use lib.ListN.{length}
 use borrow.Author.Tests.{ltb-true, lt-ltb, eq-eqb, ne_eqb, eqb-true}
-use Rattle.search.specs.Bits.{bit}
 use Rattle.search.specs.Lists.{All, every}
 use Rattle.search.proofs.Choice.{when_yes, when_no}
-use Rattle.search.proofs.Bits.{bit-suc}
 use Rattle.table.specs.Code.Good.{GoodRow}
 use Rattle.table.specs.declared.Row.{Row}
 use Rattle.arrivals.specs.Arrivals.{δ}
@@ -23,6 +21,8 @@ use Rattle.windows.specs.Sieve.{due}
 use Rattle.windows.specs.declared.Window.TheVariants.{At}
 use Rattle.windows.proofs.Comparing.{Paced, typical-paced}
 use Rattle.windows.proofs.Least.{window-only, window-at}
+use Rattle.packing.specs.Packing.{bit}
+use Rattle.packing.proofs.Bits.{bit-suc}
 use Rattle.misses.specs.Overloads.{Piece}
 use Rattle.misses.specs.Sets.{members, agree, together, allowed, set_cost}
 use Rattle.misses.specs.Bad.{with_cost, over, bad, by_windows}

@@ -29,7 +29,6 @@ use Rattle.demands.specs.Figures.{Exactly}
 use Rattle.demands.specs.Misses.{MeansOf, SaysMissed, LastColumn, Right}
 use Rattle.demands.specs.Sieve.{SecondWays}
 use Rattle.demands.specs.Former.{NoneGrows}
-use Rattle.demands.specs.Bits.{FromBits}
 use Rattle.demands.specs.Others.{Besides, SameBesides, Unmoved, Reordered, SameWork, RegroupedTasks, DeadlineOrLargest, SameCall}
 use Rattle.demands.specs.Starred.{sample}
 use Rattle.demands.specs.Witness.{altered}
@@ -77,8 +76,6 @@ pub record Demand2 : Type 0 where
   pub second_ways : SecondWays
   -- distances add up: no figure is greater than by the rule that 01 had before, and none is lost (02, request 9)
   pub none_grows : NoneGrows
-  -- segments taken from bits are those taken from priorities, the wrapped stretch included, for every two rows (02, request 10)
-  pub from_bits : FromBits
   -- the report prints a figure in decimal: the digits read back as the figure, and the first is no 0 but in 0 itself
   pub printed : (n : ℕ) → (value_from 0 (decimal n) ≡ n) × (0 < n → 48 < get_or (decimal n) 0 0)
   -- an active segment is handed back as the records of its tasks

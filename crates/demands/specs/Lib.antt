@@ -8,7 +8,6 @@ pub mod Figures
 pub mod Misses
 pub mod Sieve
 pub mod Former
-pub mod Bits
 pub mod Others
 pub mod Merges
 pub mod Rows

@@ -1,6 +1,5 @@
 -- Demand 2 for the miss query, and for the sieve: what an answer says of a chain b beside the other chains l, for a run of k activations.
 use Rattle.std.specs.Prelude.{ℕ, ◌+◌, ◌*◌, ◌^◌, ◌≤◌, ◌<◌, min, ◌≡◌, Bool, true, List, [], map, ◌⊎◌, ltb, ℤ, length, get_or}
-use Rattle.search.specs.Bits.{bit}
 use Rattle.search.specs.Choice.{◌when◌else◌}
 use Rattle.search.specs.Lists.{All}
 use Rattle.table.specs.Limits.{max_run, max_overloads, max_capacity}
@@ -10,7 +9,7 @@ use Rattle.table.specs.Record.{distances}
 use Rattle.windows.specs.Window.{Solution}
 use Rattle.windows.specs.Latency.{latency_of}
 use Rattle.windows.specs.declared.Answer.{Answer as Latency}
-use Rattle.packing.specs.Packing.{IsMost}
+use Rattle.packing.specs.Packing.{bit, IsMost}
 use Rattle.misses.specs.Overloads.{Overload, overloads, Piece, pieces_of}
 use Rattle.misses.specs.Sets.{members, set_cost}
 use Rattle.misses.specs.Bad.{with_cost}

@@ -1,10 +1,5 @@
-// What a program is given: in an open file, or in one that an argument names, read into a buffer that its caller lends; or as the number
-// that an argument says.
-mod number;
-
+// What a program is given in an open file, or in one that an argument names, read into a buffer that its caller lends.
 ghost use Rattle.std.specs.Prelude.{◌≡◌, ℕ, ◌≤◌, length};
-
-pub use number::number_in;
 
 // What came in: so many bytes, or a read failed.
 #[derive(Drop)]

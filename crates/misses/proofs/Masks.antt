@@ -10,9 +10,9 @@ use lib.Dec.{eqb}
 use lib.ListN.{length}
 use lib.Pow.{shr-shr}
 use borrow.Author.Tests.{eq-eqb, ne_eqb}
-use Rattle.search.specs.Bits.{bit}
 use Rattle.search.specs.Choice.{◌when◌else◌}
 use Rattle.search.proofs.Choice.{when_yes, when_no, true-not-false, lt_or_le}
+use Rattle.packing.specs.Packing.{bit}
 use Rattle.misses.specs.Overloads.{Piece}
 use Rattle.search.specs.Lists.{every}
 use Rattle.misses.specs.Sets.{members, agree}

@@ -7,9 +7,9 @@ use native.Mathlib.Omega.{arith}
 use lib.Dec.{ltb}
 use lib.ListN.{length, get_or}
 use borrow.Author.Tests.{lt-ltb, le-ltb}
-use Rattle.search.specs.Bits.{bit}
 use Rattle.search.specs.Lists.{sum_of, every}
 use Rattle.search.proofs.Choice.{when_yes, when_no}
+use Rattle.packing.specs.Packing.{bit}
 use Rattle.misses.specs.Overloads.{Piece}
 use Rattle.misses.specs.Sets.{members, agree, together, allowed, set_cost}
 use Rattle.misses.specs.Code.Held.{piece_at, pieces_at, members_at, price_of}

@@ -9,10 +9,10 @@ use native.Mathlib.Omega.{arith}
 use native.Mathlib.Nat.{div-one, pow-suc}
 use lib.Dec.{eqb}
 use lib.ListN.{length, get_or}
-use Rattle.search.specs.Bits.{bit}
 use Rattle.search.specs.Choice.{◌when◌else◌}
 use Rattle.search.proofs.Choice.{lt_or_le}
-use Rattle.search.proofs.Bits.{bit-suc}
+use Rattle.packing.specs.Packing.{bit}
+use Rattle.packing.proofs.Bits.{bit-suc}
 
 -- the elements that a mask holds
 unfoldable pub picked : {A : Type 0} → List A → ℕ → List A

@@ -8,13 +8,13 @@ ghost use Rattle.table.specs.Code.Taken.{Taken, Stands};
 ghost use Rattle.table.specs.Read.{table_of};
 ghost use Rattle.arrivals.specs.Arrivals.{η};
 ghost use Rattle.arrivals.specs.Code.Bounds.{longest_span};
-ghost use Rattle.segments.specs.Bits.{levels_of};
+ghost use Rattle.segments.specs.Tasks.{floor_of, tail_of};
 ghost use Rattle.misses.specs.Overloads.{Overload, overload, overloads};
 ghost use Rattle.misses.specs.Code.Held.{held_as, gathered};
 
 use crate::Pieces;
 use arrivals::eta_up_to;
-use segments::{Levels, above_of, active_segments, levels_of, tasks_there};
+use segments::{active_segments, floor_of, tail_of};
 use table::{Table, count, list_place, overload_at, record_length, u64_from_u32};
 
 // The capacity in t of the active segments of the chain at `a`, or one past the limit where it is larger.
@@ -40,14 +40,13 @@ impl Pieces {
         }
     }
 
-    // The active segments of one overload chain more, that at `a`, against a chain with these levels, and with their capacity in t; past
-    // six only the count grows.
-    fn beside(self, s: &[u8], a: usize, levels: Levels, t: u64) -> Self
-        requires { Stands s.now a × (levels.floor ≤ levels.tail) × (t ≤ longest_span) × (self.chains < max_chains) × (self.count + max_tasks ≤ max_chains * max_tasks) }
-        ensures { (b : Row) (os : List Overload) → levels ≡ levels_of b → self ≡ gathered t os → result ≡ gathered t (os ++ (overload (row_at s.now a) b ∷ [])) }
+    // The active segments of one overload chain more, that at `a`, against a chain with this floor and tail, and with their capacity
+    // in t; past six only the count grows.
+    fn beside(self, s: &[u8], a: usize, floor: u32, tail: u32, t: u64) -> Self
+        requires { Stands s.now a × (floor ≤ tail) × (t ≤ longest_span) × (self.chains < max_chains) × (self.count + max_tasks ≤ max_chains * max_tasks) }
+        ensures { (b : Row) (os : List Overload) → floor_of b ≡ floor → tail_of b ≡ tail → self ≡ gathered t os → result ≡ gathered t (os ++ (overload (row_at s.now a) b ∷ [])) }
     {
-        let tasks = tasks_there(s, a);
-        let found = active_segments(s, tasks, above_of(s, tasks, levels));
+        let found = active_segments(s, a, floor, tail);
         let most = capacity(s, a, t);
         let mut p = self;
         let mut i: usize = 0;
@@ -72,7 +71,8 @@ impl Pieces {
         requires { Taken s.now × Stands s.now b × (t ≤ longest_span) }
         ensures { result ≡ gathered t (overloads (row_at s.now b) (rows (table_of s.now))) }
     {
-        let levels = levels_of(s, b);
+        let floor = floor_of(s, b);
+        let tail = tail_of(s, b);
         let chains = count(s);
         let mut p = Pieces::none();
         let mut at: usize = 0;
@@ -82,7 +82,7 @@ impl Pieces {
             at = at + record_length(s, at);
             j += 1;
             if overload_at(s, a) != 0 {
-                p = p.beside(s, a, levels, t);
+                p = p.beside(s, a, floor, tail, t);
             }
         }
         p

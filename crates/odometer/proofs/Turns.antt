@@ -5,9 +5,8 @@ use mathlib.Core.Bool.{Bool, true, false}
 use mathlib.Core.Logic.{◌⊎◌, inl, inr, ⊎_elim}
 use native.Mathlib.Omega.{arith}
 use native.Mathlib.Nat.{eq-or-lt_of_le, mul-le-mul_right}
-use Rattle.search.specs.Bits.{bit}
 use Rattle.search.proofs.Choice.{true-not-false, lt_or_le}
-use Rattle.packing.specs.Packing.{sum_to, usable, Packing, Reached, IsMost}
+use Rattle.packing.specs.Packing.{bit, sum_to, usable, Packing, Reached, IsMost}
 use Rattle.packing.specs.Most.{most_uses}
 use Rattle.packing.proofs.Sums.{sum_to_ext, sum_to-mono, sum_to-at, sum_to-zero}
 use Rattle.packing.proofs.Bits.{some-bit}

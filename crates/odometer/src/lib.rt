@@ -2,10 +2,9 @@
 // used; that of combination 1 turns fastest. Nothing is left out, and the most uses are kept. It shares no code with the engine of
 // `packing`, and comes to the same number by another way.
 ghost use Rattle.std.specs.Prelude.{◌≡◌, Bool, false, ℕ, ◌+◌, ◌*◌, ◌≤◌, ◌<◌, max};
-ghost use Rattle.search.specs.Bits.{bit};
 ghost use Rattle.search.specs.Choice.{Tells};
 ghost use Rattle.table.specs.Limits.{max_overloads};
-ghost use Rattle.packing.specs.Packing.{combinations};
+ghost use Rattle.packing.specs.Packing.{bit, combinations};
 ghost use Rattle.packing.specs.Most.{most_uses, flagged, capacity};
 ghost use Rattle.packing.specs.Code.Engine.{max_byte};
 ghost use Rattle.odometer.specs.Code.Gone.{Gone, Going, GoesOn, uses_of};

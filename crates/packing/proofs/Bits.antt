@@ -1,12 +1,20 @@
 -- Laws of masks: their bits, and one inside another. Assumes nothing.
 use Prim.Native.Nat.{ℕ, zero, suc, min, ◌≤◌, ◌<◌, ◌/◌, ◌%◌, ◌^◌}
-use mathlib.Core.Path.{◌≡◌, ap, ◌∙◌}
+use mathlib.Core.Path.{◌≡◌, sym, ap, ◌∙◌}
 use native.Mathlib.Omega.{arith}
 use native.Mathlib.Nat.{div-one}
+use native.Mathlib.Numerals.{one-add}
 use native.Mathlib.Decide.{dec_lt}
 use lib.Bits.{bit_and, and_step, and_shr}
-use Rattle.search.specs.Bits.{bit}
-use Rattle.search.proofs.Bits.{bit-suc}
+use lib.Pow.{shr-shr}
+use Rattle.packing.specs.Packing.{bit}
+
+-- the bits of m / 2
+pub bit-suc : (i m : ℕ) → bit (suc i) m ≡ bit i (m / 2)
+bit-suc i m = ap (λ n. n % 2) (ap (λ j. m / 2 ^ j) (sym (one-add i)) ∙ sym (shr-shr m 1 i))
+
+pub bit_le : (i m : ℕ) → bit i m ≤ 1
+bit_le i m = omega arith
 
 -- a combination that is not empty has an active segment
 pub some-bit : (n m : ℕ) → 0 < m → m < 2 ^ n → (i : ℕ) × (i < n) × (bit i m ≡ 1)

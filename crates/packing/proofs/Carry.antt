@@ -8,9 +8,8 @@ use mathlib.Core.Logic.{◌⊎◌, inl, inr}
 use native.Mathlib.Omega.{arith}
 use lib.Dec.{eqb}
 use borrow.Author.Tests.{eqb-true}
-use Rattle.search.specs.Bits.{bit}
 use Rattle.search.proofs.Choice.{lt_or_le, when_cases}
-use Rattle.packing.specs.Packing.{sum_to, usable, Packing, Reached}
+use Rattle.packing.specs.Packing.{bit, sum_to, usable, Packing, Reached}
 use Rattle.packing.specs.Most.{most_uses}
 use Rattle.packing.proofs.Sums.{is, sum_to_ext, sum_to_scale, sum_to_swap, sum_to-is, sum_to-some}
 use Rattle.packing.proofs.Most.{most-greatest}

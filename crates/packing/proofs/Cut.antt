@@ -7,8 +7,7 @@ use mathlib.Core.Logic.{⊎_elim}
 use native.Mathlib.Omega.{arith}
 use native.Mathlib.Nat.{eq-or-lt_of_le, mul-le-mul_left, le-div_iff_mul-le}
 use lib.ListN.{get_or}
-use Rattle.search.specs.Bits.{bit}
-use Rattle.packing.specs.Packing.{sum_to}
+use Rattle.packing.specs.Packing.{bit, sum_to}
 use Rattle.packing.specs.Code.Engine.{nth, weight, Floor, Packed, Lowers}
 use Rattle.packing.proofs.Sums.{sum_to_ext}
 use Rattle.packing.proofs.Linear.{all_weigh, each_weighs}
@@ -20,16 +19,16 @@ weight_ext shares v a b e = sum_to_ext 6 _ _ (λ i l. ap (λ x. get_or shares (v
 
 module _ {kept shares : List ℕ} where
   -- of no combinations
-  pub floor-start : (v d : ℕ) → Floor kept shares 0 v d
-  floor-start v d = record { least = λ j l. absurd (omega arith) }
+  pub floor_start : (v d : ℕ) → Floor kept shares 0 v d
+  floor_start v d = record { least = λ j l. absurd (omega arith) }
 
   -- nothing weighs less than 0
-  pub floor-none : (n v : ℕ) → Floor kept shares n v 0
-  floor-none n v = record { least = λ j l. omega arith }
+  pub floor_none : (n v : ℕ) → Floor kept shares n v 0
+  floor_none n v = record { least = λ j l. omega arith }
 
   -- one combination more
-  pub floor-on : {n v d r : ℕ} → Floor kept shares n v d → r ≤ d → r ≤ weight shares v (λ i. bit i (nth kept n)) → Floor kept shares (n + 1) v r
-  floor-on {n} {v} {d} {r} f l h = record {
+  pub floor_on : {n v d r : ℕ} → Floor kept shares n v d → r ≤ d → r ≤ weight shares v (λ i. bit i (nth kept n)) → Floor kept shares (n + 1) v r
+  floor_on {n} {v} {d} {r} f l h = record {
     least = λ j s. ⊎_elim
         (λ e. omega (arith, h, ap (λ y. weight shares v (λ i. bit i (nth kept y))) e))
         (λ t. omega (arith, f.least j t))

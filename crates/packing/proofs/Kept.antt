@@ -11,10 +11,9 @@ use lib.ListN.{length, set, length-set}
 use lib.Seq.{get_or-set_same, get_or-set_other}
 use lib.Bits.{bit_and, and_self}
 use borrow.Author.Tests.{eqb-true, eq-eqb}
-use Rattle.search.specs.Bits.{bit}
 use Rattle.search.proofs.Choice.{true-not-false, lt_or_le}
 use Rattle.search.proofs.Find.{first_miss, first_hit}
-use Rattle.packing.specs.Packing.{usable, Reached}
+use Rattle.packing.specs.Packing.{bit, usable, Reached}
 use Rattle.packing.specs.Most.{most_uses, flagged}
 use Rattle.packing.specs.Code.Engine.{nth, kept_inside, kept_part, Kept, HasRoom, MostUpTo}
 use Rattle.packing.proofs.Bits.{inside-bits}

@@ -7,8 +7,7 @@ use mathlib.Core.Logic.{◌⊎◌, ⊎_elim}
 use native.Mathlib.Omega.{arith}
 use native.Mathlib.Nat.{mul-le-mul_left}
 use borrow.Author.Tests.{lt-ltb}
-use Rattle.search.specs.Bits.{bit}
-use Rattle.packing.specs.Packing.{sum_to, usable, Packing}
+use Rattle.packing.specs.Packing.{bit, sum_to, usable, Packing}
 use Rattle.packing.specs.Most.{most_uses}
 use Rattle.packing.proofs.Sums.{sum_to-mono, sum_to-zero}
 use Rattle.packing.proofs.Linear.{usable-some}

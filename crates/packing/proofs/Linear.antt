@@ -5,9 +5,8 @@ use mathlib.Core.Path.{◌≡◌, refl, sym, ◌∙◌}
 use mathlib.Core.Bool.{Bool, true}
 use native.Mathlib.Omega.{arith}
 use native.Mathlib.Nat.{mul-le-mul_left}
-use Rattle.search.specs.Bits.{bit}
 use Rattle.search.proofs.Choice.{true-not-false}
-use Rattle.packing.specs.Packing.{sum_to, usable}
+use Rattle.packing.specs.Packing.{bit, sum_to, usable}
 use Rattle.packing.proofs.Sums.{sum_to-mono, sum_to_ext, sum_to_scale, sum_to_swap, sum_to-at}
 use Rattle.packing.proofs.Bits.{some-bit}
 use Rattle.packing.proofs.Plain.{Below}

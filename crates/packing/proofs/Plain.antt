@@ -9,11 +9,10 @@ use native.Mathlib.Nat.{eq-or-lt_of_le, le_of_suc-le-suc}
 use lib.Dec.{eqb}
 use borrow.Author.Tests.{ltb-true, ltb-false, eqb-true, eq-eqb, ne_eqb}
 use Rattle.search.proofs.Choice.{true-not-false, lt_or_le, when_yes, when_no, when_cases}
-use Rattle.search.specs.Bits.{bit}
 use Rattle.search.specs.Find.{first}
 use Rattle.search.specs.Choice.{◌when◌else◌}
 use Rattle.search.proofs.Find.{first_miss, first-none}
-use Rattle.packing.specs.Packing.{sum_to, usable}
+use Rattle.packing.specs.Packing.{bit, sum_to, usable}
 use Rattle.packing.specs.Code.Plain.{lacks, fits, less, reach}
 use Rattle.packing.proofs.Sums.{is, is-other, sum_to_add, sum_to-is, sum_to_ext, sum_to-zero}
 

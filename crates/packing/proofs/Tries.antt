@@ -7,10 +7,9 @@ use native.Mathlib.Omega.{arith}
 use native.Mathlib.Nat.{eq-or-lt_of_le, mul-le-mul_right}
 use lib.Dec.{eqb}
 use borrow.Author.Tests.{eq-eqb, ne_eqb}
-use Rattle.search.specs.Bits.{bit}
 use Rattle.search.specs.Choice.{◌when◌else◌}
 use Rattle.search.proofs.Choice.{when_yes, when_no}
-use Rattle.packing.specs.Packing.{sum_to}
+use Rattle.packing.specs.Packing.{bit, sum_to}
 use Rattle.packing.specs.Code.Engine.{nth, Fitting, Packed, HasRoom, Ceiling, Choices}
 use Rattle.packing.proofs.Sums.{sum_to_ext, sum_to-mono, sum_to-zero, sum_to-at}
 

@@ -1,13 +1,16 @@
--- The packings of document 01, 'Misses'. A combination is a mask, one bit for each active segment, bit 0 first, 1 if it is in the
--- combination; which combinations are bad, and what the capacities are, is for the caller to say.
-use Rattle.std.specs.Prelude.{ℕ, zero, suc, ◌+◌, ◌*◌, ◌≤◌, ◌<◌, ◌^◌, ◌≡◌, Bool, true, ◌&&◌, ltb}
+-- The packings of document 01, 'Misses'. A combination is a mask, one bit for each active segment, bit 0 first; which combinations
+-- are bad, and what the capacities are, is for the caller to say.
+use Rattle.std.specs.Prelude.{ℕ, zero, suc, ◌+◌, ◌*◌, ◌≤◌, ◌<◌, ◌/◌, ◌%◌, ◌^◌, ◌≡◌, Bool, true, ◌&&◌, ltb}
 use Rattle.search.specs.Find.{Greatest}
-use Rattle.search.specs.Bits.{bit}
 use Rattle.table.specs.Limits.{max_overloads}
 
 -- how many masks there are
 abbrev pub combinations : ℕ
 combinations = 2 ^ max_overloads
+
+-- 1 if the active segment i is in the combination m, else 0
+abbrev pub bit : ℕ → ℕ → ℕ
+bit i m = m / 2 ^ i % 2
 
 -- f 0 + f 1 + .. + f (n - 1)
 unfoldable pub sum_to : ℕ → (ℕ → ℕ) → ℕ

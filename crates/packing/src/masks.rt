@@ -1,7 +1,6 @@
 // A combination is a mask, one bit for each active segment; the kept combinations are a list of masks.
 ghost use Rattle.std.specs.Prelude.{◌≡◌, ℕ, ◌+◌, ◌*◌, ◌<◌, ◌≤◌, ◌-◌, length, get_or};
-ghost use Rattle.search.specs.Bits.{bit};
-ghost use Rattle.packing.specs.Packing.{combinations};
+ghost use Rattle.packing.specs.Packing.{bit, combinations};
 ghost use Rattle.packing.specs.Most.{capacity};
 ghost use Rattle.packing.specs.Code.Engine.{kept_part, Kept, Fitting, max_room};
 ghost use Rattle.table.specs.Limits.{max_overloads};

@@ -1,8 +1,7 @@
 // Weights, which show how many uses the room is enough for: where each of the kept combinations weighs at least d, and the room
 // weighs less than need times d, there is no room for need uses. This holds for any weights.
 ghost use Rattle.std.specs.Prelude.{◌≡◌, ℕ, ◌<◌, ◌≤◌, get_or};
-ghost use Rattle.search.specs.Bits.{bit};
-ghost use Rattle.packing.specs.Packing.{combinations};
+ghost use Rattle.packing.specs.Packing.{bit, combinations};
 ghost use Rattle.packing.specs.Most.{capacity};
 ghost use Rattle.packing.specs.Code.Engine.{weight, weightings, max_chosen, max_weight, Floor};
 ghost use Rattle.table.specs.Limits.{max_overloads};

@@ -1,7 +1,6 @@
 pub mod Choice
 pub mod Find
 pub mod Lists
-pub mod Bits
 pub mod Rest
 pub mod Keeping
 pub mod Pairing

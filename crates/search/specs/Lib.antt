@@ -1,4 +1,3 @@
 pub mod Choice
 pub mod Find
 pub mod Lists
-pub mod Bits

@@ -2,32 +2,24 @@
 use Prim.Native.Nat.{ℕ, ◌+◌, ◌*◌, ◌-◌, ◌<◌, ◌≤◌}
 use native.Mathlib.Omega.{arith}
 use mathlib.Core.Path.{◌≡◌, ap, ap₂, sym, ◌∙◌}
-use mathlib.Core.List.{List}
 use mathlib.Core.Bool.{Bool, true, false, not}
 use mathlib.Core.Logic.{◌⊎◌, ⊎_elim}
 use borrow.Author.Tests.{le-ltb, lt-ltb, ltb-false}
 use lib.Dec.{ltb}
 use lib.ListN.{length, get_or}
 use Rattle.search.proofs.Choice.{when_yes, when_no}
-use Rattle.table.specs.Record.{row_at}
 use Rattle.table.specs.Find.{row_of, find_of, used}
 use Rattle.table.specs.Place.{tasks_start, place_of}
 use Rattle.table.specs.declared.Row.{Row}
 use Rattle.table.specs.declared.Table.{Table}
 use Rattle.table.proofs.Firsts.{or_left, or_right, or_none}
 use Rattle.table.proofs.Finds.{find_le}
-use Rattle.segments.specs.Tasks.{floor_of, tail_of}
-use Rattle.segments.specs.Actives.{nothing, actives_of}
-use Rattle.segments.specs.Bits.{bits_at, levels_of, above_of, actives_by}
-use Rattle.segments.specs.Code.Held.{place_at, tasks_there, arrays_of}
+use Rattle.segments.specs.Tasks.{tasks_of, floor_of, tail_of}
+use Rattle.segments.specs.Actives.{nothing, actives, actives_of}
+use Rattle.segments.specs.Code.Held.{arrays_of}
 use Rattle.segments.specs.Query.{actives_in, nth_of}
-use Rattle.segments.specs.declared.Levels.{Levels}
-use Rattle.segments.specs.declared.Above.{Above}
 use Rattle.segments.specs.declared.Actives.{Actives}
-use Rattle.segments.specs.declared.Tasks.{Tasks}
 use Rattle.segments.specs.declared.Answer.TheVariants.{Records, Refused}
-use Rattle.segments.proofs.There.{row-tasks}
-use Rattle.segments.proofs.FromBits.{actives-bits}
 use Rattle.segments.proofs.Bounds.{actives-tasks}
 use Rattle.segments.proofs.Standing.{active_contiguous, active-start, active-length, array_at}
 
@@ -42,13 +34,10 @@ module _ (t : Table) (id : ℕ) where
   pub known-below : (find_of t id ≡ t.count → ⊥) → find_of t id < t.count
   known-below e = omega (arith, find_le t id)
 
--- tasks where they stand, those of the record at `at`: their numbers at b's levels, and what `active_segments` finds by them
-module _ (s : List ℕ) (at : ℕ) (b : Row) {tasks : Tasks} (here : tasks ≡ place_at s at) where
-  pub above-is : {levels : Levels} {x : Above} → levels ≡ levels_of b → x ≡ bits_at levels (tasks_there s tasks) → x ≡ above_of (row_at s at) b
-  above-is f e = e ∙ ap₂ bits_at f (row-tasks s at here)
-
-  pub found-is : {x : Above} {l : Actives} → x ≡ above_of (row_at s at) b → l ≡ arrays_of (actives_by x (tasks_there s tasks)) → l ≡ arrays_of (actives_of (row_at s at) b)
-  found-is e f = f ∙ ap₂ (λ y ts. arrays_of (actives_by y ts)) e (row-tasks s at here) ∙ ap arrays_of (actives-bits (row_at s at) b)
+-- what `active_segments` finds of a at b's floor and tail
+pub found-is : (a b : Row) (floor tail : ℕ) (l : Actives) → floor ≡ floor_of b → tail ≡ tail_of b → l ≡ arrays_of (actives floor tail (tasks_of a))
+    → l ≡ arrays_of (actives_of a b)
+found-is a b floor tail l f t e = e ∙ ap₂ (λ x y. arrays_of (actives x y (tasks_of a))) f t
 
 -- the active segment n, counted from 1, out of the arrays: it lies inside its chain
 pub record Fetched (a b : Row) (l : Actives) (n : ℕ) : Type 0 where

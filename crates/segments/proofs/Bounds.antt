@@ -18,7 +18,7 @@ use Rattle.segments.specs.Tasks.{Task, tasks_from, tasks_of, cost_of, chain_cost
 use Rattle.segments.specs.Segments.{◌on◌, stretches, cuts, parts, segments_of}
 use Rattle.segments.specs.Actives.{Active, active, in_order, actives, actives_of}
 use Rattle.segments.proofs.Steps.{task, rest-each, rest-length, cheap}
-use Rattle.segments.proofs.Floors.{lowest_hit}
+use Rattle.segments.proofs.Levels.{lowest_hit}
 use Rattle.segments.proofs.Lists.{sum_ones, each-sum, most-sum, sum-map, sum-flatten}
 use Rattle.segments.proofs.Stretches.{cuts-flatten}
 use Rattle.segments.proofs.Costing.{kept, stretches-cost, all-kept}

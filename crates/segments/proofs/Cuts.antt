@@ -5,19 +5,20 @@ use mathlib.Core.Path.{◌≡◌, refl, ap, ap₂, sym, ◌∙◌}
 use mathlib.Core.List.{List, [], ◌∷◌, ◌++◌, append_assoc, append-nil, map, map-append}
 use mathlib.Core.Bool.{Bool, true, false}
 use lib.Dec.{eqb}
-use borrow.Author.Tests.{eq-eqb, ne_eqb}
-use lib.ListN.{length, drop, set, replicate, length-append, length-map}
+use borrow.Author.Tests.{lt-ltb, le-ltb, ltb-false, eq-eqb, ne_eqb}
+use lib.ListN.{length, get_or, drop, set, replicate, length-append, length-map}
 use lib.Seq.{set_at}
 use Rattle.search.specs.Choice.{◌when◌else◌}
 use Rattle.search.proofs.Choice.{when_yes, when_no}
 use Rattle.table.specs.Limits.{max_tasks}
 use Rattle.table.specs.Record.{pad}
-use Rattle.segments.specs.Tasks.{Task, tasks_from, cost_of, before}
-use Rattle.segments.specs.Segments.{◌on◌, stretches, cuts}
-use Rattle.segments.specs.Actives.{Active, active, start_of, numbered, in_order}
-use Rattle.segments.specs.Code.Held.{arrays_of}
+use Rattle.segments.specs.Tasks.{Task, tasks_from, cost_of, below, before}
+use Rattle.segments.specs.Segments.{◌on◌, stretches, cuts, parts}
+use Rattle.segments.specs.Actives.{Active, active, start_of, numbered, in_order, actives}
+use Rattle.segments.specs.Code.Held.{stretch_of, arrays_of}
+use Rattle.segments.specs.declared.tasks.Stretch.{Stretch}
 use Rattle.segments.specs.declared.Actives.{Actives}
-use Rattle.segments.proofs.Steps.{task, rest-on, rest_end, rest_all, rest-drop, rest-length, before-length, before_front}
+use Rattle.segments.proofs.Steps.{task, rest-on, rest_end, rest_all, rest-drop, cost-cons, ahead_of, ahead-inside}
 use Rattle.segments.proofs.Stretches.{cuts-some}
 
 -- a task in front of the first active segment of the first stretch
@@ -47,29 +48,25 @@ module _ (p : Task → Bool) where
   cuts_off t u [] e = rw e
   cuts_off t u (s ∷ ss) e = rw e
 
--- stretches between the tasks that pass p, each cut before each task that passes q; whatever passes p passes q
-abbrev pub split : (Task → Bool) → (Task → Bool) → List Task → List (List (List Task))
-split p q ts = map (cuts q) (stretches p ts)
-
-abbrev pub Implies : (Task → Bool) → (Task → Bool) → Type 0
-Implies p q = (t : Task) → q t ≡ false → p t ≡ false
-
-module _ (p q : Task → Bool) (h : Implies p q) where
+module _ (floor tail : ℕ) (h : floor ≤ tail) where
   after : List Task → List Task
-  after us = drop (length (before q us)) us
+  after us = drop (length (before (below tail) us)) us
 
-  -- an active segment that starts at t goes on up to the first task that is cut off
-  split-on : (t : Task) (us : List Task) → map (cuts q) (t on stretches p us) ≡ (t ∷ before q us) on split p q (after us)
-  unfolding stretches before after cuts ◌when◌else◌
-  split-on t [] = refl
-  split-on t (u ∷ us) = go (q u) (p u) refl refl (split-on u us)
+  -- an active segment that starts at t goes on up to the first task below the tail
+  parts-on : (t : Task) (us : List Task)
+      → map (cuts (below tail)) (t on stretches (below floor) us) ≡ (t ∷ before (below tail) us) on parts floor tail (after us)
+  unfolding parts stretches before after cuts ◌when◌else◌
+  parts-on t [] = refl
+  parts-on t (u ∷ us) = go (below tail u) (below floor u) refl refl (parts-on u us)
     where
-      go : (b c : Bool) → q u ≡ b → p u ≡ c
-          → map (cuts q) (u on stretches p us) ≡ (u ∷ before q us) on split p q (after us)
-          → map (cuts q) (t on stretches p (u ∷ us)) ≡ (t ∷ before q (u ∷ us)) on split p q (after (u ∷ us))
+      go : (b c : Bool) → below tail u ≡ b → below floor u ≡ c
+          → map (cuts (below tail)) (u on stretches (below floor) us) ≡ (u ∷ before (below tail) us) on parts floor tail (after us)
+          → map (cuts (below tail)) (t on stretches (below floor) (u ∷ us)) ≡ (t ∷ before (below tail) (u ∷ us)) on parts floor tail (after (u ∷ us))
       go true true e f r = rw (e, f)
-      go true false e f r = rw (e, f) (cuts_off q t u (stretches p us) e)
-      go false c e f r = rw (e, h u e) (cuts-on q t u (stretches p us) e ∙ ap (push t) r ∙ push-on t (u ∷ before q us) (split p q (after us)))
+      go true false e f r = rw (e, f) (cuts_off (below tail) t u (stretches (below floor) us) e)
+      go false c e f r =
+          let high : below floor u ≡ false = le-ltb u.priority floor (omega (arith, ltb-false u.priority tail e)) in
+          rw (e, high) (cuts-on (below tail) t u (stretches (below floor) us) e ∙ ap (push t) r ∙ push-on t (u ∷ before (below tail) us) (parts floor tail (after us)))
 
 -- the active segments of the stretches from that one on, where the number of the last stretch is known
 pub tagged : ℕ → ℕ → List (List (List Task)) → List Active
@@ -94,15 +91,15 @@ unfolding tagged
 tagged-put last stretch a [] = refl
 tagged-put last stretch a (p ∷ ps) = refl
 
-module _ (p q : Task → Bool) (last stretch : ℕ) (t : Task) (us : List Task) where
-  tagged-low : p t ≡ true → tagged last stretch (split p q (t ∷ us)) ≡ tagged last (stretch + 1) (split p q us)
-  unfolding tagged stretches cuts ◌when◌else◌
-  tagged-low l = rw l
+module _ (floor tail last stretch : ℕ) (t : Task) (us : List Task) where
+  tagged-low : t.priority < floor → tagged last stretch (parts floor tail (t ∷ us)) ≡ tagged last (stretch + 1) (parts floor tail us)
+  unfolding tagged parts stretches cuts ◌when◌else◌
+  tagged-low l = rw (lt-ltb t.priority floor l)
 
-  tagged-on : Implies p q → p t ≡ false
-      → tagged last stretch (split p q (t ∷ us)) ≡ active (last when eqb stretch 0 else stretch) (t ∷ before q us) ∷ tagged last stretch (split p q (drop (length (before q us)) us))
-  unfolding stretches ◌when◌else◌ after
-  tagged-on h l = rw l (ap (tagged last stretch) (split-on p q h t us) ∙ tagged-put last stretch (t ∷ before q us) (split p q (after p q h us)))
+  tagged-on : floor ≤ tail → floor ≤ t.priority
+      → tagged last stretch (parts floor tail (t ∷ us)) ≡ active (last when eqb stretch 0 else stretch) (t ∷ before (below tail) us) ∷ tagged last stretch (parts floor tail (drop (length (before (below tail) us)) us))
+  unfolding parts stretches ◌when◌else◌ after
+  tagged-on h l = rw (le-ltb t.priority floor l) (ap (tagged last stretch) (parts-on floor tail h t us) ∙ tagged-put last stretch (t ∷ before (below tail) us) (parts floor tail (after floor tail h us)))
 
 -- one active segment more in the arrays
 abbrev pub plus : Actives → ℕ → ℕ → ℕ → ℕ → Actives
@@ -130,11 +127,11 @@ put : (l : List Active) (a : Active) → length l < max_tasks → arrays_of (l +
 put l a h = rw (map-put (λ b. b.start) l a h, map-put (λ b. b.len) l a h, map-put (λ b. b.cost) l a h, map-put (λ b. b.segment) l a h, length-append)
 
 -- the loop of `active_segments`
-module _ (p q : Task → Bool) (ps cs : List ℕ) (n last : ℕ) where
+module _ (ps cs : List ℕ) (n floor tail last : ℕ) where
   pub left : ℕ → ℕ → List Active
-  left stretch i = tagged last stretch (split p q (tasks_from ps cs (n - i) i))
+  left stretch i = tagged last stretch (parts floor tail (tasks_from ps cs (n - i) i))
 
-  -- at the task i, after `stretch` tasks that pass p: those found and those left are all of them
+  -- at the task i, after `stretch` tasks below the floor: those found and those left are all of them
   pub record Cutting (out : Actives) (stretch i : ℕ) : Type 0 where
     pub found : List Active
     pub is : out ≡ arrays_of found
@@ -146,29 +143,28 @@ module _ (p q : Task → Bool) (ps cs : List ℕ) (n last : ℕ) where
   pub cutting_start : (out : Actives) → out ≡ arrays_of [] → Cutting out 0 0
   cutting_start out e = record { found = []; is = e; whole = refl; inside = omega arith; few = omega arith; low = omega arith }
 
-  pub cutting_low : (out : Actives) (stretch i : ℕ) → Cutting out stretch i → i < n → p (task ps cs i) ≡ true → Cutting out (stretch + 1) (i + 1)
+  pub cutting_low : (out : Actives) (stretch i : ℕ) → Cutting out stretch i → i < n → get_or ps i 0 < floor → Cutting out (stretch + 1) (i + 1)
   unfolding left
   cutting_low out stretch i c h l = record {
     found = c.found;
     is = c.is;
-    whole = ap (λ r. c.found ++ r) (sym (ap (λ r. tagged last stretch (split p q r)) (rest-on ps cs n i h) ∙ tagged-low p q last stretch (task ps cs i) _ l)) ∙ c.whole;
+    whole = ap (λ r. c.found ++ r) (sym (ap (λ r. tagged last stretch (parts floor tail r)) (rest-on ps cs n i h) ∙ tagged-low floor tail last stretch (task ps cs i) _ l)) ∙ c.whole;
     inside = omega arith;
     few = omega (arith, c.few);
     low = omega (arith, c.low);
   }
 
-  -- the active segment that starts at the task i, and ends before the task `next`
-  pub cutting_on : (out : Actives) (stretch i next : ℕ) → Cutting out stretch i → i < n → n ≤ max_tasks → Implies p q → p (task ps cs i) ≡ false
-      → next ≡ i + 1 + length (before q (tasks_from ps cs (n - (i + 1)) (i + 1)))
-      → Cutting (plus out i (next - i) (cost_of (tasks_from ps cs (next - i) i)) (last when eqb stretch 0 else stretch)) stretch next
-  unfolding left start_of tasks_from
-  cutting_on out stretch i next c h m g l d = record {
+  pub cutting_on : (out : Actives) (stretch i : ℕ) (r : Stretch) → Cutting out stretch i → i < n → n ≤ max_tasks → floor ≤ tail → floor ≤ get_or ps i 0
+      → r ≡ stretch_of (ahead_of ps cs n tail (i + 1))
+      → Cutting (plus out i (r.len + 1) (get_or cs i 0 + r.cost) (last when eqb stretch 0 else stretch)) stretch (i + 1 + r.len)
+  unfolding left start_of
+  cutting_on out stretch i r c h m g l d = record {
     found = c.found ++ (a ∷ []);
-    is = ap (λ o. plus o i (next - i) (cost_of (tasks_from ps cs (next - i) i)) j) c.is ∙ ap₂ (λ x y. plus (arrays_of c.found) i x y j) size price ∙ sym (put c.found a (omega (arith, c.few)));
-    whole = append_assoc c.found (a ∷ []) (left stretch next) ∙ ap (λ r. c.found ++ r) (sym step) ∙ c.whole;
-    inside = omega (arith, d, before-length q us, rest-length ps cs (n - (i + 1)) (i + 1));
-    few = omega (arith, d, c.few, length-append c.found (a ∷ []));
-    low = omega (arith, d, c.low);
+    is = ap (λ o. plus o i (r.len + 1) (get_or cs i 0 + r.cost) j) c.is ∙ ap₂ (λ x y. plus (arrays_of c.found) i x y j) size price ∙ sym (put c.found a (omega (arith, c.few)));
+    whole = append_assoc c.found (a ∷ []) (left stretch (i + 1 + r.len)) ∙ ap (λ q. c.found ++ q) (sym step) ∙ c.whole;
+    inside = ahead-inside ps cs n tail (i + 1) r d (omega arith);
+    few = omega (arith, c.few, length-append c.found (a ∷ []));
+    low = omega (arith, c.low);
   }
     where
       us : List Task
@@ -178,27 +174,27 @@ module _ (p q : Task → Bool) (ps cs : List ℕ) (n last : ℕ) where
       j = last when eqb stretch 0 else stretch
 
       a : Active
-      a = active j (task ps cs i ∷ before q us)
+      a = active j (task ps cs i ∷ before (below tail) us)
 
-      size : next - i ≡ suc (length (before q us))
-      size = omega (arith, d)
+      len : r.len ≡ length (before (below tail) us)
+      len = ap (λ s. s.len) d
 
-      price : cost_of (tasks_from ps cs (next - i) i) ≡ cost_of (task ps cs i ∷ before q us)
-      price = ap (λ k. cost_of (tasks_from ps cs k i)) size ∙ ap (λ r. cost_of (task ps cs i ∷ r)) (sym (before_front q ps cs (n - (i + 1)) (i + 1)))
+      size : r.len + 1 ≡ suc (length (before (below tail) us))
+      size = omega (arith, len)
 
-      rest : drop (length (before q us)) us ≡ tasks_from ps cs (n - next) next
-      rest =
-          let x : n - (i + 1) - length (before q us) ≡ n - next = omega (arith, d) in
-          let y : i + 1 + length (before q us) ≡ next = omega (arith, d) in
-          rest-drop ps cs (n - (i + 1)) (i + 1) (length (before q us)) ∙ ap₂ (tasks_from ps cs) x y
+      price : get_or cs i 0 + r.cost ≡ cost_of (task ps cs i ∷ before (below tail) us)
+      price = omega (arith, ap (λ s. s.cost) d, cost-cons (task ps cs i) (before (below tail) us))
 
-      step : left stretch i ≡ a ∷ left stretch next
-      step = ap (λ r. tagged last stretch (split p q r)) (rest-on ps cs n i h) ∙ tagged-on p q last stretch (task ps cs i) us g l ∙ ap (λ r. a ∷ tagged last stretch (split p q r)) rest
+      next : drop (length (before (below tail) us)) us ≡ tasks_from ps cs (n - (i + 1 + r.len)) (i + 1 + r.len)
+      next = rest-drop ps cs (n - (i + 1)) (i + 1) (length (before (below tail) us)) ∙ ap₂ (tasks_from ps cs) (omega (arith, len)) (omega (arith, len))
 
-  pub cutting_end : (out : Actives) (stretch i : ℕ) → Cutting out stretch i → n ≤ i → last + 1 ≡ length (stretches p (tasks_from ps cs n 0))
-      → out ≡ arrays_of (in_order (split p q (tasks_from ps cs n 0)))
-  unfolding left tagged stretches cuts
+      step : left stretch i ≡ a ∷ left stretch (i + 1 + r.len)
+      step = ap (λ q. tagged last stretch (parts floor tail q)) (rest-on ps cs n i h) ∙ tagged-on floor tail last stretch (task ps cs i) us g l ∙ ap (λ q. a ∷ tagged last stretch (parts floor tail q)) next
+
+  pub cutting_end : (out : Actives) (stretch i : ℕ) → Cutting out stretch i → n ≤ i → last + 1 ≡ length (stretches (below floor) (tasks_from ps cs n 0))
+      → out ≡ arrays_of (actives floor tail (tasks_from ps cs n 0))
+  unfolding left tagged actives parts stretches cuts
   cutting_end out stretch i c h e =
-      let f : c.found ≡ left 0 0 = sym (append-nil c.found) ∙ ap (λ r. c.found ++ tagged last stretch (split p q r)) (sym (rest_end ps cs n i h)) ∙ c.whole in
-      let g : last + 1 ≡ length (split p q (tasks_from ps cs n 0)) = rw length-map e in
-      c.is ∙ ap arrays_of (f ∙ ap (λ r. tagged last 0 (split p q r)) (rest_all ps cs n) ∙ tagged-order last (split p q (tasks_from ps cs n 0)) g)
+      let f : c.found ≡ left 0 0 = sym (append-nil c.found) ∙ ap (λ r. c.found ++ tagged last stretch (parts floor tail r)) (sym (rest_end ps cs n i h)) ∙ c.whole in
+      let g : last + 1 ≡ length (parts floor tail (tasks_from ps cs n 0)) = rw length-map e in
+      c.is ∙ ap arrays_of (f ∙ ap (λ r. tagged last 0 (parts floor tail r)) (rest_all ps cs n) ∙ tagged-order last (parts floor tail (tasks_from ps cs n 0)) g)

@@ -1,14 +1,11 @@
 pub mod Steps
-pub mod There
-pub mod Floors
+pub mod Levels
 pub mod Lists
 pub mod Stretches
 pub mod Costing
 pub mod Cuts
-pub mod FromBits
 pub mod Standing
 pub mod Views
-pub mod Bare
 pub mod Bounds
 pub mod Order
 pub mod Renaming

@@ -5,15 +5,17 @@ use mathlib.Core.Path.{◌≡◌, refl, ap, ap₂, sym, ◌∙◌}
 use mathlib.Core.List.Permᴰ
 use mathlib.Core.List.{List, [], ◌∷◌, ◌++◌, map, flatten, Permᴰ}
 use mathlib.Core.Bool.{false, not}
-use lib.ListN.{take}
+use lib.Dec.{eqb}
+use lib.ListN.{length, take}
 use Rattle.search.specs.Lists.{sum_of, most_of, Paired}
 use Rattle.search.proofs.Lists.{perm_sum, perm_most, paired_perm}
 use Rattle.search.proofs.Pairing.{paired_weaker, paired_turn}
 use Rattle.table.specs.declared.Row.{Row}
-use Rattle.segments.specs.Tasks.{Task, tasks_of, cost_of, chain_cost, floor_of, tail_of, below, deferred, first_cost}
+use Rattle.segments.specs.Tasks.{Task, tasks_of, cost_of, chain_cost, floor_of, tail_of, below, deferred, before, first_cost}
 use Rattle.segments.specs.Segments.{onward, around, nonempty, segments, segments_of, cut_segments}
 use Rattle.segments.specs.View.{View, view_of, sum, all_of, dearest_of}
-use Rattle.segments.proofs.Steps.{cost_nil}
+use Rattle.segments.proofs.Steps.{rest-length, cost_nil}
+use Rattle.segments.proofs.Levels.{some-before, all-before, none_before}
 use Rattle.segments.proofs.Lists.{sum-map, most-map, sum-flatten, full-sum}
 use Rattle.segments.proofs.Stretches.{stretches-none, cut-flatten}
 
@@ -77,6 +79,17 @@ module _ (a b : Row) where
   pub dearest_view : most_of cost_of (segments_of a b) ≡ dearest_of (view_of a b)
   dearest_view =
       sym (most-map cost_of (λ c. c) (segments_of a b)) ∙ ap (most_of (λ c. c)) (sym segment-costs) ∙ most-map sum (λ c. c) (view_of a b).segments
+
+  -- from the tasks before the first below the floor: it interferes freely if these are all its tasks, and costs then what they cost
+  pub free-first : (view_of a b).free ≡ eqb (length (before (below (floor_of b)) (tasks_of a))) a.tasks
+  free-first =
+      view_free ∙ some-before (below (floor_of b)) (tasks_of a)
+      ∙ ap (eqb (length (before (below (floor_of b)) (tasks_of a)))) (rest-length a.priority a.cost a.tasks 0)
+
+  pub free_all : length (before (below (floor_of b)) (tasks_of a)) ≡ a.tasks → all_of (view_of a b) ≡ first_cost a b
+  free_all h =
+      let none = all-before (below (floor_of b)) (tasks_of a) (h ∙ sym (rest-length a.priority a.cost a.tasks 0)) in
+      sym all_view ∙ free-cost none ∙ ap cost_of (sym (none_before (below (floor_of b)) (tasks_of a) none))
 
 -- what no order of a segment's active segments moves is the same, segment by segment, in views that are alike
 module _ {v w : View} (s : Alike v w) where

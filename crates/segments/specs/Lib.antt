@@ -1,7 +1,6 @@
 pub mod Tasks
 pub mod Segments
 pub mod Actives
-pub mod Bits
 pub mod View
 pub mod Query
 pub mod Code

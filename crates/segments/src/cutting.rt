@@ -1,13 +1,15 @@
 // Active segments.
-ghost use Rattle.std.specs.Prelude.{◌≡◌, [], eqb};
+ghost use Rattle.std.specs.Prelude.{◌≡◌, [], ◌≤◌, eqb};
 ghost use Rattle.search.specs.Choice.{◌when◌else◌};
-ghost use Rattle.segments.specs.Bits.{actives_by};
-ghost use Rattle.segments.specs.Code.Held.{tasks_there, There, Within, arrays_of};
+ghost use Rattle.table.specs.Record.{row_at};
+ghost use Rattle.table.specs.Code.Taken.{Stands};
+ghost use Rattle.segments.specs.Tasks.{tasks_of};
+ghost use Rattle.segments.specs.Actives.{actives as inNumber};
+ghost use Rattle.segments.specs.Code.Held.{arrays_of};
 
-use crate::bits::{is_clear, ones_from, zeros_of};
-use crate::costs::cost_between;
-use crate::{Above, Actives, Tasks};
-use table::Table;
+use crate::Actives;
+use crate::tasks::{ahead, both_sides};
+use table::{Table, cost_at, priority_at, tasks_at};
 
 impl Actives {
     // No active segment.
@@ -31,30 +33,30 @@ fn segment_of(stretch: usize, last: usize) -> usize
     if stretch == 0 { last } else { stretch }
 }
 
-// The active segments by number. At the loop's head the task i has the bit 0 for the floor, or an active segment starts there and goes
-// on up to the next 0 for the tail. A 0 for the floor ends a stretch, so the last stretch has as many before it as there are such tasks.
-pub fn active_segments(s: &[u8], tasks: Tasks, above: Above) -> Actives
-    requires { There s.now tasks × Within tasks.count above }
-    ensures { result ≡ arrays_of (actives_by above (tasks_there s.now tasks)) }
+// The active segments by number. At the loop's head the task i is below the floor, or an active segment starts there. A task
+// below the floor ends a stretch, so the last stretch has as many before it as there are such tasks.
+pub fn active_segments(s: &[u8], at: usize, floor: u32, tail: u32) -> Actives
+    requires { Stands s.now at × (floor ≤ tail) }
+    ensures { result ≡ arrays_of (inNumber floor tail (tasks_of (row_at s.now at))) }
 {
-    let n = tasks.count;
-    let last = zeros_of(above.floor, n);
+    let n = tasks_at(s, at);
+    let both = both_sides(s, at, floor);
     let mut out = Actives::empty();
     let mut stretch: usize = 0;
     let mut i: usize = 0;
     while i < n {
-        if is_clear(above.floor, i) {
+        if priority_at(s, at, i) < floor {
             stretch += 1;
             i += 1;
         } else {
-            let next = i + 1 + ones_from(above.tail, i + 1);
+            let more = ahead(s, at, i + 1, tail);
             let j = out.count;
             out.start[j] = i;
-            out.len[j] = next - i;
-            out.cost[j] = cost_between(s, tasks, i, next);
-            out.segment[j] = segment_of(stretch, last);
+            out.len[j] = more.len + 1;
+            out.cost[j] = cost_at(s, at, i) + more.cost;
+            out.segment[j] = segment_of(stretch, both.low);
             out.count = j + 1;
-            i = next;
+            i = i + 1 + more.len;
         }
     }
     out

@@ -5,10 +5,9 @@ ghost use Rattle.table.specs.Read.{table_of};
 ghost use Rattle.segments.specs.Query.{nth_of, answer_of, segment_of, HandedBack};
 
 use crate::Answer;
-use crate::bits::above_of;
 use crate::cutting::active_segments;
-use crate::reading::{levels_of, tasks_there};
-use table::{Verdict, count, find, judge, place};
+use crate::tasks::{floor_of, tail_of};
+use table::{Verdict, count, find, first_task, judge, place};
 
 // The active segment of that number, of one chain of a table against another.
 fn nth(s: &[u8], chain: usize, other: usize, number: u32) -> Answer
@@ -17,13 +16,13 @@ fn nth(s: &[u8], chain: usize, other: usize, number: u32) -> Answer
 {
     let at = place(s, chain);
     let b = place(s, other);
-    let tasks = tasks_there(s, at);
-    let found = active_segments(s, tasks, above_of(s, tasks, levels_of(s, b)));
+    let found = active_segments(s, at, floor_of(s, b), tail_of(s, b));
     let n = number as usize;
     if n == 0 || found.count < n {
         return Answer::Refused(26);
     }
-    let offset = tasks.first + 8 * found.start[n - 1];
+    let first = first_task(s, at);
+    let offset = first + 8 * found.start[n - 1];
     let length = 8 * found.len[n - 1];
     Answer::Records {
         offset: offset as u32,

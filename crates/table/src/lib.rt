@@ -21,9 +21,9 @@ pub use fault::{beside_fault, mark_of, outside};
 pub use places::{count, find, place};
 pub use reader::{judge, limit};
 pub use record::{
-    deadline_at, distance_from, first_task, flag_at, form_at, gap_at, has_flag, head_length, id_at,
-    kind_at, known_at, largest_at, list_place, listed_at, listed_from, overload_at, record_length,
-    tasks_at, tasks_part,
+    cost_at, deadline_at, distance_from, first_task, flag_at, form_at, gap_at, has_flag,
+    head_length, id_at, kind_at, known_at, largest_at, list_place, listed_at, listed_from,
+    overload_at, priority_at, record_length, tasks_at, tasks_part,
 };
 pub use wide::{u16_from_u8, u32_from_u8, u32_from_u16, u64_from_u8, u64_from_u32};
 

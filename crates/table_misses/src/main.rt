@@ -8,7 +8,7 @@ ghost use Rattle.table.specs.Code.Taken.{Taken};
 ghost use Rattle.table.specs.Read.{table_of};
 
 use counting::{Count, Extent, counted};
-use input::{Input, number_in, take_in};
+use input::{Input, take_in};
 use libc::{STDERR_FILENO, STDIN_FILENO, STDOUT_FILENO};
 use misses::{Answer, Sieved, at_most, misses};
 use table::{Table, Verdict, id_at, place, u32_from_u16};
@@ -16,9 +16,31 @@ use verdict_text::{put, put_number, put_refused};
 
 // ---- The arguments ----
 
-// How long the run is; 0, which every query refuses, where there is no argument, and another that is refused where it says no number.
+// The number that n becomes by one digit more. What is no digit, or comes after a number that is too large for a run already, makes it
+// one that every query refuses.
+fn with_digit(n: u32, digit: u8) -> u32 {
+    if 1_000 < n || digit < b'0' || b'9' < digit {
+        return 1_001;
+    }
+    n * 10 + (digit - b'0') as u32
+}
+
+// The number that the digits say.
+fn number_of(digits: &[u8]) -> u32 {
+    let mut n: u32 = 0;
+    let mut i: usize = 0;
+    while i < digits.len() {
+        n = with_digit(n, digits[i]);
+        i += 1;
+    }
+    n
+}
+
+// How long the run is; 0, which every query refuses, where there is no argument.
 fn run() -> u32 {
-    number_in(1, 1_000)
+    let mut word = io::buffer();
+    let n = os::arg(1, &mut word);
+    number_of(&word[..n])
 }
 
 // Every packing where there is a second argument.

@@ -1,11 +1,9 @@
-// What is wrong, for each number that a table, an id, a merge, a conversion or a salvage is refused with: the sentences of
-// include/mishtodran.h.
+// What is wrong, for each number that a table, a merge, a conversion or a salvage is refused with: the sentences of include/mishtodran.h.
 use crate::output::put;
 
-// What is wrong with an id or with a result. Any other number has no sentence.
-fn put_other_sentence(to: i32, number: u32) -> bool {
+// What is wrong with a result. Any other number has no sentence.
+fn put_result_sentence(to: i32, number: u32) -> bool {
     match number {
-        12 => put(to, b"the id is not in the table"),
         24 => put(
             to,
             b"the result, or the report's text, is longer than its buffer",
@@ -24,7 +22,7 @@ fn put_other_sentence(to: i32, number: u32) -> bool {
     }
 }
 
-// What is wrong with a table, with an id or with a result.
+// What is wrong with a table, or with a result.
 pub fn put_sentence(to: i32, number: u32) -> bool {
     match number {
         1 => put(
@@ -60,6 +58,6 @@ pub fn put_sentence(to: i32, number: u32) -> bool {
             to,
             b"a flag is above 1, or a largest distance falls, is too large or too small",
         ),
-        _ => put_other_sentence(to, number),
+        _ => put_result_sentence(to, number),
     }
 }

@@ -7,41 +7,35 @@ ghost use Rattle.table.specs.Find.{row_of};
 ghost use Rattle.table.specs.Code.Taken.{Taken, Stands};
 ghost use Rattle.table.specs.Read.{table_of};
 ghost use Rattle.segments.specs.Tasks.{floor_of};
-ghost use Rattle.segments.specs.Bits.{levels_of};
-ghost use Rattle.segments.specs.Code.Held.{place_at};
 ghost use Rattle.segments.specs.View.{view_of};
 ghost use Rattle.windows.specs.Demand.{counted_part};
 ghost use Rattle.windows.specs.Code.Load.{adds_to, views_at, views_from, load_of, Joins, Joined, Loads, Adds};
 
 use crate::{Others, Own, Span, Term};
-use segments::{
-    Levels, Tasks, above_of, all_cost, chain_cost, dearest_cost, end_of, first_cost, is_free,
-    levels_of, own_part, tasks_there,
-};
-use table::{Table, count, kind_at, list_place, overload_at, place, record_length};
+use segments::{ahead, all_cost, chain_cost, dearest_cost, floor_of, own_part};
+use table::{Table, count, kind_at, list_place, overload_at, place, record_length, tasks_at};
 
-// What the chain at `a` with these tasks adds to the demand of a chain with these levels.
-fn term(s: &[u8], a: usize, tasks: Tasks, levels: Levels) -> Term
-    requires { Stands s.now a × (tasks ≡ place_at s.now a) }
-    ensures { (b : Row) → levels ≡ levels_of b → Adds (view_of (row_at s.now a) b) result }
+// What the chain at `a` adds to the demand of a chain with this floor.
+fn term(s: &[u8], a: usize, floor: u32) -> Term
+    requires { Stands s.now a }
+    ensures { (b : Row) → floor_of b ≡ floor → Adds (view_of (row_at s.now a) b) result }
 {
-    let above = above_of(s, tasks, levels);
-    let floor = above.floor;
-    if is_free(floor, tasks.count) {
+    let first = ahead(s, a, 0, floor);
+    if first.len == tasks_at(s, a) {
         return Term {
-            rate: chain_cost(s, tasks) as u64,
+            rate: first.cost as u64,
             once: 0,
         };
     }
     if kind_at(s, a) == 1 {
         return Term {
-            rate: first_cost(s, tasks, floor) as u64,
-            once: all_cost(s, tasks, floor) as u64,
+            rate: first.cost as u64,
+            once: all_cost(s, a, floor) as u64,
         };
     }
     Term {
         rate: 0,
-        once: dearest_cost(s, tasks, floor) as u64,
+        once: dearest_cost(s, a, floor, first) as u64,
     }
 }
 
@@ -65,7 +59,7 @@ fn alone(s: &[u8], at: usize, floor: u32) -> Own
     Own {
         at,
         list: list_place(s, at),
-        cost: chain_cost(s, tasks_there(s, at)) as u64,
+        cost: chain_cost(s, at) as u64,
         part: part(s, at, floor),
         once: 0,
         count: 0,
@@ -86,12 +80,12 @@ fn adds(others: Others, overload: u8) -> bool
 fn join(
     s: &[u8],
     span: Span,
-    levels: Levels,
+    floor: u32,
     others: Others,
     own: Own,
     held: &mut [u64; Own::HELD],
 ) -> Own
-    requires { Joins s.now span levels own held.old }
+    requires { Joins s.now span floor own held.old }
     ensures { Joined (load_of s.now own held.old) (views_from others s.now own.at span) (load_of s.now result held.new) }
 {
     let to = span.to;
@@ -100,11 +94,10 @@ fn join(
     let mut chain = span.from;
     while chain < to {
         let here = at;
-        let tasks = tasks_there(s, here);
-        at = end_of(tasks);
+        at = at + record_length(s, at);
         chain += 1;
         if adds(others, overload_at(s, here)) {
-            let x = term(s, here, tasks, levels);
+            let x = term(s, here, floor);
             l.once = l.once + x.once;
             if x.rate != 0 {
                 let i = l.count;
@@ -124,19 +117,19 @@ pub fn load(s: &[u8], chain: usize, others: Others, held: &mut [u64; Own::HELD])
 {
     let at = place(s, chain);
     let chains = count(s);
-    let levels = levels_of(s, at);
-    let own = alone(s, at, levels.floor);
+    let floor = floor_of(s, at);
+    let own = alone(s, at, floor);
     let earlier = Span {
         at: 0,
         from: 0,
         to: chain,
     };
-    let first = join(s, earlier, levels, others, own, held);
+    let first = join(s, earlier, floor, others, own, held);
     let next = at + record_length(s, at);
     let later = Span {
         at: next,
         from: chain + 1,
         to: chains,
     };
-    join(s, later, levels, others, first, held)
+    join(s, later, floor, others, first, held)
 }

@@ -1,8 +1,8 @@
 -- The active segments of the overload chains as the code holds them.
 use Rattle.std.specs.Prelude.{ℕ, zero, suc, ◌+◌, ◌-◌, ◌/◌, ◌^◌, ◌≤◌, min, List, [], ◌∷◌, map, Bool, true, false, eqb, ltb, length, get_or, take, ◌≡◌}
-use Rattle.search.specs.Bits.{bit}
 use Rattle.search.specs.Choice.{◌when◌else◌}
 use Rattle.search.specs.Lists.{every, some}
+use Rattle.packing.specs.Packing.{bit}
 use Rattle.table.specs.Limits.{max_activations, max_run, horizon, max_overloads, max_capacity}
 use Rattle.table.specs.Record.{pad, distances}
 use Rattle.table.specs.Find.{row_of}

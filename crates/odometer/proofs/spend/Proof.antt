@@ -3,7 +3,7 @@ use Prim.Native.Nat.{◌+◌, ◌-◌, ◌≤◌}
 use mathlib.Core.Path.{◌≡◌}
 use native.Mathlib.Omega.{arith}
 use borrow.Author.Rules.{rules}
-use Rattle.search.specs.Bits.{bit}
+use Rattle.packing.specs.Packing.{bit}
 use Rattle.packing.specs.Most.{capacity}
 use Rattle.packing.proofs.Loops.{Filled, filled_on}
 use Rattle.odometer.proofs.spend.Statement.{statement}

@@ -1,8 +1,7 @@
 -- What an odometer has gone through. Packings and their uses are those of the crate `packing`.
 use Rattle.std.specs.Prelude.{ℕ, ◌+◌, ◌*◌, ◌≤◌, ◌<◌, ◌≡◌, Bool, true, ◌⊎◌, get_or}
-use Rattle.search.specs.Bits.{bit}
 use Rattle.table.specs.Limits.{max_overloads}
-use Rattle.packing.specs.Packing.{sum_to, combinations, Packing, Reached, IsMost}
+use Rattle.packing.specs.Packing.{bit, sum_to, combinations, Packing, Reached, IsMost}
 use Rattle.packing.specs.Code.Engine.{max_byte}
 use Rattle.odometer.specs.declared.Odometer.{Odometer}
 

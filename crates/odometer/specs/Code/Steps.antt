@@ -1,8 +1,7 @@
 -- What the parts of the engine (src/) say of their results.
 use Rattle.std.specs.Prelude.{ℕ, ◌+◌, ◌*◌, ◌≤◌, ◌<◌, ◌≡◌, Bool, true}
-use Rattle.search.specs.Bits.{bit}
 use Rattle.table.specs.Limits.{max_overloads}
-use Rattle.packing.specs.Packing.{combinations}
+use Rattle.packing.specs.Packing.{bit, combinations}
 use Rattle.packing.specs.Code.Engine.{max_byte, max_room}
 use Rattle.odometer.specs.declared.Odometer.{Odometer}
 use Rattle.odometer.specs.Code.Gone.{uses_of, left_of}

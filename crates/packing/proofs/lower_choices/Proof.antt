@@ -4,7 +4,7 @@ use Prim.Native.Nat.{◌*◌, ◌-◌, ◌≤◌}
 use mathlib.Core.Path.{◌≡◌, ◌∙◌}
 use native.Mathlib.Omega.{arith}
 use native.Mathlib.Nat.{mul-le-mul, div-le_self}
-use Rattle.search.specs.Bits.{bit}
+use Rattle.packing.specs.Packing.{bit}
 use Rattle.packing.specs.Code.Engine.{nth, weight, max_room, max_weight}
 use Rattle.packing.proofs.Cut.{weight_ext, cut-none, cut-above}
 use Rattle.packing.proofs.Tries.{choices_less}

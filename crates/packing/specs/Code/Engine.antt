@@ -1,10 +1,9 @@
 -- What the parts of the engine (src/) say of their results. The contracts of `most_uses` and `uses_up_to` need none of it.
 use Rattle.std.specs.Prelude.{ℕ, suc, ◌+◌, ◌*◌, ◌≤◌, ◌<◌, ◌≡◌, Bool, true, List, length, get_or, eqb}
 use Rattle.std.specs.Int.Bits.{bit_and}
-use Rattle.search.specs.Bits.{bit}
 use Rattle.search.specs.Find.{first}
 use Rattle.table.specs.Limits.{max_overloads}
-use Rattle.packing.specs.Packing.{sum_to, usable, combinations}
+use Rattle.packing.specs.Packing.{bit, sum_to, usable, combinations}
 use Rattle.packing.specs.Most.{flagged}
 
 -- a byte's greatest value

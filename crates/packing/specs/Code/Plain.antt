@@ -1,10 +1,9 @@
 -- The plain search that finds `mostUses`. Nobody has to believe it: the law `most-greatest` says what `mostUses` is.
 use Rattle.std.specs.Prelude.{ℕ, zero, suc, ◌-◌, Bool, true, false, ◌&&◌, ◌||◌, ltb, eqb}
-use Rattle.search.specs.Bits.{bit}
 use Rattle.search.specs.Choice.{◌when◌else◌}
 use Rattle.search.specs.Find.{first}
 use Rattle.table.specs.Limits.{max_overloads}
-use Rattle.packing.specs.Packing.{usable}
+use Rattle.packing.specs.Packing.{bit, usable}
 
 -- the active segment i is in m and has no room
 abbrev pub lacks : ℕ → (ℕ → ℕ) → ℕ → Bool

@@ -1,44 +1,33 @@
--- How the code holds tasks, bits and active segments.
-use Rattle.std.specs.Prelude.{ℕ, ◌+◌, ◌*◌, ◌<◌, ◌≤◌, ◌^◌, ◌≡◌, List, map, length}
-use Rattle.search.specs.Bits.{bit}
+-- How the code holds tasks and active segments.
+use Rattle.std.specs.Prelude.{ℕ, ◌*◌, ◌-◌, ◌<◌, ◌≡◌, List, map, length}
+use Rattle.search.specs.Choice.{◌when◌else◌}
+use Rattle.search.specs.Lists.{sum_of}
 use Rattle.table.specs.Limits.{max_tasks, max_cost}
-use Rattle.table.specs.Record.{priority_at, cost_at, tasks_at, first_task, spaced, pad}
-use Rattle.table.specs.Code.Good.{GoodTasks}
-use Rattle.segments.specs.Tasks.{Task, tasks_from}
+use Rattle.table.specs.Record.{pad}
+use Rattle.table.specs.declared.Row.{Row}
+use Rattle.segments.specs.Tasks.{Task, tasks_from, tasks_of, cost_of, below, before}
 use Rattle.segments.specs.Actives.{Active}
+use Rattle.segments.specs.declared.tasks.Stretch.{Stretch}
+use Rattle.segments.specs.declared.tasks.Sides.{Sides}
 use Rattle.segments.specs.declared.Actives.{Actives}
-use Rattle.segments.specs.declared.Tasks.{Tasks}
-use Rattle.segments.specs.declared.Above.{Above}
 
--- the tasks of the record at `at` stand there
-abbrev pub place_at : List ℕ → ℕ → Tasks
-place_at s at = record { first = first_task s at; count = tasks_at s at }
+-- the tasks of a chain after its first i
+abbrev pub tasks_after : Row → ℕ → List Task
+tasks_after r i = tasks_from r.priority r.cost (r.tasks - i) i
 
--- tasks read from where they stand
-abbrev pub priorities_in : List ℕ → Tasks → List ℕ
-priorities_in s t = pad max_tasks (spaced (priority_at s) 8 t.count t.first)
+-- some tasks in a row: how many there are, and what they cost
+abbrev pub stretch_of : List Task → Stretch
+stretch_of ts = record { len = length ts; cost = cost_of ts }
 
-abbrev pub costs_in : List ℕ → Tasks → List ℕ
-costs_in s t = pad max_tasks (spaced (cost_at s) 8 t.count t.first)
+-- how many tasks lie below a level, and what the others cost
+abbrev pub sides_of : ℕ → List Task → Sides
+sides_of level ts =
+    record { low = sum_of (λ t. 1 when below level t else 0) ts; cost = sum_of (λ t. 0 when below level t else t.cost) ts }
 
-abbrev pub tasks_there : List ℕ → Tasks → List Task
-tasks_there s t = tasks_from (priorities_in s t) (costs_in s t) t.count 0
-
--- all of them are there, and good ones
-pub record There (s : List ℕ) (t : Tasks) : Type 0 where
-  pub inside : t.first + 8 * t.count ≤ length s
-  pub good : GoodTasks (priorities_in s t) (costs_in s t) t.count
-
--- the two numbers can be those of n tasks: no bit stands past the last, and none for the tail where there is none for the floor
-pub record Within (n : ℕ) (x : Above) : Type 0 where
-  pub floor : x.floor < 2 ^ n
-  pub tail : x.tail < 2 ^ n
-  pub both : (i : ℕ) → bit i x.tail ≤ bit i x.floor
-
--- r bits from the bit i on are 1, and the next is 0
-pub record Ones (x i r : ℕ) : Type 0 where
-  pub each : (j : ℕ) → j < r → bit (i + j) x ≡ 1
-  pub stop : bit (i + r) x ≡ 0
+-- the first stretch of a chain, where that is not the whole chain
+pub record FirstOf (a : Row) (floor : ℕ) (first : Stretch) : Type 0 where
+  pub is : first ≡ stretch_of (before (below floor) (tasks_of a))
+  pub deferred : first.len < a.tasks
 
 -- active segments: how many there are, and arrays that are 0 past the last
 abbrev pub arrays_of : List Active → Actives

@@ -12,10 +12,9 @@ use Rattle.table.specs.declared.Table.{Table}
 use Rattle.table.specs.Code.Listed.{distances_from, Lists}
 use Rattle.table.specs.Code.Taken.{Taken, Stands}
 use Rattle.arrivals.specs.Arrivals.{δ, η}
-use Rattle.segments.specs.Bits.{levels_of}
+use Rattle.segments.specs.Tasks.{floor_of}
 use Rattle.segments.specs.View.{View, view_of}
 use Rattle.segments.specs.Code.Held.{dearest}
-use Rattle.segments.specs.declared.Levels.{Levels}
 use Rattle.windows.specs.Demand.{term_of, demand_of, typical, views_of}
 use Rattle.windows.specs.Latency.{windows_of, any_over}
 use Rattle.windows.specs.declared.Others.{Others}
@@ -130,12 +129,12 @@ pub record Adds (v : View) (x : Term) : Type 0 where
   pub term : (t : ℕ) → term_of δ v t ≡ η v.list t * x.rate + x.once
 
 -- what is asked for where the chains of a span are to stand beside a load: room for all of them
-pub record Joins (s : List ℕ) (span : Span) (levels : Levels) (own : Own) (held : List ℕ) : Type 0 where
+pub record Joins (s : List ℕ) (span : Span) (floor : ℕ) (own : Own) (held : List ℕ) : Type 0 where
   pub taken : Taken s
   pub start : span.at ≡ place_of (table_of s) span.from
   pub order : span.from ≤ span.to
   pub inside : span.to ≤ (table_of s).count
-  pub levels_is : levels ≡ levels_of (row_at s own.at)
+  pub floor_is : floor ≡ floor_of (row_at s own.at)
   pub sound : Sound (load_of s own held)
   pub few : own.count + (span.to - span.from) ≤ max_chains
   pub room : own.once + (span.to - span.from) * dearest ≤ once_limit

@@ -1,75 +1,48 @@
 -- The loop's invariant: i of the active segments found are held after what was held before.
 use Prim.Native.Nat.{◌+◌, ◌-◌, ◌≤◌}
-use mathlib.Core.Path.{◌≡◌, refl, ap, ◌∙◌}
+use mathlib.Core.Path.{◌≡◌, refl, ap, ap₂, sym, ◌∙◌}
 use native.Mathlib.Omega.{arith}
 use Rattle.table.specs.Limits.{max_tasks}
 use Rattle.table.specs.Record.{row_at}
 use Rattle.table.specs.declared.Row.{Row}
 use Rattle.segments.specs.Tasks.{tasks_of}
 use Rattle.segments.specs.Actives.{actives}
-use Rattle.segments.specs.Bits.{actives_by}
-use Rattle.segments.specs.Code.Held.{tasks_there, There, arrays_of}
-use Rattle.segments.proofs.There.{there, row-tasks}
-use Rattle.segments.proofs.FromBits.{within-there, actives-there}
+use Rattle.segments.specs.Code.Held.{arrays_of}
 use Rattle.segments.proofs.Bounds.{actives-few}
 use Rattle.misses.proofs.Gathers.{Adds, adds_none, adds_on, adds-past, adds-chain}
 use Rattle.misses.proofs.Pieces.beside.Statement.{statement}
 use Rattle.misses.proofs.Pieces.beside.Tie as tie
 
 abbrev invariant-loop : tie.invariant-loop
-invariant-loop s a t found most p₀ i₀ p i = (i ≤ found.count) × (p.chains ≡ p₀.chains) × (p.count ≡ p₀.count + i) × Adds found most p₀ p i
+invariant-loop s a floor tail t found most p₀ i₀ p i = (i ≤ found.count) × (p.chains ≡ p₀.chains) × (p.count ≡ p₀.count + i) × Adds found most p₀ p i
 
 abbrev decreases-loop : tie.decreases-loop
-decreases-loop s a t found most p₀ i₀ p i = found.count - i
+decreases-loop s a floor tail t found most p₀ i₀ p i = found.count - i
 
 -- the chain
 abbrev chain : tie.Start invariant-loop decreases-loop → Row
 chain s = row_at s.args.s.now s.args.a
 
--- its active segments, no more than it has tasks
-module _ (c : tie.After-active-segments invariant-loop decreases-loop) where
-  abbrev start : tie.Start invariant-loop decreases-loop
-  start = c.before.before.before.before
-
-  found-is : c.active-segments.result ≡ arrays_of (actives start.args.levels.floor start.args.levels.tail (tasks_of (chain start)))
-  found-is =
-      let tasks = c.before.before.tasks-there.result in
-      let s = start.args.s.now in
-      c.active-segments.ensures ∙ ap (λ x. arrays_of (actives_by x (tasks_there s tasks))) c.before.above_of.ensures
-      ∙ ap arrays_of (actives-there s tasks start.args.levels)
-      ∙ ap (λ ts. arrays_of (actives start.args.levels.floor start.args.levels.tail ts)) (row-tasks s start.args.a c.before.before.tasks-there.ensures)
-
-  few : c.active-segments.result.count ≤ max_tasks
-  few = omega (arith, ap (λ o. o.count) found-is, actives-few (chain start) start.args.levels.floor start.args.levels.tail start.pre.0.good)
-
-tasks-there-requires : tie.Need-tasks-there-requires invariant-loop decreases-loop
-tasks-there-requires c κs = c.before.requires.0
-
--- the tasks are there
-stood : (c : tie.After-tasks-there invariant-loop decreases-loop) → There c.before.before.args.s.now c.tasks-there.result
-stood c =
-    let s = c.before.before in
-    there s.args.s.now s.args.a c.tasks-there.ensures s.requires.0
-
-above-of-requires : tie.Need-above-of-requires invariant-loop decreases-loop
-above-of-requires c κs = stood c
+-- no more are found than it has tasks
+few : (c : tie.After-capacity invariant-loop decreases-loop) → c.before.active-segments.result.count ≤ max_tasks
+few c =
+    let s = c.before.before.before in
+    omega (arith, ap (λ o. o.count) c.before.active-segments.ensures, actives-few (chain s) s.args.floor s.args.tail s.requires.0.good)
 
 active-segments-requires : tie.Need-active-segments-requires invariant-loop decreases-loop
-active-segments-requires c κs =
-    let s = c.before.before.before in
-    (stood c.before, rw c.above_of.ensures (within-there s.args.s.now c.before.tasks-there.result s.args.levels s.requires.1))
+active-segments-requires c κs = let p = c.before.requires in (p.0, p.1)
 
 capacity-requires : tie.Need-capacity-requires invariant-loop decreases-loop
-capacity-requires c κs = let p = (start c).requires in (p.0, p.2)
+capacity-requires c κs = let p = c.before.before.requires in (p.0, p.2)
 
 loop-holds : tie.Need-loop-init invariant-loop decreases-loop
 loop-holds c = (omega arith, refl, omega arith, adds_none _ _ _)
 
 add-i : tie.Need-overflow-add-i invariant-loop decreases-loop
-add-i c = omega (arith, few c.before.before.before)
+add-i c = omega (arith, few c.before.before)
 
 add-p : tie.Need-overflow-add-p invariant-loop decreases-loop
-add-p c = omega (arith, few c.before.before.before, (start c.before.before.before).pre.4)
+add-p c = omega (arith, few c.before.before, c.before.before.before.before.before.requires.4)
 
 mul-p : tie.Need-overflow-mul-p invariant-loop decreases-loop
 mul-p c = omega arith
@@ -78,10 +51,10 @@ element-write-p : tie.Need-element-write-p invariant-loop decreases-loop
 element-write-p c = omega arith
 
 mul-p-2 : tie.Need-overflow-mul-p-2 invariant-loop decreases-loop
-mul-p-2 c = omega (arith, few c.before.before.before.before)
+mul-p-2 c = omega (arith, few c.before.before.before)
 
 element-copy-out-p : tie.Need-element-copy-out-p invariant-loop decreases-loop
-element-copy-out-p c = omega (arith, few c.before.before.before.before)
+element-copy-out-p c = omega (arith, few c.before.before.before)
 
 mul-p-3 : tie.Need-overflow-mul-p-3 invariant-loop decreases-loop
 mul-p-3 c = omega arith
@@ -90,10 +63,10 @@ element-write-p-2 : tie.Need-element-write-p-2 invariant-loop decreases-loop
 element-write-p-2 c = omega arith
 
 mul-u64-from-u32 : tie.Need-overflow-mul-u64-from-u32 invariant-loop decreases-loop
-mul-u64-from-u32 c = omega (arith, few c.before.before.before.before.before)
+mul-u64-from-u32 c = omega (arith, few c.before.before.before.before)
 
 element-copy-out-u64-from-u32 : tie.Need-element-copy-out-u64-from-u32 invariant-loop decreases-loop
-element-copy-out-u64-from-u32 c = omega (arith, few c.before.before.before.before.before)
+element-copy-out-u64-from-u32 c = omega (arith, few c.before.before.before.before)
 
 u64-from-u32-requires : tie.Need-u64-from-u32-requires invariant-loop decreases-loop
 u64-from-u32-requires c κs = tt
@@ -124,15 +97,14 @@ loop-again-2 c =
     (omega arith, l.invariant.1, omega arith, adds-past _ _ _ l.p l.i l.invariant.3 c.before.loop-test.true c.if1.false)
 
 add-p-2 : tie.Need-overflow-add-p-2 invariant-loop decreases-loop
-add-p-2 c = omega (arith, c.before.loop.invariant.1, (start c.before.before.before).pre.3)
+add-p-2 c = omega (arith, c.before.loop.invariant.1, c.before.before.before.before.before.requires.3)
 
 returns : tie.Need-returns invariant-loop decreases-loop
-returns c b os f e =
+returns c b os f u e =
     let l = c.before.loop in
-    let x = c.before.before.before in
-    let s = start x in
+    let s = c.before.before.before.before.before in
     adds-chain (chain s) b s.args.t os _ _ _ l.p l.i e
-    (found-is x ∙ ap (λ n. arrays_of (actives n.floor n.tail (tasks_of (chain s)))) f) c.before.before.capacity.ensures l.invariant.3 (omega arith)
+    (c.before.before.before.active-segments.ensures ∙ ap₂ (λ x y. arrays_of (actives x y (tasks_of (chain s)))) (sym f) (sym u)) c.before.before.capacity.ensures l.invariant.3 (omega arith)
 
 pub beside-spec : {M : Type 1} → statement M
 beside-spec =
@@ -140,8 +112,6 @@ beside-spec =
     (tie.spec
     invariant-loop
     decreases-loop
-    tasks-there-requires
-    above-of-requires
     active-segments-requires
     capacity-requires
     loop-holds

@@ -12,7 +12,7 @@ use Rattle.table.specs.Code.Taken.{Stands}
 use Rattle.table.specs.Read.{table_of}
 use Rattle.table.proofs.Standing.{place_none}
 use Rattle.table.proofs.Stands.{row-there, stands, place-next}
-use Rattle.segments.proofs.Floors.{levels_rise}
+use Rattle.segments.proofs.Levels.{floor_tail}
 use Rattle.misses.specs.Overloads.{overload}
 use Rattle.misses.specs.Code.Held.{gathered}
 use Rattle.misses.proofs.Gathers.{Gone, gone-none, gone-typical, gone-overload, gone-all}
@@ -20,10 +20,10 @@ use Rattle.misses.proofs.Pieces.of.Statement.{statement}
 use Rattle.misses.proofs.Pieces.of.Tie as tie
 
 abbrev invariant-loop : tie.invariant-loop
-invariant-loop s b t levels chains p₀ at₀ j₀ p at j = (at ≡ place_of (table_of s) j) × Gone (table_of s) (row_at s b) t p j
+invariant-loop s b t floor tail chains p₀ at₀ j₀ p at j = (at ≡ place_of (table_of s) j) × Gone (table_of s) (row_at s b) t p j
 
 abbrev decreases-loop : tie.decreases-loop
-decreases-loop s b t levels chains p₀ at₀ j₀ p at j = (table_of s).count - j
+decreases-loop s b t floor tail chains p₀ at₀ j₀ p at j = (table_of s).count - j
 
 -- the table, and the chain b
 abbrev table : tie.Start invariant-loop decreases-loop → Table
@@ -33,34 +33,37 @@ abbrev b : tie.Start invariant-loop decreases-loop → Row
 b s = row_at s.args.s.now s.args.b
 
 -- the chain j is there, its record stands, and so does the next one's after it
-within : (c : tie.In-loop invariant-loop decreases-loop) → c.before.loop.j < (table c.before.before.before.before.before.before).count
+within : (c : tie.In-loop invariant-loop decreases-loop) → c.before.loop.j < (table c.before.before.before.before.before.before.before).count
 within c = omega (arith, c.before.before.before.count.ensures, c.loop-test.true)
 
-here : (c : tie.In-loop invariant-loop decreases-loop) → Stands c.before.before.before.before.before.before.args.s.now c.before.loop.at
-here c = stands c.before.before.before.before.before.before.requires.0 c.before.loop.invariant.0 (within c)
+here : (c : tie.In-loop invariant-loop decreases-loop) → Stands c.before.before.before.before.before.before.before.args.s.now c.before.loop.at
+here c = stands c.before.before.before.before.before.before.before.requires.0 c.before.loop.invariant.0 (within c)
 
-next : (c : tie.After-record-length invariant-loop decreases-loop) → c.before.before.loop.at + c.record-length.result ≡ place_of (table c.before.before.before.before.before.before.before) (c.before.before.loop.j + 1)
-next c = ap (λ n. c.before.before.loop.at + n) c.record-length.ensures ∙ place-next c.before.before.before.before.before.before.before.requires.0 c.before.before.loop.invariant.0 (within c.before)
+next : (c : tie.After-record-length invariant-loop decreases-loop) → c.before.before.loop.at + c.record-length.result ≡ place_of (table c.before.before.before.before.before.before.before.before) (c.before.before.loop.j + 1)
+next c = ap (λ n. c.before.before.loop.at + n) c.record-length.ensures ∙ place-next c.before.before.before.before.before.before.before.before.requires.0 c.before.before.loop.invariant.0 (within c.before)
 
 -- its row, and its overload mark
-row : (c : tie.In-loop invariant-loop decreases-loop) → row_at c.before.before.before.before.before.before.args.s.now c.before.loop.at ≡ row_of (table c.before.before.before.before.before.before) c.before.loop.j
-row c = row-there c.before.before.before.before.before.before.requires.0 c.before.loop.invariant.0 (within c)
+row : (c : tie.In-loop invariant-loop decreases-loop) → row_at c.before.before.before.before.before.before.before.args.s.now c.before.loop.at ≡ row_of (table c.before.before.before.before.before.before.before) c.before.loop.j
+row c = row-there c.before.before.before.before.before.before.before.requires.0 c.before.loop.invariant.0 (within c)
 
-mark : (c : tie.After-overload-at invariant-loop decreases-loop) → c.overload-at.result ≡ (row_of (table c.before.before.before.before.before.before.before.before) c.before.before.before.loop.j).overload
+mark : (c : tie.After-overload-at invariant-loop decreases-loop) → c.overload-at.result ≡ (row_of (table c.before.before.before.before.before.before.before.before.before) c.before.before.before.loop.j).overload
 unfolding row_at
 mark c = c.overload-at.ensures ∙ ap (λ (r : Row). r.overload) (row c.before.before)
 
-levels-of-requires : tie.Need-levels-of-requires invariant-loop decreases-loop
-levels-of-requires c κs = c.before.requires.1
+floor-of-requires : tie.Need-floor-of-requires invariant-loop decreases-loop
+floor-of-requires c κs = c.before.requires.1
+
+tail-of-requires : tie.Need-tail-of-requires invariant-loop decreases-loop
+tail-of-requires c κs = c.before.before.requires.1
 
 count-requires : tie.Need-count-requires invariant-loop decreases-loop
-count-requires c κs = c.before.before.requires.0
+count-requires c κs = c.before.before.before.requires.0
 
 none-requires : tie.Need-none-requires invariant-loop decreases-loop
 none-requires c κs = tt
 
 loop-holds : tie.Need-loop-init invariant-loop decreases-loop
-loop-holds c = (place_none (table c.before.before.before.before), gone-none _ _ _ _ c.none.ensures)
+loop-holds c = (place_none (table c.before.before.before.before.before), gone-none _ _ _ _ c.none.ensures)
 
 record-length-requires : tie.Need-record-length-requires invariant-loop decreases-loop
 record-length-requires c κs = omega (arith, (here c).there)
@@ -69,19 +72,18 @@ add_at : tie.Need-overflow-add-at invariant-loop decreases-loop
 add_at c = omega (arith, c.record-length.ensures, (here c.before).there)
 
 add-j : tie.Need-overflow-add-j invariant-loop decreases-loop
-add-j c = omega (arith, c.before.before.before.before.before.before.before.requires.0.good.few, within c.before)
+add-j c = omega (arith, c.before.before.before.before.before.before.before.before.requires.0.good.few, within c.before)
 
 overload-at-requires : tie.Need-overload-at-requires invariant-loop decreases-loop
 overload-at-requires c κs = omega (arith, (here c.before).there)
 
 beside-requires : tie.Need-beside-requires invariant-loop decreases-loop
 beside-requires c κs =
-    let s = c.before.before.before.before.before.before.before.before.before in
+    let s = c.before.before.before.before.before.before.before.before.before.before in
     let gone = c.before.before.before.before.loop.invariant.1 in
-    let levels = c.before.before.before.before.before.before.before.levels-of.ensures in
     let h = within c.before.before.before in (
       here c.before.before.before,
-      levels_rise (b s) levels,
+      omega (arith, c.before.before.before.before.before.before.before.before.floor-of.ensures, c.before.before.before.before.before.before.before.Tail-of.ensures, floor_tail (b s)),
       s.requires.2,
       omega (arith, gone.chains, h, s.requires.0.good.few),
       omega (arith, gone.few, h, s.requires.0.good.few),
@@ -92,11 +94,11 @@ loop-less c = omega (arith, within c.before.before.before.before)
 
 loop-again : tie.Need-loop-preserved invariant-loop decreases-loop
 loop-again c =
-    let s = c.before.before.before.before.before.before.before.before.before.before in
+    let s = c.before.before.before.before.before.before.before.before.before.before.before in
     let l = c.before.before.before.before.before.loop in (
       next c.before.before.before,
       gone-overload (table s) (b s) s.args.t s.requires.0.good l.p l.j l.invariant.1 (within c.before.before.before.before) (λ e. c.before.if1.true (mark c.before.before ∙ e)) c.beside.result
-          (λ os e. c.beside.ensures (b s) os c.before.before.before.before.before.before.before.before.levels-of.ensures e
+          (λ os e. c.beside.ensures (b s) os (sym c.before.before.before.before.before.before.before.before.before.floor-of.ensures) (sym c.before.before.before.before.before.before.before.before.Tail-of.ensures) e
           ∙ ap (λ r. gathered s.args.t (os ++ (overload r (b s) ∷ []))) (row c.before.before.before.before)),
     )
 
@@ -105,7 +107,7 @@ loop-less-2 c = omega (arith, within c.before.before.before)
 
 loop-again-2 : tie.Need-loop-preserved-2 invariant-loop decreases-loop
 loop-again-2 c =
-    let s = c.before.before.before.before.before.before.before.before.before in
+    let s = c.before.before.before.before.before.before.before.before.before.before in
     let l = c.before.before.before.before.loop in (
       next c.before.before,
       gone-typical (table s) (b s) s.args.t s.requires.0.good l.p l.j l.invariant.1 (within c.before.before.before) (sym (mark c.before) ∙ c.if1.false),
@@ -113,7 +115,7 @@ loop-again-2 c =
 
 returns : tie.Need-returns invariant-loop decreases-loop
 returns c =
-    let s = c.before.before.before.before.before.before in
+    let s = c.before.before.before.before.before.before.before in
     gone-all (table s) (b s) s.args.t _ _ c.before.loop.invariant.1 (omega (arith, c.before.before.before.count.ensures, c.loop-test.false))
 
 pub of_spec : {M : Type 1} → statement M
@@ -122,7 +124,8 @@ of_spec =
     (tie.spec
     invariant-loop
     decreases-loop
-    levels-of-requires
+    floor-of-requires
+    tail-of-requires
     count-requires
     none-requires
     loop-holds

@@ -3,8 +3,8 @@ use mathlib.Core.Path.{◌≡◌, sym, ◌∙◌}
 use native.Mathlib.Omega.{arith}
 use borrow.Author.Rules.{rules}
 use borrow.Author.Tests.{eq-eqb, ne_eqb}
-use Rattle.search.specs.Bits.{bit}
 use Rattle.search.proofs.Choice.{when_yes, when_no}
+use Rattle.packing.specs.Packing.{bit}
 use Rattle.misses.proofs.Masks.{bit-low}
 use Rattle.misses.proofs.pricing.agrees.Statement.{statement}
 use Rattle.misses.proofs.pricing.agrees.Tie as tie

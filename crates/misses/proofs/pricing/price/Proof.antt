@@ -3,7 +3,7 @@ use Prim.Native.Nat.{◌-◌}
 use mathlib.Core.Path.{◌≡◌, sym, ◌∙◌}
 use native.Mathlib.Omega.{arith}
 use borrow.Author.Tests.{not-true, not-false}
-use Rattle.search.specs.Bits.{bit}
+use Rattle.packing.specs.Packing.{bit}
 use Rattle.misses.proofs.Prices.{Priced, priced_none, priced_out, priced_in, priced_never, priced_all}
 use Rattle.misses.proofs.pricing.price.Statement.{statement}
 use Rattle.misses.proofs.pricing.price.Tie as tie

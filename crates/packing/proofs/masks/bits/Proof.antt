@@ -2,7 +2,7 @@
 use Prim.Native.Nat.{◌-◌}
 use mathlib.Core.Path.{◌≡◌}
 use borrow.Author.Rules.{rules}
-use Rattle.search.specs.Bits.{bit}
+use Rattle.packing.specs.Packing.{bit}
 use Rattle.packing.proofs.Loops.{Filled, filled_on}
 use Rattle.packing.proofs.masks.bits.Statement.{statement}
 use Rattle.packing.proofs.masks.bits.Tie as tie

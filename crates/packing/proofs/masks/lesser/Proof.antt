@@ -1,6 +1,6 @@
 -- By whether i is in m, and which is less.
-use Rattle.search.specs.Bits.{bit}
-use Rattle.search.proofs.Bits.{bit_le}
+use Rattle.packing.proofs.Bits.{bit_le}
+use Rattle.packing.specs.Packing.{bit}
 use mathlib.Core.Path.{◌≡◌}
 use borrow.Author.Rules.{rules}
 use native.Mathlib.Omega.{arith}

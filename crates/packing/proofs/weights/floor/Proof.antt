@@ -4,7 +4,7 @@ use Prim.Native.Nat.{◌-◌, ◌≤◌}
 use mathlib.Core.Path.{◌≡◌}
 use native.Mathlib.Omega.{arith}
 use Rattle.packing.specs.Code.Engine.{Floor}
-use Rattle.packing.proofs.Cut.{floor-start, floor-none, floor-on}
+use Rattle.packing.proofs.Cut.{floor_start, floor_none, floor_on}
 use Rattle.packing.proofs.weights.floor.Statement.{statement}
 use Rattle.packing.proofs.weights.floor.Tie as tie
 
@@ -15,10 +15,10 @@ abbrev decreases-loop : tie.decreases-loop
 decreases-loop kept n shares v most idle d₀ j₀ d j = n - j
 
 loop-holds : tie.Need-loop-init invariant-loop decreases-loop
-loop-holds c = (search rules, search rules, floor-start _ _)
+loop-holds c = (search rules, search rules, floor_start _ _)
 
 returns : tie.Need-returns invariant-loop decreases-loop
-returns c = (floor-none _ _, search rules)
+returns c = (floor_none _ _, search rules)
 
 mul-lower : tie.Need-overflow-mul-lower invariant-loop decreases-loop
 mul-lower c = search rules
@@ -38,7 +38,7 @@ loop-less c = search rules
 loop-again : tie.Need-loop-preserved invariant-loop decreases-loop
 loop-again c =
     let i = c.before.before.before.before.loop.invariant in
-    (search rules, omega (arith, c.lower.ensures.0, i.1), floor-on i.2 c.lower.ensures.0 c.lower.ensures.1)
+    (search rules, omega (arith, c.lower.ensures.0, i.1), floor_on i.2 c.lower.ensures.0 c.lower.ensures.1)
 
 returns-2 : tie.Need-returns-2 invariant-loop decreases-loop
 returns-2 c =

@@ -2,7 +2,7 @@
 use borrow.Author.Rules.{rules}
 use mathlib.Core.Path.{◌≡◌, ◌∙◌}
 use native.Mathlib.Omega.{arith}
-use Rattle.search.specs.Bits.{bit}
+use Rattle.packing.specs.Packing.{bit}
 use Rattle.packing.specs.Code.Engine.{weight}
 use Rattle.packing.proofs.Cut.{weight_ext}
 use Rattle.packing.proofs.weights.lower.Statement.{statement}

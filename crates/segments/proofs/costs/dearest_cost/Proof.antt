@@ -1,115 +1,107 @@
 -- The loop's invariant (`Compared`): the dearest segment is the dearer of `best` and what the tasks left make it.
-use Prim.Native.Nat.{ℕ, ◌<◌, ◌+◌, ◌*◌, ◌-◌, ◌≤◌, max}
+use Prim.Native.Nat.{◌<◌, ◌+◌, ◌-◌, max}
 use native.Mathlib.Omega.{arith}
-use mathlib.Core.Path.{◌≡◌, ap, ap₂, ◌∙◌, sym}
-use lib.ListN.{length, get_or}
-use Rattle.search.specs.Lists.{most_of}
-use Rattle.search.specs.Bits.{bit}
-use Rattle.table.specs.Limits.{max_tasks, max_cost}
-use Rattle.segments.specs.Tasks.{cost_of, before}
-use Rattle.segments.specs.Bits.{clear, first_by, segments_by}
-use Rattle.segments.specs.Code.Held.{priorities_in, costs_in, tasks_there}
-use Rattle.segments.proofs.Steps.{rest_all, rest-length, before-length, before_front, cost-fits}
-use Rattle.segments.proofs.Floors.{short-before}
-use Rattle.segments.proofs.Costing.{segmented, bit_times, dear, dearest-deferred, Compared, compared_start, compared_on, compared_end}
+use mathlib.Core.Path.{◌≡◌, ap, ◌∙◌, sym}
+use mathlib.Core.Logic.{⊎_elim}
+use lib.ListN.{get_or}
+use Rattle.table.specs.Record.{tasks_at, row_at}
+use Rattle.table.specs.declared.Row.{Row}
+use Rattle.segments.specs.Code.Held.{stretch_of}
+use Rattle.segments.proofs.Steps.{ahead-first, ahead-fits}
+use Rattle.segments.proofs.Costing.{Compared, compared_start, compared_low, compared_high, compared_end, dearest-more}
 use Rattle.segments.proofs.costs.dearest_cost.Statement.{statement}
 use Rattle.segments.proofs.costs.dearest_cost.Tie as tie
 
 abbrev invariant-loop : tie.invariant-loop
-invariant-loop s tasks floor n best₀ sum₀ i₀ best sum i =
-    Compared floor (priorities_in s tasks) (costs_in s tasks) tasks.count (first_by floor (tasks_there s tasks)) best sum i
+invariant-loop s at floor first n best₀ sum₀ i₀ best sum i =
+    Compared (row_at s at).priority (row_at s at).cost (tasks_at s at) floor first.cost (first.len + 1) best sum i
 
 abbrev decreases-loop : tie.decreases-loop
-decreases-loop s tasks floor n best₀ sum₀ i₀ best sum i = tasks.count - i
+decreases-loop s at floor first n best₀ sum₀ i₀ best sum i = tasks_at s at - i
 
--- in the loop: the task i is there, and with it the stretch at hand costs no more than so many tasks may
-module _ (c : tie.After-cost-of invariant-loop decreases-loop) where
-  abbrev start : tie.Start invariant-loop decreases-loop
-  start = c.before.before.before.before
+abbrev row : tie.Start invariant-loop decreases-loop → Row
+row s = row_at s.args.s.now s.args.at
 
-  there : c.before.before.loop.i < start.args.tasks.count
-  there = omega (arith, c.before.loop-test.true)
+-- the task i is there
+within : (c : tie.In-loop invariant-loop decreases-loop) → c.before.loop.i < (row c.before.before.before.before.before).tasks
+unfolding row_at
+within c = omega (arith, c.before.before.before.tasks-at.ensures.0, c.loop-test.true)
 
-  cheap : get_or (costs_in start.args.s.now start.args.tasks) c.before.before.loop.i 0 ≤ max_cost
-  cheap = start.pre.0.good.costs_max c.before.before.loop.i
+tasks-at-requires : tie.Need-tasks-at-requires invariant-loop decreases-loop
+tasks-at-requires c κs = omega (arith, c.before.requires.0.there)
 
-  fits : c.before.before.loop.sum + c.cost-of.result ≤ max_cost * max_tasks
-  fits = omega (arith, cheap, there, start.pre.0.good.few, c.cost-of.ensures, c.before.before.loop.invariant.fits)
-
--- what the stretch at hand then costs
-module _ (c : tie.After-bit-of invariant-loop decreases-loop) where
-  abbrev sum : ℕ
-  sum = (c.before.before.before.loop.sum + c.before.cost-of.result) * c.bit-of.result
-
-  sum_is : sum ≡ (c.before.before.before.loop.sum + get_or (costs_in (start c.before).args.s.now (start c.before).args.tasks) c.before.before.before.loop.i 0) * bit c.before.before.before.loop.i (start c.before).args.floor
-  sum_is = ap₂ (λ x y. (c.before.before.before.loop.sum + x) * y) c.before.cost-of.ensures c.bit-of.ensures
+add-i : tie.Need-overflow-add-i invariant-loop decreases-loop
+unfolding row_at
+add-i c = omega (arith, c.before.before.before.requires.1.deferred, c.before.tasks-at.ensures.0, c.before.tasks-at.ensures.1)
 
 loop-holds : tie.Need-loop-init invariant-loop decreases-loop
-loop-holds c = compared_start _ _ _ _ _
+unfolding row_at
+loop-holds c = compared_start _ _ _ _ _ _ (omega (arith, c.before.before.before.requires.1.deferred))
 
-cost-of-requires : tie.Need-cost-of-requires invariant-loop decreases-loop
-cost-of-requires c κs = (c.before.before.before.requires.0, omega (arith, c.loop-test.true))
-
-add-sum : tie.Need-overflow-add-sum invariant-loop decreases-loop
-add-sum c = omega (arith, fits c)
-
-bit-of-requires : tie.Need-bit-of-requires invariant-loop decreases-loop
-bit-of-requires c κs = omega (arith, there c, (start c).requires.0.good.few)
-
-mul-sum : tie.Need-overflow-mul-sum invariant-loop decreases-loop
-mul-sum c =
-    let l = c.before.before.before.loop in
-    let x = c.before in
-    let cost = get_or (costs_in (start x).args.s.now (start x).args.tasks) l.i 0 in
-    omega (arith, sum_is c, bit_times (start x).args.floor l.i (l.sum + cost), fits x, x.cost-of.ensures)
+priority-at-requires : tie.Need-priority-at-requires invariant-loop decreases-loop
+unfolding row_at
+priority-at-requires c κs = (c.before.before.before.before.before.requires.0, within c)
 
 greater-requires : tie.Need-greater-requires invariant-loop decreases-loop
 greater-requires c κs = tt
 
-add-i : tie.Need-overflow-add-i invariant-loop decreases-loop
-add-i c = omega (arith, there c.before.before, (start c.before.before).pre.0.good.few)
+cost-at-requires : tie.Need-cost-at-requires invariant-loop decreases-loop
+unfolding row_at
+cost-at-requires c κs = (c.before.before.before.before.before.before.before.requires.0, within c.before.before)
+
+add-sum : tie.Need-overflow-add-sum invariant-loop decreases-loop
+add-sum c =
+    let l = c.before.before.before.before.loop in
+    let g = c.before.before.before.before.before.before.before.before.requires.0.good.tasks in
+    omega (arith, g.few, g.costs_max l.i, c.cost-at.ensures, l.invariant.fits, within c.before.before.before)
+
+add-i-2 : tie.Need-overflow-add-i-2 invariant-loop decreases-loop
+add-i-2 c = omega (arith, c.before.before.before.before.before.tasks-at.ensures.1, c.before.before.loop-test.true)
 
 loop-less : tie.Need-loop-smaller invariant-loop decreases-loop
-loop-less c = omega (arith, there c.before.before)
+unfolding row_at
+loop-less c = omega (arith, within c.before.before)
 
 loop-again : tie.Need-loop-preserved invariant-loop decreases-loop
+unfolding row_at
 loop-again c =
-    let x = c.before in
-    let l = x.before.before.before.loop in
-    rw (c.greater.ensures, sum_is x) (compared_on _ _ _ _ _ l.best l.sum l.i l.invariant (there x.before) (cheap x.before))
-
-first-cost-requires : tie.Need-first-cost-requires invariant-loop decreases-loop
-first-cost-requires c κs = (c.before.before.before.requires.0, c.before.before.before.requires.1)
+    let s = c.before.before.before.before.before.before.before in
+    let l = c.before.before.before.loop in
+    let h = within c.before.before in
+    let p = c.before.priority-at.ensures.0 in
+    ⊎_elim
+    (λ w.
+    let e : c.if1.sum ≡ 0 = w.3 in
+    let g : c.if1.best ≡ max l.best l.sum = w.2 ∙ w.1.ensures in
+    rw (e, g) (compared_low _ _ _ _ _ _ l.best l.sum l.i l.invariant h (omega (arith, p, w.0.taken))))
+    (λ w.
+    let e : c.if1.sum ≡ l.sum + get_or (row s).cost l.i 0 = w.3 ∙ ap (λ x. l.sum + x) w.1.ensures in
+    let g : c.if1.best ≡ l.best = w.2 in
+    rw (e, g) (compared_high _ _ _ _ _ _ l.best l.sum l.i l.invariant h (omega (arith, p, w.0.left)) (s.requires.0.good.tasks.costs_max l.i)))
+    c.if1.branch
 
 add-greater : tie.Need-overflow-add-greater invariant-loop decreases-loop
+unfolding row_at
 add-greater c =
-    let s = c.before.before.before.before in
+    let s = c.before.before.before.before.before.before in
     let l = c.before.before.loop in
-    let g = s.requires.0.good in
-    let p = clear s.args.floor in
-    let ps = priorities_in s.args.s.now s.args.tasks in
-    let cs = costs_in s.args.s.now s.args.tasks in
-    let all = tasks_there s.args.s.now s.args.tasks in
-    omega (arith, c.first-cost.ensures ∙ ap cost_of (before_front p ps cs s.args.tasks.count 0), cost-fits ps cs (length (before p all)) 0 g.costs_max, before-length p all, rest-length ps cs s.args.tasks.count 0, g.few, l.invariant.fits, l.invariant.inside)
+    let g = s.requires.0.good.tasks in
+    let d = s.requires.1.is ∙ ap stretch_of (sym (ahead-first (row s).priority (row s).cost (row s).tasks s.args.floor)) in
+    let cost = ahead-fits (row s).priority (row s).cost (row s).tasks s.args.floor 0 s.args.first d g.costs_max in
+    omega (arith, cost, g.few, l.invariant.inside, l.invariant.low, l.invariant.fits)
 
 greater-requires-2 : tie.Need-greater-requires-2 invariant-loop decreases-loop
 greater-requires-2 c κs = tt
 
 returns : tie.Need-returns invariant-loop decreases-loop
-unfolding segments_by
+unfolding row_at
 returns c =
-    let s = c.before.before.before.before.before in
+    let s = c.before.before.before.before.before.before.before in
     let l = c.before.before.before.loop in
-    let p = clear s.args.floor in
-    let ps = priorities_in s.args.s.now s.args.tasks in
-    let cs = costs_in s.args.s.now s.args.tasks in
-    let n = s.args.tasks.count in
-    let all = tasks_there s.args.s.now s.args.tasks in
-    let f = first_by s.args.floor all in
-    let dearest : most_of cost_of (segmented p all) ≡ max l.best (l.sum + f) =
-    dearest-deferred p all (short-before p all s.requires.2) ∙ ap (dear p f 0) (sym (rest_all ps cs n))
-    ∙ compared_end s.args.floor ps cs n f l.best l.sum l.i l.invariant (omega (arith, c.before.before.loop-test.false)) in
-    omega (arith, c.greater2.ensures, c.before.first-cost.ensures, dearest)
+    c.greater2.ensures
+    ∙ sym
+    (dearest-more (row s) s.args.floor s.args.first s.requires.1
+    ∙ compared_end _ _ _ _ _ _ l.best l.sum l.i l.invariant (omega (arith, c.before.before.before.before.before.tasks-at.ensures.0, c.before.before.loop-test.false)))
 
 pub dearest-cost-spec : {M : Type 1} → statement M
 dearest-cost-spec =
@@ -117,16 +109,16 @@ dearest-cost-spec =
     (tie.spec
     invariant-loop
     decreases-loop
-    loop-holds
-    cost-of-requires
-    add-sum
-    bit-of-requires
-    mul-sum
-    greater-requires
+    tasks-at-requires
     add-i
+    loop-holds
+    priority-at-requires
+    greater-requires
+    cost-at-requires
+    add-sum
+    add-i-2
     loop-less
     loop-again
-    first-cost-requires
     add-greater
     greater-requires-2
     returns)

@@ -1,13 +1,13 @@
 -- `join` meets its contract. The loop's invariant: the chains up to `chain` stand beside it, and its record starts at `at`.
 -- The measure is how many are left.
 use Prim.Native.Nat.{ℕ, ◌≤◌, ◌<◌, ◌-◌, ◌+◌, ◌*◌}
-use mathlib.Core.Path.{◌≡◌, ap, ap₂, sym, subst, ◌∙◌}
+use mathlib.Core.Path.{◌≡◌, ap, sym, subst, ◌∙◌}
 use mathlib.Core.List.{List, [], ◌∷◌, ◌++◌}
 use mathlib.Core.Bool.{true}
 use native.Mathlib.Omega.{arith}
 use lib.ListN.{length}
 use Rattle.table.specs.Limits.{max_chains}
-use Rattle.table.specs.Record.{overload_at, row_at}
+use Rattle.table.specs.Record.{length_at, overload_at, row_at}
 use Rattle.table.specs.declared.Row.{Row}
 use Rattle.table.specs.declared.Table.{Table}
 use Rattle.table.specs.Find.{row_of}
@@ -18,20 +18,19 @@ use Rattle.table.proofs.Stands.{distances-from, lists, row-there, stands, place-
 use Rattle.segments.specs.View.{View, view_of}
 use Rattle.segments.proofs.Views.{view_list}
 use Rattle.windows.specs.Code.Load.{once_limit, adds_to, views_between, Load, load_of, Joined, Adds}
-use Rattle.segments.specs.Code.Held.{place_at, dearest}
-use Rattle.segments.specs.declared.Tasks.{Tasks}
+use Rattle.segments.specs.Code.Held.{dearest}
 use Rattle.windows.proofs.Besides.{views-none, views-length, views-yes, views_no}
 use Rattle.windows.proofs.Joining.{once-joined, held-joined, joined-none, joined-on}
 use Rattle.windows.proofs.loading.join.Statement.{statement}
 use Rattle.windows.proofs.loading.join.Tie as tie
 
 abbrev invariant-loop : tie.invariant-loop
-invariant-loop s levels others held₀ to l₀ at₀ chain₀ held l at chain =
+invariant-loop s floor others held₀ to l₀ at₀ chain₀ held l at chain =
     (chain₀ ≤ chain) × (chain ≤ to) × (at ≡ place_of (table_of s) chain)
     × Joined (load_of s l₀ held₀) (views_between others (table_of s) (row_at s l₀.at) chain₀ chain) (load_of s l held)
 
 abbrev decreases-loop : tie.decreases-loop
-decreases-loop s levels others held₀ to l₀ at₀ chain₀ held l at chain = to - chain
+decreases-loop s floor others held₀ to l₀ at₀ chain₀ held l at chain = to - chain
 
 -- at the loop's head
 module _ (h : tie.At-loop invariant-loop decreases-loop) where
@@ -68,10 +67,8 @@ module _ (h : tie.At-loop invariant-loop decreases-loop) where
     row_is : row_at s h.loop.at ≡ row_of t h.loop.chain
     row_is = row-there start.pre.taken h.loop.inv.2 within
 
-    next : (tasks : Tasks) (n : ℕ) → tasks ≡ place_at s h.loop.at → n ≡ tasks.first + 8 * tasks.count → n ≡ place_of t (h.loop.chain + 1)
-    next tasks n e f =
-        let end = f ∙ ap₂ (λ x y. x + 8 * y) (ap (λ p. p.first) e) (ap (λ p. p.count) e) in
-        omega (arith, end, place-next start.pre.taken h.loop.inv.2 within)
+    next : (n : ℕ) → n ≡ length_at s h.loop.at → h.loop.at + n ≡ place_of t (h.loop.chain + 1)
+    next n e = ap (λ m. h.loop.at + m) e ∙ place-next start.pre.taken h.loop.inv.2 within
 
     so_far : length (views h.loop.chain) ≤ h.loop.chain - start.args.span.from
     so_far = views-length start.args.others t b start.pre.taken.good start.args.span.from h.loop.chain (omega (arith, within))
@@ -104,30 +101,28 @@ loop-holds c =
       subst (λ vs. Joined l vs l) (sym (views-none a.others (table_of a.s.now) (row_at a.s.now a.own.at) a.span.from)) (joined-none l s.requires.sound),
     )
 
-tasks-there-requires : tie.Need-tasks-there-requires invariant-loop decreases-loop
-tasks-there-requires c κs = here c.before c.loop-test.true
+record-length-requires : tie.Need-record-length-requires invariant-loop decreases-loop
+record-length-requires c κs = omega (arith, (here c.before c.loop-test.true).there)
 
-end-of-requires : tie.Need-end-of-requires invariant-loop decreases-loop
-end-of-requires c κs =
-    let e = c.tasks-there.ensures in
-    omega (arith, ap (λ p. p.first) e, ap (λ p. p.count) e, (here c.before.before c.before.loop-test.true).there)
+add_at : tie.Need-overflow-add-at invariant-loop decreases-loop
+add_at c = omega (arith, c.record-length.ensures, (here c.before.before c.before.loop-test.true).there)
 
 add-chain : tie.Need-overflow-add-chain invariant-loop decreases-loop
 add-chain c = omega arith
 
 overload-at-requires : tie.Need-overload-at-requires invariant-loop decreases-loop
-overload-at-requires c κs = omega (arith, (here c.before.before.before c.before.before.loop-test.true).there)
+overload-at-requires c κs = omega (arith, (here c.before.before c.before.loop-test.true).there)
 
 adds-requires : tie.Need-adds-requires invariant-loop decreases-loop
 adds-requires c κs = tt
 
 term-requires : tie.Need-term-requires invariant-loop decreases-loop
-term-requires c κs = (here c.before.before.before.before.before.before c.before.before.before.before.before.loop-test.true, c.before.before.before.before.tasks-there.ensures)
+term-requires c κs = here c.before.before.before.before.before c.before.before.before.before.loop-test.true
 
 -- whether the chain adds was asked of its mark
 module _ (c : tie.After-adds invariant-loop decreases-loop) where
   abbrev turn : tie.At-loop invariant-loop decreases-loop
-  turn = c.before.before.before.before.before
+  turn = c.before.before.before.before
 
   marks : c.adds.result ≡ adds_to (start turn).args.others (overload_at (s turn) turn.loop.at)
   marks = c.adds.ensures ∙ ap (adds_to (start turn).args.others) c.before.overload-at.ensures
@@ -135,16 +130,16 @@ module _ (c : tie.After-adds invariant-loop decreases-loop) where
 -- what a chain that adds is, and with it
 module _ (c : tie.After-term invariant-loop decreases-loop) where
   abbrev head : tie.At-loop invariant-loop decreases-loop
-  head = c.before.before.before.before.before.before.before
+  head = c.before.before.before.before.before.before
 
   more : head.loop.chain < (start head).args.span.to
-  more = c.before.before.before.before.before.before.loop-test.true
+  more = c.before.before.before.before.before.loop-test.true
 
   adds : Adds (view head) c.term.result
-  adds = c.term.ensures (b head) (start head).pre.levels_is
+  adds = c.term.ensures (b head) (sym (start head).pre.floor_is)
 
-  next_place : c.before.before.before.before.end_of_lem.result ≡ place_of (t head) (head.loop.chain + 1)
-  next_place = next head more _ _ c.before.before.before.before.before.tasks-there.ensures c.before.before.before.before.end_of_lem.ensures
+  next_place : head.loop.at + c.before.before.before.before.record-length.result ≡ place_of (t head) (head.loop.chain + 1)
+  next_place = next head more _ c.before.before.before.before.record-length.ensures
 
   grown : {r : Load} → Joined (now head) (view head ∷ []) r → Joined (load_of (s head) (start head).args.own (start head).args.held.now) (views head (head.loop.chain + 1)) r
   grown one = rw (with_it head more (sym (marks c.before.before) ∙ c.before.if1.true)) (joined-on head.loop.inv.3 one)
@@ -215,15 +210,15 @@ loop-less-3 c = omega arith
 
 loop-again-3 : tie.Need-loop-preserved-3 invariant-loop decreases-loop
 loop-again-3 c =
-    let h = c.before.before.before.before.before.before in
+    let h = c.before.before.before.before.before in
     let l = h.loop in
     let a = (start h).args in
-    let more = c.before.before.before.before.before.loop-test.true in
+    let more = c.before.before.before.before.loop-test.true in
     let none = views_no a.others (t h) (b h) (start h).requires.taken.good a.span.from l.chain l.invariant.0 (within h more)
     (ap (adds_to a.others) (sym (marked h more)) ∙ sym (marks c.before) ∙ c.if1.false) in (
       omega (arith, l.invariant.0),
       omega (arith, more),
-      next h more _ _ c.before.before.before.before.tasks-there.ensures c.before.before.before.end_of_lem.ensures,
+      next h more _ c.before.before.before.record-length.ensures,
       rw none l.invariant.3,
     )
 
@@ -241,8 +236,8 @@ join-spec =
     invariant-loop
     decreases-loop
     loop-holds
-    tasks-there-requires
-    end-of-requires
+    record-length-requires
+    add_at
     add-chain
     overload-at-requires
     adds-requires

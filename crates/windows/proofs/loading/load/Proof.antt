@@ -13,7 +13,7 @@ use Rattle.table.specs.Code.Taken.{Stands}
 use Rattle.table.specs.Read.{table_of}
 use Rattle.table.proofs.Standing.{place_none}
 use Rattle.table.proofs.Stands.{row-there, stands, place-next}
-use Rattle.segments.specs.Bits.{levels_of}
+use Rattle.segments.specs.Tasks.{floor_of}
 use Rattle.windows.specs.Code.Load.{views_between, load_of, Loads}
 use Rattle.windows.proofs.Besides.{views-length, views-others}
 use Rattle.windows.proofs.Joining.{loads_on, loads_same}
@@ -58,8 +58,8 @@ module _ (c : tie.After-alone) where
   own_is : row_at (s placed) c.alone.result.at ≡ row_at (s placed) (at placed)
   own_is = ap (row_at (s placed)) c.alone.ensures.1
 
-  levels_is : c.before.levels-of.result ≡ levels_of (row_at (s placed) c.alone.result.at)
-  levels_is = c.before.levels-of.ensures ∙ ap levels_of (sym own_is)
+  floor_is : c.before.floor-of.result ≡ floor_of (row_at (s placed) c.alone.result.at)
+  floor_is = c.before.floor-of.ensures ∙ ap floor_of (sym own_is)
 
 -- the chains before it
 module _ (c : tie.After-join) where
@@ -78,11 +78,11 @@ place-requires c κs = search rules
 count-requires : tie.Need-count-requires
 count-requires c κs = search rules
 
-levels-of-requires : tie.Need-levels-of-requires
-levels-of-requires c κs = here c.before
+floor-of-requires : tie.Need-floor-of-requires
+floor-of-requires c κs = here c.before
 
 alone-requires : tie.Need-alone-requires
-alone-requires c κs = (here c.before.before, ap (λ l. l.floor) c.levels-of.ensures)
+alone-requires c κs = (here c.before.before, c.floor-of.ensures)
 
 join-requires : tie.Need-join-requires
 join-requires c κs =
@@ -94,7 +94,7 @@ join-requires c κs =
       start = place_none (t (placed a));
       order = omega arith;
       inside = omega (arith, p.1);
-      levels_is = levels_is a;
+      floor_is = floor_is a;
       sound = l.sound;
       few = omega (arith, p.1, p.0.good.few, l.count);
       room = omega (arith, p.1, p.0.good.few, l.once);
@@ -122,7 +122,7 @@ join-requires-2 c κs =
       start = next (placed a) _ (ap (λ n. at (placed a) + n) c.before.record-length.ensures);
       order = omega (arith, p.1, chains);
       inside = omega (arith, chains);
-      levels_is = levels_is a ∙ ap (λ n. levels_of (row_at (s (placed a)) n)) (sym j.at);
+      floor_is = floor_is a ∙ ap (λ n. floor_of (row_at (s (placed a)) n)) (sym j.at);
       sound = j.sound;
       few = omega (arith, p.1, chains, p.0.good.few, l.count, j.count, few m);
       room = omega (arith, p.1, chains, p.0.good.few, l.once, j.once, few m);
@@ -145,7 +145,7 @@ load_spec =
     (tie.spec
     place-requires
     count-requires
-    levels-of-requires
+    floor-of-requires
     alone-requires
     join-requires
     record-length-requires
