@@ -1,5 +1,7 @@
 // Arrivals (documents 01 and 02): δ and η by the list of distances that starts at `list` in the stored bytes, and the largest distances of
 // the chain whose record stands at `at`.
+#![tactic(auto)]
+
 mod head;
 mod repetition;
 

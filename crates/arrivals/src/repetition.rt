@@ -9,7 +9,7 @@ ghost use Rattle.arrivals.specs.Code.WithinList.{within_list};
 use table::{distance_from, listed_from};
 
 // Steps along a list that goes on: so many whole lists, and the rest in the next.
-#[derive(Drop)]
+#[derive(Clone, Copy)]
 pub struct Steps {
     pub lists: u64,
     pub rest: usize,

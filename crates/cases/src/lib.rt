@@ -1,4 +1,6 @@
 // Packed cases with known answers, as a program reads them from standard input, and what it says of them.
+#![tactic(auto)]
+
 ghost use Rattle.std.specs.Prelude.{◌≡◌, ◌≤◌, length};
 ghost use Rattle.io.specs.Counts.{IsPrefixLen};
 
@@ -8,7 +10,7 @@ use libc::{STDIN_FILENO, STDOUT_FILENO};
 pub const MOST: u64 = 1_000_000;
 
 // How a case went; `End` where none is left.
-#[derive(Drop)]
+#[derive(Clone, Copy)]
 pub enum Outcome {
     End,
     Right,

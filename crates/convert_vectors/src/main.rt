@@ -1,11 +1,13 @@
 // Runs packed cases of a conversion (tests/pack_convert.py says how they are packed) from standard input, and prints a line for each
 // case that is not as expected and a last line with the counts.
+#![tactic(auto)]
+
 use cases::{MOST, Outcome, filled, say_counts, scribbled, told, went};
 use libc::STDIN_FILENO;
 use writing::Written;
 
 // What a case expects: the refusal number, 0 for none, and the used length.
-#[derive(Drop)]
+#[derive(Clone, Copy)]
 struct Expected {
     number: u32,
     length: u32,

@@ -1,5 +1,7 @@
 // A table in the other form (document 02, request 7): what both forms have of a chain is copied, the rest put in
 // the form asked. All is judged before the first byte is put.
+#![tactic(auto)]
+
 ghost use Rattle.converting.specs.Convert.{Converts};
 ghost use Rattle.converting.specs.declared.To.TheVariants.{Largest, Gap};
 
@@ -13,7 +15,7 @@ pub use shape::fits_gap;
 use writing::Written;
 
 // The form asked.
-#[derive(Drop)]
+#[derive(Clone, Copy)]
 pub enum To {
     Largest,
     Gap,

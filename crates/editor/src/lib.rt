@@ -1,5 +1,7 @@
 // The C editor's entries (document 01, 'The C editor and the report'; document 02, requests 1, 2, 4 and 6 to 8): numbers, bytes and rows only.
 // Each but the version returns 0 or the refusal's number; refused, every byte lent stays.
+#![tactic(auto)]
+
 ghost use Rattle.std.specs.Prelude.{◌≡◌, ◌*◌, ◌≤◌, length};
 ghost use Rattle.misses.specs.Misses.{number_of as missesNumber, values_of as missesValues};
 ghost use Rattle.merging.specs.Merge.{versions};
@@ -196,7 +198,7 @@ pub extern "C" fn mishtodran_check(table: &[u8], answer: &mut [u8]) -> u32
 }
 
 // An answer of one figure, or the refusal's number.
-#[derive(Drop)]
+#[derive(Clone, Copy)]
 enum Single {
     Figure(u32),
     Refused(u32),
@@ -394,7 +396,7 @@ pub extern "C" fn mishtodran_report(table: &[u8], text: &mut [u8], answer: &mut 
     if text.len() < n {
         return 24;
     }
-    bytes::copy(&made[..n], text);
+    text[..n].copy_from_slice(&made[..n]);
     let figures = [n as u32];
     put_figures(answer, &figures);
     ANSWERED

@@ -1,8 +1,10 @@
 // What a program is given in an open file, or in one that an argument names, read into a buffer that its caller lends.
+#![tactic(auto)]
+
 ghost use Rattle.std.specs.Prelude.{◌≡◌, ℕ, ◌≤◌, length};
 
 // What came in: so many bytes, or a read failed.
-#[derive(Drop)]
+#[derive(Clone, Copy)]
 pub enum Input {
     Bytes(usize),
     Failed,

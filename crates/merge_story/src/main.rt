@@ -1,6 +1,8 @@
 // The story behind the merge: two engineers copy the sample table (from standard input); in chain 1 the first tightens the
 // deadline and the second raises a cost: the merge is refused, and chain 1 is told. The second raises the cost of chain 2
 // instead: both edits are there.
+#![tactic(auto)]
+
 use libc::{STDIN_FILENO, STDOUT_FILENO};
 use merging::{Found, Merged};
 

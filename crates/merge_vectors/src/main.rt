@@ -1,6 +1,8 @@
 // Runs packed cases of a merge (tests/pack_merge.py says how they are packed) from standard input, and prints a line for each
 // case that is not as expected and a last line with the counts. Every part of a case is read, whatever was found before, so that
 // the next one is read from its start; where the input ends within a case, its last part is missing, and it is not as expected.
+#![tactic(auto)]
+
 ghost use Rattle.io.specs.Counts.{IsPrefixLen};
 
 use cases::{MOST, Outcome, filled, say_counts, scribbled, told, went};
@@ -8,7 +10,7 @@ use libc::STDIN_FILENO;
 use merging::{Found, Merged};
 
 // What a case expects: the refusal number, 0 for none, and its detail.
-#[derive(Drop)]
+#[derive(Clone, Copy)]
 struct Expected {
     number: u32,
     detail: u32,

@@ -6,7 +6,7 @@ ghost use Rattle.merging.specs.Code.Judged.{judged_of};
 use table::{Verdict, judge};
 
 // All three are accepted, or the first that is not, with its number and place.
-#[derive(Drop)]
+#[derive(Clone, Copy)]
 pub enum Judged {
     Accepted,
     Ancestor(u32, usize),

@@ -1,5 +1,7 @@
 // Merge of two edited copies of a table, given their common ancestor (document 02, request 4): nothing of either is lost, and where both
 // changed one record differently the merge is refused. The result is judged before the first byte is written.
+#![tactic(auto)]
+
 ghost use Rattle.std.specs.Prelude.{◌≡◌};
 ghost use Rattle.merging.specs.Versions.{three};
 ghost use Rattle.merging.specs.Rule.{conflict_above};
@@ -21,7 +23,7 @@ use states::taken;
 
 // What a merge answers: the used length; which of the three tables is refused, with its number and place; the smallest id in conflict;
 // that the result is longer than the buffer; or the number and place with which the result is refused.
-#[derive(Drop)]
+#[derive(Clone, Copy)]
 pub enum Merged {
     Used(u32),
     Ancestor(u32, usize),
@@ -33,7 +35,7 @@ pub enum Merged {
 }
 
 // What a query for conflicts answers: an id, 0 if there is none, or the refusal.
-#[derive(Drop)]
+#[derive(Clone, Copy)]
 pub enum Found {
     Id(u32),
     Refused(u32),

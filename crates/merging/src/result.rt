@@ -17,7 +17,7 @@ use slices::put;
 use table::{Table, Verdict, put_u32};
 
 // The smallest id in conflict, 0 if there is none; how long the records taken are in all, and how many they are.
-#[derive(Drop)]
+#[derive(Clone, Copy)]
 pub struct Size {
     pub conflict: u32,
     pub bytes: usize,

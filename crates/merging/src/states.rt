@@ -77,7 +77,7 @@ fn state(s: &[u8], id: u32, from: usize) -> &[u8]
 }
 
 // What an id counts: itself where it is in conflict, else 0, and the bytes of the state that is taken.
-#[derive(Drop)]
+#[derive(Clone, Copy)]
 pub struct Weight {
     pub conflict: u32,
     pub bytes: usize,

@@ -1,5 +1,7 @@
 // Deadline misses (document 01, 'Misses', and document 02, requests 3 and 6): combinations of overload active segments, the bad ones, and the
 // miss query: by the ordinary engine, by the plain one, and by the sieve.
+#![tactic(auto)]
+
 mod asking;
 mod counting;
 mod gathering;
@@ -12,21 +14,21 @@ use packing::COMBINATIONS;
 use table::Table;
 
 // What the miss query answers: how many deadlines are missed, or the refusal's number.
-#[derive(Drop)]
+#[derive(Clone, Copy)]
 pub enum Answer {
     Misses(u32),
     Refused(u32),
 }
 
 // What the sieve answers: a number that the misses do not exceed, or the refusal's number. It is no miss count.
-#[derive(Drop)]
+#[derive(Clone, Copy)]
 pub enum Sieved {
     AtMost(u32),
     Refused(u32),
 }
 
 // The figures of the full analysis that misses go by: K, latency, late, and the last window B(K).
-#[derive(Drop)]
+#[derive(Clone, Copy)]
 struct Figures {
     close: u32,
     latency: u32,
@@ -36,7 +38,7 @@ struct Figures {
 
 // The active segments of the overload chains in a row: how many chains and active segments there are, and of the first six
 // each one's chain, segment, cost and capacity; 0 past them.
-#[derive(Drop)]
+#[derive(Clone, Copy)]
 struct Pieces {
     chains: usize,
     count: usize,
@@ -47,7 +49,7 @@ struct Pieces {
 }
 
 // How the costs of sets are tested: by the lowest bad one, each by its own windows, or by the sieve.
-#[derive(Drop)]
+#[derive(Clone, Copy)]
 enum How {
     Lowest,
     Each,
@@ -56,7 +58,7 @@ enum How {
 
 // What is to be packed for a miss query. Where nothing is, it has its answer; where something is pending, these are the bad
 // combinations by flags, and the capacities, and each use in a packing counts `late` times.
-#[derive(Drop)]
+#[derive(Clone, Copy)]
 pub struct Packings {
     pub pending: bool,
     pub answer: Answer,
@@ -66,7 +68,7 @@ pub struct Packings {
 }
 
 // Costs that are settled: none up to `good` is bad, each from `bad` on is.
-#[derive(Drop)]
+#[derive(Clone, Copy)]
 struct Settled {
     good: u64,
     bad: u64,

@@ -1,6 +1,8 @@
 // The plain engine: every packing, one after the other, as an odometer counts. A digit for each combination says how often it is
 // used; that of combination 1 turns fastest. Nothing is left out, and the most uses are kept. It shares no code with the engine of
 // `packing`, and comes to the same number by another way.
+#![tactic(auto)]
+
 ghost use Rattle.std.specs.Prelude.{◌≡◌, Bool, false, ℕ, ◌+◌, ◌*◌, ◌≤◌, ◌<◌, max};
 ghost use Rattle.search.specs.Choice.{Tells};
 ghost use Rattle.table.specs.Limits.{max_overloads};
@@ -14,7 +16,7 @@ use packing::COMBINATIONS;
 use table::{Table, u32_from_u8};
 
 // The packing it stands at, and what it found on the way there.
-#[derive(Drop)]
+#[derive(Clone, Copy)]
 pub struct Odometer {
     pub uses: [u8; COMBINATIONS], // how often each combination is used: the digits
     pub left: [u8; Table::OVERLOADS], // the room that these uses leave

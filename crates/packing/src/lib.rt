@@ -12,6 +12,8 @@
 // 5. Where no more than some number of uses is asked for, no more are looked for. A first try goes without weights then: where each
 //    combination in turn, used as often as it fits, has so many uses, none are needed.
 // Weights are sound whatever they are: a wrong digit in the table, or a bad choice, costs time and never changes the answer.
+#![tactic(auto)]
+
 mod masks;
 mod weights;
 
@@ -29,7 +31,7 @@ use table::{Table, u32_from_u8};
 pub const COMBINATIONS: usize = 1 << Table::OVERLOADS;
 
 // `need` uses of the kept combinations up to the one at `last`.
-#[derive(Drop)]
+#[derive(Clone, Copy)]
 struct Wanted {
     last: usize,
     need: u32,

@@ -1,4 +1,6 @@
 // Prints the report of the stored table on standard input: reads, calls and writes, and nothing else.
+#![tactic(auto)]
+
 use input::{Input, take_in};
 use libc::{STDERR_FILENO, STDIN_FILENO, STDOUT_FILENO};
 use report_text::LONGEST;

@@ -1,4 +1,6 @@
 // The report's text (document 01, 'The C editor and the report'), written into a lent buffer.
+#![tactic(auto)]
+
 mod lines;
 mod text;
 

@@ -1,11 +1,13 @@
 // Runs packed cases of a salvage (tests/pack_salvage.py says how they are packed) from standard input, and prints a line for each
 // case that is not as expected and a last line with the counts.
+#![tactic(auto)]
+
 use cases::{MOST, Outcome, filled, say_counts, scribbled, told, went};
 use libc::STDIN_FILENO;
 use salvaging::Salvaged;
 
 // What a case expects: the refusal number, 0 for none, and the used lengths of the table and of the list.
-#[derive(Drop)]
+#[derive(Clone, Copy)]
 struct Expected {
     number: u32,
     table: u32,
@@ -13,7 +15,7 @@ struct Expected {
 }
 
 // What was read to the start of a buffer: so many bytes, or not all of them were there.
-#[derive(Drop)]
+#[derive(Clone, Copy)]
 enum Part {
     Bytes(u32),
     Missing,

@@ -1,5 +1,7 @@
 // Salvage of a damaged table (document 02, request 8): the records that are acceptable beside those kept before them, found byte by byte,
 // as a new table, and a list of what was skipped. All is known before the first byte is put.
+#![tactic(auto)]
+
 ghost use Rattle.salvaging.specs.Salvage.{Salvages};
 
 mod put;
@@ -10,7 +12,7 @@ use table::Table;
 use walk::walk;
 
 // What a salvage answers: the used lengths of the table and of the list, or the refusal's number.
-#[derive(Drop)]
+#[derive(Clone, Copy)]
 pub enum Salvaged {
     Used { table: u32, list: u32 },
     Refused(u32),

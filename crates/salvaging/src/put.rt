@@ -13,7 +13,7 @@ use slices::put;
 use table::{Table, put_u32, record_length};
 
 // How long the records are in all, and how many stretches lie between them and at the end.
-#[derive(Drop)]
+#[derive(Clone, Copy)]
 pub struct Size {
     pub bytes: usize,
     pub stretches: usize,

@@ -1,4 +1,6 @@
 // Reads the stored table on standard input and prints its rows: a line for each chain.
+#![tactic(auto)]
+
 use table::{Row, Table, Verdict, has_flag};
 
 fn say(label: &[u8], n: u64) {
@@ -7,7 +9,7 @@ fn say(label: &[u8], n: u64) {
 }
 
 // What of a row is listed.
-#[derive(Drop)]
+#[derive(Clone, Copy)]
 enum Part {
     Distances,
     Largest,

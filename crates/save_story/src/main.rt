@@ -1,5 +1,7 @@
 // The story behind the save: two engineers open chain 1 of the sample table (from standard input), the first tightens its
 // deadline and saves, the second saves a new cost from the old copy, is refused, reads again and saves: both edits are there.
+#![tactic(auto)]
+
 use libc::{STDIN_FILENO, STDOUT_FILENO};
 use saving::Saved;
 

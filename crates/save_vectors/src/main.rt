@@ -1,5 +1,7 @@
 // Runs packed cases of a save (tests/pack_save.py says how they are packed) from standard input, and prints a line for each
 // case that is not as expected and a last line with the counts.
+#![tactic(auto)]
+
 use cases::{MOST, Outcome, filled, say_counts, told, went};
 use libc::STDIN_FILENO;
 use saving::Saved;
@@ -8,7 +10,7 @@ use saving::Saved;
 const ROOM: usize = 8192;
 
 // What a case expects: the refusal number, 0 for none, and the new used length.
-#[derive(Drop)]
+#[derive(Clone, Copy)]
 struct Expected {
     number: u32,
     length: u32,

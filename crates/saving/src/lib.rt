@@ -1,5 +1,7 @@
 // Saving one record (document 01, 'Saving one record'): an edit made from an old copy never overwrites a newer one, and a
 // refused save changes nothing. The result is judged before the first byte is written.
+#![tactic(auto)]
+
 ghost use Rattle.saving.specs.Save.{Saves};
 
 use table::Table;
@@ -11,7 +13,7 @@ use judge::judged;
 use writing::store;
 
 // What a save answers: the new used length, or the refusal.
-#[derive(Drop)]
+#[derive(Clone, Copy)]
 pub enum Saved {
     Used(u32),
     Refused(u32),

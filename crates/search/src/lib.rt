@@ -1,1 +1,2 @@
 // Definitions and laws only: what the layers above share stands in specs/ and proofs/.
+#![tactic(auto)]

@@ -1,4 +1,6 @@
 // The segments of a chain a against a chain b (document 01, 'Segments against chain b'), and what they cost.
+#![tactic(auto)]
+
 mod costs;
 mod cutting;
 mod query;
@@ -12,7 +14,7 @@ pub use tasks::{Stretch, ahead, floor_of, tail_of};
 
 // The active segments by number: `count` of them, each with the place of its first task, its tasks, what they cost, and
 // the number of its segment; 0 past them.
-#[derive(Drop)]
+#[derive(Clone, Copy)]
 pub struct Actives {
     pub count: usize,
     pub start: [usize; Table::TASKS],
@@ -22,7 +24,7 @@ pub struct Actives {
 }
 
 // The task records of an active segment: their offset from the table's first byte and their length; or the refusal.
-#[derive(Drop)]
+#[derive(Clone, Copy)]
 pub enum Answer {
     Records { offset: u32, length: u32 },
     Refused(u32),

@@ -8,14 +8,14 @@ ghost use Rattle.segments.specs.Code.Held.{tasks_after, stretch_of, sides_of};
 use table::{cost_at, priority_at, tasks_at};
 
 // Some tasks in a row: how many there are, and what they cost.
-#[derive(Drop)]
+#[derive(Clone, Copy)]
 pub struct Stretch {
     pub len: usize,
     pub cost: u32,
 }
 
 // Tasks on both sides of a level: how many lie below it, and what the others cost.
-#[derive(Drop)]
+#[derive(Clone, Copy)]
 pub struct Sides {
     pub low: usize,
     pub cost: u32,

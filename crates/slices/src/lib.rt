@@ -1,4 +1,6 @@
 // Byte slices: compared and copied; and where the record of a chain stands in a table.
+#![tactic(auto)]
+
 ghost use Rattle.std.specs.Prelude.{◌≡◌, true, ℕ, ◌+◌, ◌≤◌, ◌<◌, length, get_or};
 ghost use Rattle.table.specs.Read.{table_of};
 ghost use Rattle.table.specs.Code.Taken.{Taken};
@@ -8,7 +10,7 @@ ghost use Rattle.slices.specs.Locate.{record_in, located_of};
 use table::{Verdict, u32_at, u64_at};
 
 // Where a record stands: its offset from the table's first byte and its length, or the refusal.
-#[derive(Drop)]
+#[derive(Clone, Copy)]
 pub enum Located {
     Record { offset: u32, length: u32 },
     Refused(u32),

@@ -30,7 +30,7 @@ fn list_of(s: &[u8], from: usize, n: usize) -> [u32; Table::DISTANCES]
 }
 
 // What n task records hold, and 0 past them.
-#[derive(Drop)]
+#[derive(Clone, Copy)]
 struct Tasks {
     priority: [u16; Table::TASKS],
     cost: [u32; Table::TASKS],

@@ -1,5 +1,7 @@
 // The stored table (document 01, 'Stored table'): its limits, its judgement, its chains, each read from the bytes where it stands,
 // and all of it as rows.
+#![tactic(auto)]
+
 ghost use Rattle.std.specs.Prelude.{◌≡◌};
 ghost use Rattle.table.specs.Limits.{limits as allLimits};
 ghost use Rattle.table.specs.Record.{blank as blankRow};
@@ -30,7 +32,7 @@ pub use wide::{u16_from_u8, u32_from_u8, u32_from_u16, u64_from_u8, u64_from_u32
 // A chain as it is stored. Places past a count, and what its form lacks, are 0 in a row that was read; in one that a caller lends anything
 // may stand there. C callers lend rows too, so the layout is C's.
 #[repr(C)]
-#[derive(Drop)]
+#[derive(Clone, Copy)]
 pub struct Row {
     pub form: u16,
     pub id: u16,
@@ -48,7 +50,7 @@ pub struct Row {
 }
 
 // The chains in order: `count` of them, with `tasks` tasks in all; places past the count are blank rows.
-#[derive(Drop)]
+#[derive(Clone, Copy)]
 pub struct Table {
     pub count: usize,
     pub tasks: usize,
@@ -56,21 +58,21 @@ pub struct Table {
 }
 
 // Accepted, or the first fault: its number, and the offset of the first byte of the field at fault.
-#[derive(Drop)]
+#[derive(Clone, Copy)]
 pub enum Verdict {
     Accepted,
     Refused(u32, usize),
 }
 
 // The table beside its verdict; a refusal carries the empty table.
-#[derive(Drop)]
+#[derive(Clone, Copy)]
 pub struct Reading {
     pub verdict: Verdict,
     pub table: Table,
 }
 
 // The limits of documents 01 and 02.
-#[derive(Drop)]
+#[derive(Clone, Copy)]
 pub struct Limits {
     pub chains: usize,
     pub tasks: usize,
@@ -93,7 +95,7 @@ pub struct Limits {
 }
 
 // What the two bytes of a mark, as a number, stand for.
-#[derive(Drop)]
+#[derive(Clone, Copy)]
 pub enum Mark {
     Chain,
     Task,

@@ -140,7 +140,7 @@ pub fn largest_place(s: &[u8], at: usize) -> usize
 
 // Where its tasks start, from its first byte on, and how many they are. Each form's counts are read at their own places, so that a
 // processor that foresees the form need not wait for the mark.
-#[derive(Drop)]
+#[derive(Clone, Copy)]
 pub struct TasksPart {
     pub from: usize,
     pub count: usize,

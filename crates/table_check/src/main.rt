@@ -1,5 +1,7 @@
 // Says of the stored table on standard input whether it is accepted, and of a refused one where it broke: reads, asks for the
 // verdict, and writes one line.
+#![tactic(auto)]
+
 use input::{Input, take_in};
 use libc::{STDERR_FILENO, STDIN_FILENO, STDOUT_FILENO};
 use table::{Table, Verdict};

@@ -1,6 +1,8 @@
 // Writes a stored table in the other form. The first argument names its file: a table with gaps gets largest distances; where there is a
 // second argument, a table with largest distances gets gaps. The result alone goes to standard output; where there is none, standard
 // error has why.
+#![tactic(auto)]
+
 ghost use Rattle.table.specs.Code.Taken.{Taken};
 
 use converting::{To, convert, fits_gap};

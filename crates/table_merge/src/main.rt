@@ -1,5 +1,7 @@
 // Merges two edited copies of a table, given their common ancestor: its three arguments name the files of the ancestor, the
 // first and the second copy. The result alone goes to standard output; where there is none, standard error has why.
+#![tactic(auto)]
+
 use input::{Input, take_file};
 use libc::{STDERR_FILENO, STDOUT_FILENO};
 use merging::{Found, Merged};

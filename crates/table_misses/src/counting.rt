@@ -14,14 +14,14 @@ use table::Table;
 use verdict_text::{put, put_number};
 
 // Which packings are gone through: the first ones, as far as that takes no time to speak of, or every one.
-#[derive(Drop)]
+#[derive(Clone, Copy)]
 pub enum Extent {
     First,
     Every,
 }
 
 // What comes of it: the answer, or that there are more packings than were to be gone through.
-#[derive(Drop)]
+#[derive(Clone, Copy)]
 pub enum Count {
     Known(Answer),
     GivenUp,

@@ -1,6 +1,8 @@
 // Says of each chain of the stored table on standard input how many deadlines it misses in a run of activations: as the ordinary engine
 // counts them, as the plain one does, and at most, by the sieve. The first argument is how long the run is. Where there is a second one,
 // the plain engine goes through however many packings there are.
+#![tactic(auto)]
+
 mod counting;
 
 ghost use Rattle.std.specs.Prelude.{◌<◌};

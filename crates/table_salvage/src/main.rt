@@ -1,5 +1,7 @@
 // Writes what is left of a damaged table as a new one. The first argument names the file. The new table alone goes to standard output;
 // standard error has what was kept and what was skipped, a line for each in the order of the bytes, or why nothing is left.
+#![tactic(auto)]
+
 ghost use Rattle.std.specs.Prelude.{◌+◌, ◌<◌};
 ghost use Rattle.table.specs.Code.Taken.{Taken};
 

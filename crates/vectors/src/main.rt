@@ -1,11 +1,13 @@
 // Runs packed cases with known answers through the queries, and says of each whose answer is another.
 // A case is 28 bytes and a table: its kind, the number to be given back, six numbers, and the table's length. The text of a
 // report follows its table.
+#![tactic(auto)]
+
 ghost use Rattle.std.specs.Prelude.{◌<◌};
 
 use table::Verdict;
 
-#[derive(Drop)]
+#[derive(Clone, Copy)]
 struct Case {
     kind: u8,
     number: u32,
@@ -14,7 +16,7 @@ struct Case {
 }
 
 // What a case comes to: no case was left, or whether its answer is the one expected.
-#[derive(Drop)]
+#[derive(Clone, Copy)]
 enum Outcome {
     End,
     Right,

@@ -1,4 +1,6 @@
 // A refusal in words: its number, the byte at which a table broke, what is wrong, and in which record and field.
+#![tactic(auto)]
+
 mod output;
 mod place;
 mod sentence;

@@ -10,7 +10,7 @@ use table::{
 };
 
 // What begins at an offset, by its mark.
-#[derive(Drop)]
+#[derive(Clone, Copy)]
 enum Record {
     Chain,
     End,
@@ -19,7 +19,7 @@ enum Record {
 }
 
 // The number of a record, from 1, where it begins, and an offset from there.
-#[derive(Drop)]
+#[derive(Clone, Copy)]
 struct Place {
     record: usize,
     start: usize,

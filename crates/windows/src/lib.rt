@@ -1,4 +1,6 @@
 // Windows (document 01, 'Windows'): demand, window, K, latency, late and margin; the latency query.
+#![tactic(auto)]
+
 mod climbing;
 mod loading;
 mod query;
@@ -13,14 +15,14 @@ pub use sweeping::any_over;
 use table::Table;
 
 // The least t that equals its demand, or none up to the horizon.
-#[derive(Drop)]
+#[derive(Clone, Copy)]
 pub enum Window {
     At(u64),
     Nothing,
 }
 
 // What the latency query answers: the figures, K first, or the refusal's number.
-#[derive(Drop)]
+#[derive(Clone, Copy)]
 pub enum Answer {
     Figures {
         close: u32,
@@ -32,28 +34,28 @@ pub enum Answer {
 }
 
 // What the windows of a chain give: the answer, and beside it the last window B(K), 0 where it is refused.
-#[derive(Drop)]
+#[derive(Clone, Copy)]
 pub struct Windows {
     pub answer: Answer,
     pub last: u64,
 }
 
 // Which other chains of its table add to a chain's demand: all, or those without overload mark.
-#[derive(Drop)]
+#[derive(Clone, Copy)]
 pub enum Others {
     All,
     Typical,
 }
 
 // What another chain adds in t: η(t) times `rate`, and `once`.
-#[derive(Drop)]
+#[derive(Clone, Copy)]
 struct Term {
     rate: u64,
     once: u64,
 }
 
 // The chains of a table from `from` up to `to`, not including it; the record of the first starts at `at`.
-#[derive(Drop)]
+#[derive(Clone, Copy)]
 struct Span {
     at: usize,
     from: usize,
@@ -62,7 +64,7 @@ struct Span {
 
 // A chain's own part of its demand: where its record stands and where its list of distances starts, its cost, its own first part (0 if it is synchronous), what the others
 // add once, and how many of them are held in an array beside it, because their η counts.
-#[derive(Drop)]
+#[derive(Clone, Copy)]
 pub struct Own {
     pub at: usize,
     pub list: usize,

@@ -1,5 +1,7 @@
 // Runs packed cases of a write (tests/pack_write.py says how they are packed) from standard input, and prints a line for each
 // case that is not as expected and a last line with the counts. The rows of an accepted case are also read back from its table.
+#![tactic(auto)]
+
 ghost use Rattle.std.specs.Prelude.{◌≡◌, ◌≤◌, length, take, drop};
 ghost use Rattle.writing.specs.Write.{Writes};
 ghost use Rattle.writing.specs.Fill.{Fills};
@@ -13,14 +15,14 @@ use writing::{Filled, Written};
 const ROWS: usize = 272;
 
 // What a case expects: the refusal number, 0 for none, and the used length.
-#[derive(Drop)]
+#[derive(Clone, Copy)]
 struct Expected {
     number: u32,
     length: u32,
 }
 
 // What a read answers, and the rows after it.
-#[derive(Drop)]
+#[derive(Clone, Copy)]
 struct Read {
     filled: Filled,
     rows: [Row; ROWS],

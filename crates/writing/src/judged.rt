@@ -14,7 +14,7 @@ const NO_FORM: u32 = 65_536;
 
 // What is known of the rows so far: the number of the first fault, 0 for none; of the good rows before it, their form, how many they are,
 // their tasks in all, the length of their records, and their ids, the newest first.
-#[derive(Drop)]
+#[derive(Clone, Copy)]
 pub struct Tally {
     pub number: u32,
     pub form: u32,

@@ -1,5 +1,7 @@
 // A table from rows, and rows from a table (document 02, request 2). The rows are one list lent by the caller. What takes them over is
 // thin: it hands one row after the other, by value, to the functions that judge and put it.
+#![tactic(auto)]
+
 ghost use Rattle.std.specs.Prelude.{◌≡◌, ◌+◌};
 ghost use Rattle.writing.specs.Write.{Writes};
 ghost use Rattle.writing.specs.Fill.{Fills};
@@ -17,14 +19,14 @@ pub use put::{put_end, put_gap, put_list};
 use table::{Row, Verdict};
 
 // What a write answers: the used length, or the refusal.
-#[derive(Drop)]
+#[derive(Clone, Copy)]
 pub enum Written {
     Used(u32),
     Refused(u32),
 }
 
 // What reading into rows answers: how many chains there are, or the refusal.
-#[derive(Drop)]
+#[derive(Clone, Copy)]
 pub enum Filled {
     Chains(u32),
     Refused(u32),
