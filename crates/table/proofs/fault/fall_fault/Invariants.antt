@@ -1,0 +1,13 @@
+-- What is left of the list, after `before`, has the first fault of all.
+use Prim.Native.Nat.{◌≤◌, ◌+◌, ◌*◌, ◌-◌}
+use mathlib.Core.Path.{◌≡◌}
+use Rattle.table.specs.Bytes.{word}
+use Rattle.table.specs.Record.{spaced}
+use Rattle.table.specs.Fault.{fall_fault}
+use Rattle.table.proofs.fault.fall_fault.Given as goal
+
+abbrev pub invariant-loop-i : goal.invariant-loop-i
+invariant-loop-i l = (l.i ≤ l.n) × (fall_fault l.before (spaced (word 4 l.s) 4 (l.n - l.i) (l.at + 4 * l.i)) (l.at + 4 * l.i) ≡ fall_fault 0 (spaced (word 4 l.s) 4 l.n l.at) l.at)
+
+abbrev pub decreases-loop-i : goal.decreases-loop-i
+decreases-loop-i l = l.n - l.i

@@ -1,0 +1,35 @@
+-- No byte is missing, so the mark decides, and then the values.
+use Prim.Native.Nat.{◌+◌}
+use native.Mathlib.Omega.{arith}
+use mathlib.Core.Path.{◌≡◌}
+use mathlib.Core.Bool.{false}
+use lib.ListN.{length}
+use lib.Dec.{ltb}
+use borrow.Author.Tests.{le-ltb}
+use Rattle.search.specs.Choice.{◌when◌else◌}
+use Rattle.table.specs.Fault.{◌then◌, task_mark_fault, task_rest_fault, task_fault}
+use Rattle.table.proofs.fault.whole_task_fault.Goals as goal
+use Rattle.table.proofs.fault.whole_task_fault.Goals.{Start}
+
+-- the mark is there, and the rest
+marked : (c : Start) → ltb (length c.args.s.now) (c.args.at + 2) ≡ false
+marked c = le-ltb (length c.args.s.now) (c.args.at + 2) (omega (arith, c.requires))
+
+whole : (c : Start) → ltb (length c.args.s.now) (c.args.at + 8) ≡ false
+whole c = le-ltb _ _ c.requires
+
+pub returns-in-Task : goal.returns-in-Task
+unfolding task_fault task_mark_fault task_rest_fault ◌then◌ ◌when◌else◌
+returns-in-Task c = rw (marked (goal.at.returns-in-Task c).Start, ← c.u16_at.ensures, ← c.mark_of.ensures, c.in-Task.is, whole (goal.at.returns-in-Task c).Start, ← c.values_fault.ensures)
+
+pub returns-in-Chain : goal.returns-in-Chain
+unfolding task_fault task_mark_fault task_rest_fault ◌then◌ ◌when◌else◌
+returns-in-Chain c = rw (marked (goal.at.returns-in-Chain c).Start, ← c.u16_at.ensures, ← c.mark_of.ensures, c.in-Chain.is)
+
+pub returns-in-End : goal.returns-in-End
+unfolding task_fault task_mark_fault task_rest_fault ◌then◌ ◌when◌else◌
+returns-in-End c = rw (marked (goal.at.returns-in-End c).Start, ← c.u16_at.ensures, ← c.mark_of.ensures, c.in-End.is)
+
+pub returns-in-Unknown : goal.returns-in-Unknown
+unfolding task_fault task_mark_fault task_rest_fault ◌then◌ ◌when◌else◌
+returns-in-Unknown c = rw (marked (goal.at.returns-in-Unknown c).Start, ← c.u16_at.ensures, ← c.mark_of.ensures, c.in-Unknown.is)
