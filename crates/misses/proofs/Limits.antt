@@ -27,6 +27,7 @@ use Rattle.misses.specs.Code.Held.{Asked}
 
 -- each activation up to K starts within the window before it
 starts-near : (demand : ℕ → ℕ → ℕ) {distance : ℕ → ℕ} → distance 1 ≡ 0 → {close t : ℕ} → Closes demand distance close t → (q : ℕ) → 1 ≤ q → q ≤ close → distance q ≤ horizon
+starts-near demand {distance = distance} one {close = close} {t = t} c zero l h = elim l [ ]
 starts-near demand one c (suc zero) l h = omega (arith, one)
 starts-near demand {distance} one c (suc (suc q)) l h =
     let r = c.reach (suc q) (omega arith) (omega arith) in

@@ -50,19 +50,22 @@ agree-turn p r = elim (ℕ_discrete p.chain r.chain) [
   | no e ↦ when_no _ _ (ne_eqb _ _ e) ∙ sym (when_no _ _ (ne_eqb _ _ (λ f. e (sym f))))
 ]
 
-pub perm_together : {l r : List Piece} → Permᴰ l r → together l ≡ together r
+together-turn : (a b : Piece) (l : List Piece) → together (a ∷ b ∷ l) ≡ together (b ∷ a ∷ l)
 unfolding together every
-perm_together Permᴰ.nil = refl
-perm_together (Permᴰ.cons {b = b} e q) = rw e (ap₂ ◌&&◌ (perm_every (agree b) q) (perm_together q))
-perm_together (Permᴰ.swap {a' = a} {b' = b} {l = l} e f) =
-    rw (e, f, agree-turn b a) (go (agree a b) (every (agree a) l) (every (agree b) l) (together l))
+together-turn a b l = rw (agree-turn b a) (go (agree a b) (every (agree a) l) (every (agree b) l) (together l))
   where
-    go : (x y z w : Bool) → ((x && z) && (y && w)) ≡ ((x && y) && (z && w))
+    go : (x y z w : Bool) → ((x && y) && (z && w)) ≡ ((x && z) && (y && w))
     go true true true w = refl
     go true true false w = refl
     go true false true w = refl
     go true false false w = refl
     go false y z w = refl
+
+pub perm_together : {l r : List Piece} → Permᴰ l r → together l ≡ together r
+unfolding together every
+perm_together Permᴰ.nil = refl
+perm_together (Permᴰ.cons {b = b} e q) = rw e (ap₂ ◌&&◌ (perm_every (agree b) q) (perm_together q))
+perm_together (Permᴰ.swap {a = a} {b = b} {l = l} e f) = together-turn a b l ∙ ap₂ (λ x y. together (x ∷ y ∷ l)) f e
 perm_together (Permᴰ.trans q s) = perm_together q ∙ perm_together s
 
 -- other names that keep together what stood together

@@ -84,7 +84,7 @@ unfolding tagged in_order
 tagged-order last [] h = refl
 tagged-order last (p ∷ ps) h =
     let e : last ≡ length ps = omega arith in
-    rw (when_yes last 0 (eq-eqb 0 0 refl), e) (ap (λ r. map (active (length ps)) p ++ r) (tagged-numbered (length ps) 1 ps (omega arith)))
+    rw (when_yes last 0 (eq-eqb 0 0 refl), e) (ap (λ r. map (active (length ps)) p ++ r) (tagged-numbered last 1 ps (omega arith)))
 
 tagged-put : (last stretch : ℕ) (a : List Task) (ps : List (List (List Task))) → tagged last stretch (a on ps) ≡ active (last when eqb stretch 0 else stretch) a ∷ tagged last stretch ps
 unfolding tagged
