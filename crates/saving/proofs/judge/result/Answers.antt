@@ -1,0 +1,50 @@
+-- The result is as long as n says; within the limit it is what `out` begins with.
+use Prim.Native.Nat.{ℕ, ◌+◌, ◌-◌}
+use mathlib.Core.Path.{◌≡◌, ap, sym, ◌∙◌}
+use mathlib.Core.List.{List}
+use lib.ListN.{length, take}
+use native.Mathlib.Omega.{arith}
+use Rattle.table.specs.Read.{number_of}
+use Rattle.saving.specs.Save.{read_fault}
+use Rattle.slices.specs.Slices.{splice}
+use Rattle.slices.proofs.Splices.{splice-length}
+use Rattle.saving.proofs.Verdicts.{read_out}
+use Rattle.saving.proofs.Faults.{result-long, result-read}
+use Rattle.saving.proofs.judge.result.Goals as goal
+use Rattle.saving.proofs.judge.result.Goals.{After-spliced, Start}
+
+abbrev made : (c : Start) → List ℕ
+made c = splice c.args.s.now c.args.at c.args.gone c.args.new.now
+
+abbrev n : (c : Start) → ℕ
+n c = length c.args.s.now - c.args.gone + length c.args.new.now
+
+made-length : (c : Start) → length (made c) ≡ n c
+made-length c = splice-length c.args.s.now c.args.at c.args.gone c.args.new.now c.requires.0
+
+begins : (c : After-spliced) → take ((length c.args.s.now - c.args.gone + length c.args.new.now)) c.spliced.new.out ≡ (splice c.args.s.now c.args.at c.args.gone c.args.new.now)
+begins c = ap (λ (m : ℕ). take m c.spliced.new.out) (sym ((let it : length ((splice c.args.s.now c.args.at c.args.gone c.args.new.now)) ≡ (length c.args.s.now - c.args.gone + length c.args.new.now) = splice-length c.args.s.now c.args.at c.args.gone c.args.new.now c.requires.0 in it))) ∙ c.spliced.ensures.first
+
+pub returns-then-room-n : goal.returns-then-room-n
+returns-then-room-n c = record { faulty = sym (result-long c.args.room (made (goal.at.returns-then-room-n c).Start) (omega (arith, made-length (goal.at.returns-then-room-n c).Start, c.if-room-n.true))); begins = λ z. absurd (omega (arith, z)) }
+
+pub returns-then-n-gt-BYTES : goal.returns-then-n-gt-BYTES
+returns-then-n-gt-BYTES c = let e = made-length (goal.at.returns-then-n-gt-BYTES c).Start in
+    let f = result-read c.args.room (made (goal.at.returns-then-n-gt-BYTES c).Start) (omega (arith, e, c.if-room-n.false)) ∙ read_out (made (goal.at.returns-then-n-gt-BYTES c).Start) (omega (arith, e, c.if-n-gt-BYTES.true)) in
+    record { faulty = sym f; begins = λ z. absurd (omega (arith, z)) }
+
+pub spliced-requires : goal.spliced-requires
+spliced-requires c = (c.requires.0, omega (arith, made-length (goal.at.spliced-requires c).Start, c.if-n-gt-BYTES.false, c.requires.1))
+
+pub slice_bounds-judge-end-2 : goal.slice_bounds-judge-end-2
+slice_bounds-judge-end-2 c = sym (made-length (goal.at.slice_bounds-judge-end-2 c).Start) ∙ ap length (sym (begins (goal.at.slice_bounds-judge-end-2 c).After-spliced))
+
+pub returns : goal.returns
+returns c = record {
+      faulty =
+          c.number_of.ensures
+          ∙ ap number_of c.judge.ensures
+          ∙ ap read_fault (begins (goal.at.returns c).After-spliced)
+          ∙ sym (result-read c.args.room (made (goal.at.returns c).Start) (omega (arith, made-length (goal.at.returns c).Start, c.if-room-n.false)));
+      begins = λ z. c.spliced.ensures;
+    }
