@@ -72,4 +72,4 @@ pub leaves : {s table list tableAfter listAfter : List ℕ} {n m : ℕ} → Salv
     → ((take n tableAfter ≡ table_kept s) × (drop n tableAfter ≡ drop n table)) × ((take m listAfter ≡ list_skipped s) × (drop m listAfter ≡ drop m list))
 leaves {s} {table} {list} {tableAfter} {listAfter} {n} {m} c =
     let u = made c refl in
-    (left_in (table_kept s) table tableAfter n m n c.leaves-table u.table_long, left_in (list_skipped s) list listAfter n m m c.leaves_list u.list_long)
+    (left_in (table_kept s) table tableAfter n m n c.leaves_table u.table_long, left_in (list_skipped s) list listAfter n m m c.leaves_list u.list_long)
