@@ -1,0 +1,13 @@
+-- The weightings before v leave no more than r.
+use Rattle.packing.proofs.Tries.{ceiling-start}
+use borrow.Author.Rules.{rules}
+use Rattle.packing.proofs.ceiling.Goals as goal
+
+pub loop-v-init : goal.loop-v-init
+loop-v-init c = (search rules, ceiling-start)
+
+pub loop-v-preserved : goal.loop-v-preserved
+loop-v-preserved c = (search rules, c.lower_ceiling-r.ensures.lower _ c.loop-v.invariant.1)
+
+pub returns : goal.returns
+returns c = c.loop-v.invariant.1

@@ -1,0 +1,10 @@
+-- The places before i hold their bits.
+use Rattle.packing.proofs.Loops.{filled_on}
+use borrow.Author.Rules.{rules}
+use Rattle.packing.proofs.masks.bits.Goals as goal
+
+pub loop-i-preserved : goal.loop-i-preserved
+loop-i-preserved c = filled_on c.loop-i.invariant (search rules) c.has.ensures
+
+pub returns : goal.returns
+returns c = λ i l. c.loop-i.invariant.done i (search rules)
