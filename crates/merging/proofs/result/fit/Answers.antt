@@ -1,0 +1,97 @@
+-- The result is measured, and built only where no id is in conflict, it has room and is no longer than a table can be.
+use Prim.Native.Nat.{ℕ, ◌+◌}
+use mathlib.Core.Path.{◌≡◌, ap, sym, ◌∙◌}
+use mathlib.Core.List.{List}
+use lib.ListN.{length, take, length-map}
+use native.Mathlib.Omega.{arith}
+use Rattle.search.proofs.Keeping.{keep-length}
+use Rattle.table.specs.Read.{read_table}
+use Rattle.table.specs.declared.Verdict.TheVariants.{Accepted}
+use Rattle.slices.proofs.Splices.{splice-first}
+use Rattle.slices.specs.Slices.{splice}
+use Rattle.slices.specs.Code.Begins.{Begins}
+use Rattle.merging.specs.Versions.{Versions}
+use Rattle.merging.specs.Rule.{taken_of}
+use Rattle.merging.specs.Merge.{versions, is_record}
+use Rattle.merging.specs.declared.result.Size.{Size}
+use Rattle.merging.specs.Code.Size.{states_of, result_from}
+use Rattle.merging.proofs.Results.{result-length, states-short, fits-conflict, fits_not, fits-long, fits_refused, fits-accepted}
+use Rattle.merging.proofs.result.fit.Goals as goal
+use Rattle.merging.proofs.result.fit.Goals.{After-build, Start}
+
+-- the three tables
+abbrev of : (c : Start) → Versions
+of c = versions c.args.ancestor c.args.first c.args.second
+
+abbrev bytes : (c : After-build) → ℕ
+bytes c = c.size_of-size.result.bytes
+
+abbrev array : (c : After-build) → List ℕ
+array c = c.build.new.out
+
+abbrev whole : (c : After-build) → List ℕ
+whole c = result_from (states_of ((versions c.args.ancestor c.args.first c.args.second)) c.args.ids.now)
+
+whole_length : (c : After-build) → length (whole c) ≡ bytes c + 4
+whole_length c = result-length (states_of ((versions c.args.ancestor c.args.first c.args.second)) c.args.ids.now) ∙ ap (λ (x : Size). x.bytes + 4) (sym c.size_of-size.ensures)
+
+built : (c : After-build) → take (bytes c + 4) (array c) ≡ whole c
+built c = let z = c.size_of-size in
+    let begins : Begins (array c) (whole c) = rw (← ap (λ (x : Size). x.records) z.ensures) c.build.ensures in
+    ap (λ n. take n (array c)) (sym (whole_length c)) ∙ begins.first
+
+length-take-n : (c : After-build) → length (take (bytes c + 4) (array c)) ≡ bytes c + 4
+length-take-n c = ap length (built c) ∙ whole_length c
+
+pub returns-then-size-ne0 : goal.returns-then-size-ne0
+returns-then-size-ne0 c = let v = of (goal.at.returns-then-size-ne0 c).Start in
+    let ids = c.args.ids.now in
+    let size = c.size_of-size.ensures in
+    let long : length (result_from (states_of v ids)) ≡ c.size_of-size.result.bytes + 4 = result-length (states_of v ids) ∙ ap (λ (x : Size). x.bytes + 4) (sym size) in
+    fits-conflict v ids c.args.out.now c.size_of-size.result.conflict (sym (ap (λ (x : Size). x.conflict) size)) c.if-size-ne0.true
+
+pub overflow_add-n : goal.overflow_add-n
+overflow_add-n c = omega (arith, ap (λ (x : Size). x.bytes) c.size_of-size.ensures, states-short c.requires.0 c.args.ids.now, c.requires.1)
+
+pub returns-then-out-n : goal.returns-then-out-n
+returns-then-out-n c = let v = of (goal.at.returns-then-out-n c).Start in
+    let ids = c.args.ids.now in
+    let size = c.size_of-size.ensures in
+    let long : length (result_from (states_of v ids)) ≡ c.size_of-size.result.bytes + 4 = result-length (states_of v ids) ∙ ap (λ (x : Size). x.bytes + 4) (sym size) in
+    fits_not v ids c.args.out.now (sym (ap (λ (x : Size). x.conflict) c.size_of-size.ensures) ∙ c.if-size-ne0.false) (omega (arith, long, c.if-out-n.true))
+
+pub returns-then-n-gt-BYTES : goal.returns-then-n-gt-BYTES
+returns-then-n-gt-BYTES c = let v = of (goal.at.returns-then-n-gt-BYTES c).Start in
+    let ids = c.args.ids.now in
+    let size = c.size_of-size.ensures in
+    let long : length (result_from (states_of v ids)) ≡ c.size_of-size.result.bytes + 4 = result-length (states_of v ids) ∙ ap (λ (x : Size). x.bytes + 4) (sym size) in
+    fits-long v ids c.args.out.now (sym (ap (λ (x : Size). x.conflict) c.size_of-size.ensures) ∙ c.if-size-ne0.false) (omega (arith, long, c.if-out-n.false)) (omega (arith, long, c.if-n-gt-BYTES.true))
+
+pub build-requires : goal.build-requires
+build-requires c = let v = of (goal.at.build-requires c).Start in
+    let states = states_of v c.args.ids.now in
+    let size = c.size_of-size.ensures in (
+      c.requires.0,
+      omega (arith, ap (λ (x : Size). x.bytes) size, c.if-n-gt-BYTES.false),
+      omega (arith, ap (λ (x : Size). x.records) size, keep-length is_record states, length-map c.args.ids.now (taken_of v), c.requires.1),
+    )
+
+pub slice_bounds-judge-end : goal.slice_bounds-judge-end
+slice_bounds-judge-end c = sym (length-take-n (goal.at.slice_bounds-judge-end c).After-build)
+
+pub slice_bounds-put-end : goal.slice_bounds-put-end
+slice_bounds-put-end c = sym (length-take-n (goal.at.slice_bounds-put-end c).After-build)
+
+pub put-requires : goal.put-requires
+put-requires c = omega (arith, length-take-n (goal.at.put-requires c).After-build, c.if-out-n.false)
+
+pub returns-in-Accepted : goal.returns-in-Accepted
+returns-in-Accepted c = let is : (read_table (whole (goal.at.returns-in-Accepted c).After-build)).verdict ≡ Accepted = ap (λ (l : List ℕ). (read_table l).verdict) (sym (built (goal.at.returns-in-Accepted c).After-build)) ∙ sym c.judge.ensures ∙ c.in-Accepted.is in
+    let left = c.put.ensures ∙ ap (λ (l : List ℕ). splice c.args.out.now 0 (length l) l) (built (goal.at.returns-in-Accepted c).After-build) ∙ splice-first c.args.out.now (whole (goal.at.returns-in-Accepted c).After-build) in
+    let none = sym (ap (λ (x : Size). x.conflict) c.size_of-size.ensures) ∙ c.if-size-ne0.false in
+    rw (← whole_length (goal.at.returns-in-Accepted c).After-build, left) (fits-accepted (of (goal.at.returns-in-Accepted c).Start) c.args.ids.now c.args.out.now none (omega (arith, whole_length (goal.at.returns-in-Accepted c).After-build, c.if-out-n.false)) is)
+
+pub returns-in-Refused : goal.returns-in-Refused
+returns-in-Refused c = let is = ap (λ (l : List ℕ). (read_table l).verdict) (sym (built (goal.at.returns-in-Refused c).After-build)) ∙ sym c.judge.ensures ∙ c.in-Refused.is in
+    let none = sym (ap (λ (x : Size). x.conflict) c.size_of-size.ensures) ∙ c.if-size-ne0.false in
+    fits_refused (of (goal.at.returns-in-Refused c).Start) c.args.ids.now c.args.out.now none (omega (arith, whole_length (goal.at.returns-in-Refused c).After-build, c.if-out-n.false)) is
