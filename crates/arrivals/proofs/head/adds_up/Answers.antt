@@ -36,13 +36,13 @@ overflow_add-i c = omega (arith, listed (goal.at.overflow_add-i c).At-loop-i, c.
 
 pub loop-i-preserved : goal.loop-i-preserved
 loop-i-preserved c = (
-      omega arith,
-      omega arith,
-      λ k low less. ⊎_elim
-          (λ e. let same : k ≡ c.loop-i.i = omega arith in subst (AddsWith (ds (goal.at.loop-i-preserved c).Start)) (sym same) (c.adds_with.ensures.so (c.if-not-adds_with.false)))
-          (λ g. c.loop-i.invariant.2 k low (omega arith))
-          (eq-or-lt_of_le less),
-    )
+  omega arith,
+  omega arith,
+  λ k low less. ⊎_elim
+      (λ e. let same : k ≡ c.loop-i.i = omega arith in subst (AddsWith (ds (goal.at.loop-i-preserved c).Start)) (sym same) (c.adds_with.ensures.so (c.if-not-adds_with.false)))
+      (λ g. c.loop-i.invariant.2 k low (omega arith))
+      (eq-or-lt_of_le less),
+)
 
 pub returns : goal.returns
 returns c = tells-so (record { with = λ i low h. c.loop-i.invariant.2 i low (omega (arith, h, listed (goal.at.returns c).At-loop-i)) })

@@ -59,14 +59,14 @@ overflow_add-j c = omega (arith, few (goal.at.overflow_add-j c).After-as_listed)
 
 pub loop-j-preserved : goal.loop-j-preserved
 loop-j-preserved c = let l = c.loop-j in (
-      omega arith,
-      omega arith,
-      λ k low less. ⊎_elim
-          (λ f. let same : k ≡ l.j = omega arith in
-          subst (Adds (ds (goal.at.loop-j-preserved c).After-as_listed) c.args.i) (sym same) (omega (arith, own (goal.at.loop-j-preserved c).After-as_listed, other (goal.at.loop-j-preserved c).After-as_listed, both (goal.at.loop-j-preserved c).After-as_listed, c.if-repeated_to-own.false)))
-          (λ g. l.invariant.2 k low (omega arith))
-          (eq-or-lt_of_le less),
-    )
+  omega arith,
+  omega arith,
+  λ k low less. ⊎_elim
+      (λ f. let same : k ≡ l.j = omega arith in
+      subst (Adds (ds (goal.at.loop-j-preserved c).After-as_listed) c.args.i) (sym same) (omega (arith, own (goal.at.loop-j-preserved c).After-as_listed, other (goal.at.loop-j-preserved c).After-as_listed, both (goal.at.loop-j-preserved c).After-as_listed, c.if-repeated_to-own.false)))
+      (λ g. l.invariant.2 k low (omega arith))
+      (eq-or-lt_of_le less),
+)
 
 pub returns : goal.returns
 returns c = tells-so (record { adds = λ j low h. c.loop-j.invariant.2 j low (omega arith) })

@@ -22,10 +22,10 @@ listed_from-listed-requires c = let h = c.requires in (h.after, omega (arith, h.
 
 pub loop-j-init : goal.loop-j-init
 loop-j-init c = (
-      record { low = omega arith; high = omega arith; best_of = λ i l h. let e : i ≡ 1 = omega arith in omega (arith, ap (λ k. as_listed (ds (goal.at.loop-j-init c).Start) k * 1) e, ap (λ k. as_listed (ds (goal.at.loop-j-init c).Start) 1 * k) e) },
-      omega arith,
-      omega (arith, c.listed_from-listed.ensures.0, lists_length c.requires, c.requires.good.some),
-    )
+  record { low = omega arith; high = omega arith; best_of = λ i l h. let e : i ≡ 1 = omega arith in omega (arith, ap (λ k. as_listed (ds (goal.at.loop-j-init c).Start) k * 1) e, ap (λ k. as_listed (ds (goal.at.loop-j-init c).Start) 1 * k) e) },
+  omega arith,
+  omega (arith, c.listed_from-listed.ensures.0, lists_length c.requires, c.requires.good.some),
+)
 
 pub better-best-requires : goal.better-best-requires
 better-best-requires c = let b = c.loop-j.invariant.0 in

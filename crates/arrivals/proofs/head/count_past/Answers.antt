@@ -76,8 +76,12 @@ spans : (c : After-past) → (whole c) * c.as_listed-distance.result ≡ (whole 
 spans c = ap (λ d. (whole c) * d) (c.as_listed-distance.ensures)
 
 within : (c : After-past) → (whole c) * c.as_listed-distance.result ≤ c.args.t
-within c = omega (arith, (spans c), spans-within (c.requires.0.good) (c.best_step-step.ensures) (c.args.t) ((get_or c.loop-m.sums (c.loop-m.m % max_distances) 0)) (whole c) ((let it : ((get_or c.loop-m.sums (c.loop-m.m % max_distances) 0)) ≡ δ ((distances_from c.args.s.now c.args.list)) (suc (head (c.requires.0.good) (c.best_step-step.ensures) + 1)) = (let it : get_or c.loop-m.sums (c.loop-m.m % max_distances) 0 ≡ δ ((distances_from c.args.s.now c.args.list)) (suc c.loop-m.m) = sums-here ((distances_from c.args.s.now c.args.list)) c.loop-m.m c.loop-m.sums c.loop-m.invariant.2 in it) ∙ ap (λ n. δ ((distances_from c.args.s.now c.args.list)) (suc n)) ((let it : c.loop-m.m ≡ head (c.requires.0.good) (c.best_step-step.ensures) + 1 = omega (arith, (let it : c.head_of-head.result ≡ head c.requires.0.good (c.best_step-step.ensures) = c.head_of-head.ensures ∙ ap (max (head_of ((distances_from c.args.s.now c.args.list)) (c.best_step-step.result))) (sym ((let it : length ((distances_from c.args.s.now c.args.list)) ≡ listed_from c.args.s.now c.args.list = lists_length c.requires.0 in it))) in it), c.loop-m.invariant.1, c.loop-m-test.false) in it)) in it)) ((let it : δ ((distances_from c.args.s.now c.args.list)) (suc (head (c.requires.0.good) (c.best_step-step.ensures))) < c.args.t = let e : suc (head (c.requires.0.good) (c.best_step-step.ensures)) ≡ c.loop-m.m = omega (arith, ((let it : c.loop-m.m ≡ head (c.requires.0.good) (c.best_step-step.ensures) + 1 = omega (arith, (let it : c.head_of-head.result ≡ head c.requires.0.good (c.best_step-step.ensures) = c.head_of-head.ensures ∙ ap (max (head_of ((distances_from c.args.s.now c.args.list)) (c.best_step-step.result))) (sym ((let it : length ((distances_from c.args.s.now c.args.list)) ≡ listed_from c.args.s.now c.args.list = lists_length c.requires.0 in it))) in it), c.loop-m.invariant.1, c.loop-m-test.false) in it))) in
-    omega (arith, c.loop-m.invariant.3 (omega (arith, ((let it : c.loop-m.m ≡ head (c.requires.0.good) (c.best_step-step.ensures) + 1 = omega (arith, (let it : c.head_of-head.result ≡ head c.requires.0.good (c.best_step-step.ensures) = c.head_of-head.ensures ∙ ap (max (head_of ((distances_from c.args.s.now c.args.list)) (c.best_step-step.result))) (sym ((let it : length ((distances_from c.args.s.now c.args.list)) ≡ listed_from c.args.s.now c.args.list = lists_length c.requires.0 in it))) in it), c.loop-m.invariant.1, c.loop-m-test.false) in it)), (let it : length ((distances_from c.args.s.now c.args.list)) ≡ listed_from c.args.s.now c.args.list = lists_length c.requires.0 in it))), ap (δ ((distances_from c.args.s.now c.args.list))) e) in it)) (whole_is c))
+within c = omega (
+  arith,
+  (spans c),
+  spans-within (c.requires.0.good) (c.best_step-step.ensures) (c.args.t) ((get_or c.loop-m.sums (c.loop-m.m % max_distances) 0)) (whole c) ((let it : ((get_or c.loop-m.sums (c.loop-m.m % max_distances) 0)) ≡ δ ((distances_from c.args.s.now c.args.list)) (suc (head (c.requires.0.good) (c.best_step-step.ensures) + 1)) = (let it : get_or c.loop-m.sums (c.loop-m.m % max_distances) 0 ≡ δ ((distances_from c.args.s.now c.args.list)) (suc c.loop-m.m) = sums-here ((distances_from c.args.s.now c.args.list)) c.loop-m.m c.loop-m.sums c.loop-m.invariant.2 in it) ∙ ap (λ n. δ ((distances_from c.args.s.now c.args.list)) (suc n)) ((let it : c.loop-m.m ≡ head (c.requires.0.good) (c.best_step-step.ensures) + 1 = omega (arith, (let it : c.head_of-head.result ≡ head c.requires.0.good (c.best_step-step.ensures) = c.head_of-head.ensures ∙ ap (max (head_of ((distances_from c.args.s.now c.args.list)) (c.best_step-step.result))) (sym ((let it : length ((distances_from c.args.s.now c.args.list)) ≡ listed_from c.args.s.now c.args.list = lists_length c.requires.0 in it))) in it), c.loop-m.invariant.1, c.loop-m-test.false) in it)) in it)) ((let it : δ ((distances_from c.args.s.now c.args.list)) (suc (head (c.requires.0.good) (c.best_step-step.ensures))) < c.args.t = let e : suc (head (c.requires.0.good) (c.best_step-step.ensures)) ≡ c.loop-m.m = omega (arith, ((let it : c.loop-m.m ≡ head (c.requires.0.good) (c.best_step-step.ensures) + 1 = omega (arith, (let it : c.head_of-head.result ≡ head c.requires.0.good (c.best_step-step.ensures) = c.head_of-head.ensures ∙ ap (max (head_of ((distances_from c.args.s.now c.args.list)) (c.best_step-step.result))) (sym ((let it : length ((distances_from c.args.s.now c.args.list)) ≡ listed_from c.args.s.now c.args.list = lists_length c.requires.0 in it))) in it), c.loop-m.invariant.1, c.loop-m-test.false) in it))) in
+      omega (arith, c.loop-m.invariant.3 (omega (arith, ((let it : c.loop-m.m ≡ head (c.requires.0.good) (c.best_step-step.ensures) + 1 = omega (arith, (let it : c.head_of-head.result ≡ head c.requires.0.good (c.best_step-step.ensures) = c.head_of-head.ensures ∙ ap (max (head_of ((distances_from c.args.s.now c.args.list)) (c.best_step-step.result))) (sym ((let it : length ((distances_from c.args.s.now c.args.list)) ≡ listed_from c.args.s.now c.args.list = lists_length c.requires.0 in it))) in it), c.loop-m.invariant.1, c.loop-m-test.false) in it)), (let it : length ((distances_from c.args.s.now c.args.list)) ≡ listed_from c.args.s.now c.args.list = lists_length c.requires.0 in it))), ap (δ ((distances_from c.args.s.now c.args.list))) e) in it)) (whole_is c),
+)
 
 all : (c : After-first_from-last) → η ((distances_from c.args.s.now c.args.list)) (c.args.t) ≡ (c.past.result / c.as_listed-distance.result) * c.best_step-step.result + c.first_from-last.result
 all c = let h : ℕ = head (c.requires.0.good) (c.best_step-step.ensures) in
@@ -101,11 +105,11 @@ listed_from-m-requires c = let h = c.requires.0 in (h.after, omega (arith, h.the
 
 pub loop-m-init : goal.loop-m-init
 loop-m-init c = let d = distances_from c.args.s.now c.args.list in (
-      omega (arith, c.listed_from-m.ensures.0),
-      omega (arith, c.listed_from-m.ensures.0, c.head_of-head.ensures),
-      subst (λ n. SumsAt d n c.find_useful-n.new.sums) (sym c.listed_from-m.ensures.0) c.find_useful-n.ensures.0,
-      λ h. absurd (omega (arith, h, c.listed_from-m.ensures.0)),
-    )
+  omega (arith, c.listed_from-m.ensures.0),
+  omega (arith, c.listed_from-m.ensures.0, c.head_of-head.ensures),
+  subst (λ n. SumsAt d n c.find_useful-n.new.sums) (sym c.listed_from-m.ensures.0) c.find_useful-n.ensures.0,
+  λ h. absurd (omega (arith, h, c.listed_from-m.ensures.0)),
+)
 
 pub offset_bounds-sums-m : goal.offset_bounds-sums-m
 offset_bounds-sums-m c = omega (arith, inside c.loop-m.m)
@@ -138,11 +142,11 @@ loop-m-smaller c = omega (arith, c.loop-m-test.true)
 
 pub loop-m-preserved : goal.loop-m-preserved
 loop-m-preserved c = let next : suc c.loop-m.m ≡ c.loop-m.m + 1 = omega arith in (
-      omega (arith, c.loop-m.invariant.0),
-      omega (arith, c.loop-m-test.true),
-      c.put_by_useful.ensures,
-      λ h. omega (arith, c.if-t-sums.false, sum_is (goal.at.loop-m-preserved c).At-loop-m, ap (δ (ds (goal.at.loop-m-preserved c).At-loop-m)) next),
-    )
+  omega (arith, c.loop-m.invariant.0),
+  omega (arith, c.loop-m-test.true),
+  c.put_by_useful.ensures,
+  λ h. omega (arith, c.if-t-sums.false, sum_is (goal.at.loop-m-preserved c).At-loop-m, ap (δ (ds (goal.at.loop-m-preserved c).At-loop-m)) next),
+)
 
 pub as_listed-distance-requires : goal.as_listed-distance-requires
 as_listed-distance-requires c = (c.requires.0, omega (arith, (best (goal.at.as_listed-distance-requires c).At-loop-m).high, long (goal.at.as_listed-distance-requires c).At-loop-m))

@@ -79,14 +79,14 @@ overflow_add-m c = omega (arith, few (goal.at.overflow_add-m c).At-loop-m)
 
 pub loop-m-preserved : goal.loop-m-preserved
 loop-m-preserved c = let e : c.loop-m.m ≡ c.loop-m.m + 1 - 1 = omega arith in (
-      omega (arith, c.loop-m.invariant.0),
-      omega arith,
-      subst (λ n. SumsAt (ds (goal.at.loop-m-preserved c).Start) n (set c.loop-m.sums (c.loop-m.m % max_distances) c.larger.result)) e
-          (sums_next (ds (goal.at.loop-m-preserved c).Start) c.loop-m.m c.larger.result c.loop-m.sums (omega (arith, c.loop-m.invariant.0)) c.loop-m.invariant.2
-          (c.larger.ensures ∙ ap (max (shortest (goal.at.loop-m-preserved c).After-below)) c.as_listed-own.ensures
-          ∙ sum_is (ds (goal.at.loop-m-preserved c).Start) c.loop-m.m c.loop-m.n (c.loop-m.n + c.below.result) (shortest (goal.at.loop-m-preserved c).After-below) c.loop-m.steps c.loop-m.invariant.0 (more (goal.at.loop-m-preserved c).After-below) c.requires.0.good.few c.loop-m.invariant.3 (tried (goal.at.loop-m-preserved c).After-below) (found-is (goal.at.loop-m-preserved c).After-below))),
-      subst (λ n. UsefulIn (ds (goal.at.loop-m-preserved c).Start) n (set c.loop-m.steps c.loop-m.n c.loop-m.m) (c.loop-m.n + c.below.result)) e (useful (goal.at.loop-m-preserved c).After-below),
-    )
+  omega (arith, c.loop-m.invariant.0),
+  omega arith,
+  subst (λ n. SumsAt (ds (goal.at.loop-m-preserved c).Start) n (set c.loop-m.sums (c.loop-m.m % max_distances) c.larger.result)) e
+      (sums_next (ds (goal.at.loop-m-preserved c).Start) c.loop-m.m c.larger.result c.loop-m.sums (omega (arith, c.loop-m.invariant.0)) c.loop-m.invariant.2
+      (c.larger.ensures ∙ ap (max (shortest (goal.at.loop-m-preserved c).After-below)) c.as_listed-own.ensures
+      ∙ sum_is (ds (goal.at.loop-m-preserved c).Start) c.loop-m.m c.loop-m.n (c.loop-m.n + c.below.result) (shortest (goal.at.loop-m-preserved c).After-below) c.loop-m.steps c.loop-m.invariant.0 (more (goal.at.loop-m-preserved c).After-below) c.requires.0.good.few c.loop-m.invariant.3 (tried (goal.at.loop-m-preserved c).After-below) (found-is (goal.at.loop-m-preserved c).After-below))),
+  subst (λ n. UsefulIn (ds (goal.at.loop-m-preserved c).Start) n (set c.loop-m.steps c.loop-m.n c.loop-m.m) (c.loop-m.n + c.below.result)) e (useful (goal.at.loop-m-preserved c).After-below),
+)
 
 pub returns : goal.returns
 returns c = let e : c.loop-m.m - 1 ≡ listed_from c.args.s.now c.args.list = omega (arith, listed-is (goal.at.returns c).At-loop-m, lists_length c.requires.0, c.loop-m.invariant.1) in

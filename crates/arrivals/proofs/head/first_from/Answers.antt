@@ -26,13 +26,13 @@ overflow_add-r c = omega (arith, c.loop-r.invariant.1, c.requires.1)
 
 pub loop-r-preserved : goal.loop-r-preserved
 loop-r-preserved c = let l = c.loop-r in (
-      omega (arith, l.invariant.0),
-      omega arith,
-      λ i low less. ⊎_elim
-          (λ e. let same : i ≡ l.r = omega arith in omega (arith, ap (λ k. get_or c.args.sums.now (k % max_distances) 0) same, c.if-t-sums.false))
-          (λ g. l.invariant.2 i low (omega arith))
-          (eq-or-lt_of_le less),
-    )
+  omega (arith, l.invariant.0),
+  omega arith,
+  λ i low less. ⊎_elim
+      (λ e. let same : i ≡ l.r = omega arith in omega (arith, ap (λ k. get_or c.args.sums.now (k % max_distances) 0) same, c.if-t-sums.false))
+      (λ g. l.invariant.2 i low (omega arith))
+      (eq-or-lt_of_le less),
+)
 
 pub returns : goal.returns
 returns c = let l = c.loop-r in record { low = l.invariant.0; high = l.invariant.1; before = l.invariant.2; ends = inl (omega (arith, l.invariant.1)) }

@@ -36,14 +36,14 @@ put_sum-requires c = let e : c.loop-m.m ≡ c.loop-m.m + 1 - 1 = omega arith in
 
 pub loop-m-preserved : goal.loop-m-preserved
 loop-m-preserved c = (
-      omega (arith, c.loop-m-test.true),
-      c.put_sum.ensures,
-      λ i less. ⊎_elim
-          (λ e. let same : i ≡ c.loop-m.m = omega arith in
-          omega (arith, ap (λ n. δ (ds (goal.at.loop-m-preserved c).Start) (suc n)) same, sums-here (ds (goal.at.loop-m-preserved c).Start) c.loop-m.m c.loop-m.sums c.loop-m.invariant.1, c.if-t-sums.false))
-          (λ g. c.loop-m.invariant.2 i (omega arith))
-          (eq-or-lt_of_le less),
-    )
+  omega (arith, c.loop-m-test.true),
+  c.put_sum.ensures,
+  λ i less. ⊎_elim
+      (λ e. let same : i ≡ c.loop-m.m = omega arith in
+      omega (arith, ap (λ n. δ (ds (goal.at.loop-m-preserved c).Start) (suc n)) same, sums-here (ds (goal.at.loop-m-preserved c).Start) c.loop-m.m c.loop-m.sums c.loop-m.invariant.1, c.if-t-sums.false))
+      (λ g. c.loop-m.invariant.2 i (omega arith))
+      (eq-or-lt_of_le less),
+)
 
 pub returns : goal.returns
 returns c = (record { high = c.loop-m.invariant.0; before = c.loop-m.invariant.2; ends = inl (omega arith) }, c.loop-m.invariant.1)

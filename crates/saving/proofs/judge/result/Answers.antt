@@ -41,10 +41,10 @@ slice_bounds-judge-end-2 c = sym (made-length (goal.at.slice_bounds-judge-end-2 
 
 pub returns : goal.returns
 returns c = record {
-      faulty =
-          c.number_of.ensures
-          ∙ ap number_of c.judge.ensures
-          ∙ ap read_fault (begins (goal.at.returns c).After-spliced)
-          ∙ sym (result-read c.args.room (made (goal.at.returns c).Start) (omega (arith, made-length (goal.at.returns c).Start, c.if-room-n.false)));
-      begins = λ z. c.spliced.ensures;
-    }
+  faulty =
+      c.number_of.ensures
+      ∙ ap number_of c.judge.ensures
+      ∙ ap read_fault (begins (goal.at.returns c).After-spliced)
+      ∙ sym (result-read c.args.room (made (goal.at.returns c).Start) (omega (arith, made-length (goal.at.returns c).Start, c.if-room-n.false)));
+  begins = λ z. c.spliced.ensures;
+}

@@ -59,14 +59,14 @@ loop-i-preserved c =
     let h = within (goal.at.loop-i-preserved c).In-loop-i in
     let p = c.priority_at.ensures.0 in
     elim c.if-priority_at-floor.branch [
-    | then-priority_at-floor w ↦
-      let e : c.if-priority_at-floor.sum ≡ 0 = w.sum-is in
-      let g : c.if-priority_at-floor.best ≡ max l.best l.sum = w.best-is ∙ w.greater-best.ensures in
-      rw (e, g) (compared_low _ _ _ _ _ _ l.best l.sum l.i l.invariant h (omega (arith, p, w.if-priority_at-floor.true)))
-    | else-priority_at-floor w ↦
-      let e : c.if-priority_at-floor.sum ≡ l.sum + get_or (row (goal.at.loop-i-preserved c).Start).cost l.i 0 = w.sum-is ∙ ap (λ x. l.sum + x) w.cost_at-sum.ensures in
-      let g : c.if-priority_at-floor.best ≡ l.best = w.best-is in
-      rw (e, g) (compared_high _ _ _ _ _ _ l.best l.sum l.i l.invariant h (omega (arith, p, w.if-priority_at-floor.false)) (c.requires.0.good.tasks.costs_max l.i))
+      | then-priority_at-floor w ↦
+          let e : c.if-priority_at-floor.sum ≡ 0 = w.sum-is in
+          let g : c.if-priority_at-floor.best ≡ max l.best l.sum = w.best-is ∙ w.greater-best.ensures in
+          rw (e, g) (compared_low _ _ _ _ _ _ l.best l.sum l.i l.invariant h (omega (arith, p, w.if-priority_at-floor.true)))
+      | else-priority_at-floor w ↦
+          let e : c.if-priority_at-floor.sum ≡ l.sum + get_or (row (goal.at.loop-i-preserved c).Start).cost l.i 0 = w.sum-is ∙ ap (λ x. l.sum + x) w.cost_at-sum.ensures in
+          let g : c.if-priority_at-floor.best ≡ l.best = w.best-is in
+          rw (e, g) (compared_high _ _ _ _ _ _ l.best l.sum l.i l.invariant h (omega (arith, p, w.if-priority_at-floor.false)) (c.requires.0.good.tasks.costs_max l.i))
     ]
 
 pub overflow_add-sum-2 : goal.overflow_add-sum-2

@@ -47,13 +47,13 @@ loop-i-preserved c =
     let r = row_at c.args.s.now c.args.at in
     let h = within (goal.at.loop-i-preserved c).In-loop-i in
     elim c.if-priority_at-level.branch [
-    | then-priority_at-level w ↦
-      rw (w.low-is, w.cost-is) (sided_low _ _ _ _ l.i l.low l.cost l.invariant h (omega (arith, c.priority_at.ensures.0, w.if-priority_at-level.true)))
-    | else-priority_at-level w ↦
-      let e : c.if-priority_at-level.low ≡ l.low = w.low-is in
-      let f : c.if-priority_at-level.cost ≡ l.cost + get_or r.cost l.i 0 = w.cost-is ∙ ap (λ x. l.cost + x) w.cost_at-cost.ensures in
-      let m = c.requires.good.tasks.costs_max l.i in
-      rw (e, f) (sided_high _ _ _ _ l.i l.low l.cost l.invariant h (omega (arith, c.priority_at.ensures.0, w.if-priority_at-level.false)) m)
+      | then-priority_at-level w ↦
+          rw (w.low-is, w.cost-is) (sided_low _ _ _ _ l.i l.low l.cost l.invariant h (omega (arith, c.priority_at.ensures.0, w.if-priority_at-level.true)))
+      | else-priority_at-level w ↦
+          let e : c.if-priority_at-level.low ≡ l.low = w.low-is in
+          let f : c.if-priority_at-level.cost ≡ l.cost + get_or r.cost l.i 0 = w.cost-is ∙ ap (λ x. l.cost + x) w.cost_at-cost.ensures in
+          let m = c.requires.good.tasks.costs_max l.i in
+          rw (e, f) (sided_high _ _ _ _ l.i l.low l.cost l.invariant h (omega (arith, c.priority_at.ensures.0, w.if-priority_at-level.false)) m)
     ]
 
 pub returns : goal.returns

@@ -80,8 +80,10 @@ pub returns-then-s-eq0 : goal.returns-then-s-eq0
 returns-then-s-eq0 c =
     let s = c.args.s.now in
     let long : (eqb (length s) 0 || ltb (limit_of (word 2 s 0)) (length s)) ≡ true =
-      elim c.then-s-eq0.branch [ then-s-eq0-via-then-s-eq0 w ↦ or_left _ _ (eq-eqb _ _ w.if-s-eq0.true)
-      | then-s-eq0-via-else-s-eq0+then-limit-s w ↦ or_right (eqb (length s) 0) _ (ap (λ n. ltb n (length s)) (sym w.limit.ensures) ∙ lt-ltb _ _ w.if-limit-s.true) ] in
+    elim c.then-s-eq0.branch [
+      | then-s-eq0-via-then-s-eq0 w ↦ or_left _ _ (eq-eqb _ _ w.if-s-eq0.true)
+      | then-s-eq0-via-else-s-eq0+then-limit-s w ↦ or_right (eqb (length s) 0) _ (ap (λ n. ltb n (length s)) (sym w.limit.ensures) ∙ lt-ltb _ _ w.if-limit-s.true)
+    ] in
     sym (verdict (read-long s long))
 
 pub loop-at-init : goal.loop-at-init

@@ -7,6 +7,6 @@ use Rattle.table.proofs.record.priority_at.Goals as goal
 
 pub returns : goal.returns
 returns c = let e = ap (λ n. priority_at c.args.s.now (n + 8 * c.args.i)) c.first_task.ensures in (
-      c.u32_from_u16.ensures.0 ∙ c.u16_at.ensures ∙ e ∙ sym (priority-at c.args.s.now c.args.at c.args.i c.requires.1),
-      c.u32_from_u16.ensures.1,
-    )
+  c.u32_from_u16.ensures.0 ∙ c.u16_at.ensures ∙ e ∙ sym (priority-at c.args.s.now c.args.at c.args.i c.requires.1),
+  c.u32_from_u16.ensures.1,
+)

@@ -45,11 +45,11 @@ count_at-requires-then-has_flag c = omega (arith, c.requires, one (goal.at.count
 
 pub returns-then-has_flag : goal.returns-then-has_flag
 returns-then-has_flag c = let tasks : at (goal.at.returns-then-has_flag c).After-has_flag + 12 ≡ tasks_place (s (goal.at.returns-then-has_flag c).After-has_flag) (at (goal.at.returns-then-has_flag c).After-has_flag) = omega (arith, one (goal.at.returns-then-has_flag c).Then-has_flag) in (
-      omega (arith, one (goal.at.returns-then-has_flag c).Then-has_flag, listed (goal.at.returns-then-has_flag c).After-count_at, c.known_at.ensures.0),
-      c.count_at-then-has_flag.ensures.0 ∙ ap (λ i. get_or (s (goal.at.returns-then-has_flag c).After-has_flag) i 0) tasks,
-      omega (arith, c.known_at.ensures.1, listed (goal.at.returns-then-has_flag c).After-count_at, c.count_at.ensures.1),
-      c.count_at-then-has_flag.ensures.1,
-    )
+  omega (arith, one (goal.at.returns-then-has_flag c).Then-has_flag, listed (goal.at.returns-then-has_flag c).After-count_at, c.known_at.ensures.0),
+  c.count_at-then-has_flag.ensures.0 ∙ ap (λ i. get_or (s (goal.at.returns-then-has_flag c).After-has_flag) i 0) tasks,
+  omega (arith, c.known_at.ensures.1, listed (goal.at.returns-then-has_flag c).After-count_at, c.count_at.ensures.1),
+  c.count_at-then-has_flag.ensures.1,
+)
 
 pub count_at-requires-2 : goal.count_at-requires-2
 count_at-requires-2 c = omega (arith, c.requires, four c)

@@ -122,12 +122,12 @@ loop-t-smaller c = omega (arith, climbs (goal.at.loop-t-smaller c).After-held_su
 
 pub loop-t-preserved : goal.loop-t-preserved
 loop-t-preserved c = let d = demand (goal.at.loop-t-preserved c).Start in (
-      subst (Under d) (sym (made (goal.at.loop-t-preserved c).After-held_sum)) (under_next d (grows (goal.at.loop-t-preserved c).Start) c.loop-t.t c.loop-t.invariant.0),
-      caught (goal.at.loop-t-preserved c).After-held_sum _ (le_trans (climbs (goal.at.loop-t-preserved c).After-held_sum) (le_of_eq (sym (made (goal.at.loop-t-preserved c).After-held_sum)))),
-    )
+  subst (Under d) (sym (made (goal.at.loop-t-preserved c).After-held_sum)) (under_next d (grows (goal.at.loop-t-preserved c).Start) c.loop-t.t c.loop-t.invariant.0),
+  caught (goal.at.loop-t-preserved c).After-held_sum _ (le_trans (climbs (goal.at.loop-t-preserved c).After-held_sum) (le_of_eq (sym (made (goal.at.loop-t-preserved c).After-held_sum)))),
+)
 
 pub returns : goal.returns
 returns c = record {
-      window = under_none (demand (goal.at.returns c).Start) (grows (goal.at.returns c).Start) c.loop-t.t c.loop-t.invariant.0 c.loop-t-test.false;
-      counted = λ u e. absurd (let z : ◌≡◌ {A = ℕ} 0 1 = cc in omega arith);
-    }
+  window = under_none (demand (goal.at.returns c).Start) (grows (goal.at.returns c).Start) c.loop-t.t c.loop-t.invariant.0 c.loop-t-test.false;
+  counted = λ u e. absurd (let z : ◌≡◌ {A = ℕ} 0 1 = cc in omega arith);
+}

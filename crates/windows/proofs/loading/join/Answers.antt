@@ -147,20 +147,20 @@ overflow_add-l-then-x-ne0 c = omega (arith, space (goal.at.overflow_add-l-then-x
 
 pub loop-chain-preserved-then-x-ne0 : goal.loop-chain-preserved-then-x-ne0
 loop-chain-preserved-then-x-ne0 c = let l = c.loop-chain in (
-      omega (arith, l.invariant.0),
-      omega (arith, more (goal.at.loop-chain-preserved-then-x-ne0 c).After-term-x),
-      next_place (goal.at.loop-chain-preserved-then-x-ne0 c).After-term-x,
-      grown (goal.at.loop-chain-preserved-then-x-ne0 c).After-term-x (held-joined (now (goal.at.loop-chain-preserved-then-x-ne0 c).At-loop-chain) (view (goal.at.loop-chain-preserved-then-x-ne0 c).At-loop-chain) c.term-x.result c.list_place.result l.invariant.3.sound (few (goal.at.loop-chain-preserved-then-x-ne0 c).At-loop-chain (more (goal.at.loop-chain-preserved-then-x-ne0 c).After-term-x)) (room (goal.at.loop-chain-preserved-then-x-ne0 c).At-loop-chain (more (goal.at.loop-chain-preserved-then-x-ne0 c).After-term-x)) (adds (goal.at.loop-chain-preserved-then-x-ne0 c).After-term-x)
-          (view_list (row_at (s (goal.at.loop-chain-preserved-then-x-ne0 c).At-loop-chain) l.at) (b (goal.at.loop-chain-preserved-then-x-ne0 c).At-loop-chain) ∙ distances-from (s (goal.at.loop-chain-preserved-then-x-ne0 c).At-loop-chain) l.at c.list_place.ensures) (lists (s (goal.at.loop-chain-preserved-then-x-ne0 c).At-loop-chain) l.at c.list_place.ensures (here (goal.at.loop-chain-preserved-then-x-ne0 c).At-loop-chain (more (goal.at.loop-chain-preserved-then-x-ne0 c).After-term-x)))),
-    )
+  omega (arith, l.invariant.0),
+  omega (arith, more (goal.at.loop-chain-preserved-then-x-ne0 c).After-term-x),
+  next_place (goal.at.loop-chain-preserved-then-x-ne0 c).After-term-x,
+  grown (goal.at.loop-chain-preserved-then-x-ne0 c).After-term-x (held-joined (now (goal.at.loop-chain-preserved-then-x-ne0 c).At-loop-chain) (view (goal.at.loop-chain-preserved-then-x-ne0 c).At-loop-chain) c.term-x.result c.list_place.result l.invariant.3.sound (few (goal.at.loop-chain-preserved-then-x-ne0 c).At-loop-chain (more (goal.at.loop-chain-preserved-then-x-ne0 c).After-term-x)) (room (goal.at.loop-chain-preserved-then-x-ne0 c).At-loop-chain (more (goal.at.loop-chain-preserved-then-x-ne0 c).After-term-x)) (adds (goal.at.loop-chain-preserved-then-x-ne0 c).After-term-x)
+      (view_list (row_at (s (goal.at.loop-chain-preserved-then-x-ne0 c).At-loop-chain) l.at) (b (goal.at.loop-chain-preserved-then-x-ne0 c).At-loop-chain) ∙ distances-from (s (goal.at.loop-chain-preserved-then-x-ne0 c).At-loop-chain) l.at c.list_place.ensures) (lists (s (goal.at.loop-chain-preserved-then-x-ne0 c).At-loop-chain) l.at c.list_place.ensures (here (goal.at.loop-chain-preserved-then-x-ne0 c).At-loop-chain (more (goal.at.loop-chain-preserved-then-x-ne0 c).After-term-x)))),
+)
 
 pub loop-chain-preserved-else-x-ne0 : goal.loop-chain-preserved-else-x-ne0
 loop-chain-preserved-else-x-ne0 c = let l = c.loop-chain in (
-      omega (arith, l.invariant.0),
-      omega (arith, more (goal.at.loop-chain-preserved-else-x-ne0 c).After-term-x),
-      next_place (goal.at.loop-chain-preserved-else-x-ne0 c).After-term-x,
-      grown (goal.at.loop-chain-preserved-else-x-ne0 c).After-term-x (once-joined (now (goal.at.loop-chain-preserved-else-x-ne0 c).At-loop-chain) (view (goal.at.loop-chain-preserved-else-x-ne0 c).At-loop-chain) c.term-x.result l.invariant.3.sound (adds (goal.at.loop-chain-preserved-else-x-ne0 c).After-term-x) c.if-x-ne0.false (room (goal.at.loop-chain-preserved-else-x-ne0 c).At-loop-chain (more (goal.at.loop-chain-preserved-else-x-ne0 c).After-term-x))),
-    )
+  omega (arith, l.invariant.0),
+  omega (arith, more (goal.at.loop-chain-preserved-else-x-ne0 c).After-term-x),
+  next_place (goal.at.loop-chain-preserved-else-x-ne0 c).After-term-x,
+  grown (goal.at.loop-chain-preserved-else-x-ne0 c).After-term-x (once-joined (now (goal.at.loop-chain-preserved-else-x-ne0 c).At-loop-chain) (view (goal.at.loop-chain-preserved-else-x-ne0 c).At-loop-chain) c.term-x.result l.invariant.3.sound (adds (goal.at.loop-chain-preserved-else-x-ne0 c).After-term-x) c.if-x-ne0.false (room (goal.at.loop-chain-preserved-else-x-ne0 c).At-loop-chain (more (goal.at.loop-chain-preserved-else-x-ne0 c).After-term-x))),
+)
 
 pub loop-chain-preserved : goal.loop-chain-preserved
 loop-chain-preserved c = let l = c.loop-chain in

@@ -27,11 +27,11 @@ due-is c = ap₂ ◌+◌
 
 near : (c : After-delta-start) → (t c) ≤ latest
 near c = omega (
-      arith,
-      (due-is c),
-      c.requires.near (c.loop-done.done + 1) (omega arith) (omega (arith, c.loop-done-test.true)),
-      c.requires.sound.stands.good.deadline_max,
-    )
+  arith,
+  (due-is c),
+  c.requires.near (c.loop-done.done + 1) (omega arith) (omega (arith, c.loop-done-test.true)),
+  c.requires.sound.stands.good.deadline_max,
+)
 
 pub deadline_at-deadline-requires : goal.deadline_at-deadline-requires
 deadline_at-deadline-requires c = omega (arith, c.requires.sound.stands.there)
@@ -62,11 +62,11 @@ loop-done-smaller c = omega (arith, c.loop-done-test.true)
 
 pub loop-done-preserved : goal.loop-done-preserved
 loop-done-preserved c = (
-      omega (arith, c.loop-done-test.true),
-      subst (CalledFrom (load (goal.at.loop-done-preserved c).Start) (c.loop-done.done + 1) c.args.most) (sym c.smaller-least.ensures)
-          (called_on (load (goal.at.loop-done-preserved c).Start) c.args.most c.loop-done.invariant.1 (t (goal.at.loop-done-preserved c).After-delta-start) c.past.result (due-is (goal.at.loop-done-preserved c).After-delta-start)
-          (omega (arith, c.past.ensures, c.demand.ensures))),
-    )
+  omega (arith, c.loop-done-test.true),
+  subst (CalledFrom (load (goal.at.loop-done-preserved c).Start) (c.loop-done.done + 1) c.args.most) (sym c.smaller-least.ensures)
+      (called_on (load (goal.at.loop-done-preserved c).Start) c.args.most c.loop-done.invariant.1 (t (goal.at.loop-done-preserved c).After-delta-start) c.past.result (due-is (goal.at.loop-done-preserved c).After-delta-start)
+      (omega (arith, c.past.ensures, c.demand.ensures))),
+)
 
 pub returns : goal.returns
 returns c = let e : c.loop-done.done ≡ c.args.close = omega (arith, c.loop-done-test.false, c.loop-done.invariant.0) in

@@ -77,11 +77,11 @@ returns-then-delta-deadline c = sym (swept_past (demand (goal.at.returns-then-de
 
 pub loop-done-preserved : goal.loop-done-preserved
 loop-done-preserved c = (
-      omega (arith, c.loop-done-test.true),
-      swept_on (demand (goal.at.loop-done-preserved c).Start) (δ (own_of (load (goal.at.loop-done-preserved c).Start))) c.deadline_at-deadline.result c.args.close c.loop-done.done c.loop-done-test.true _ (at (goal.at.loop-done-preserved c).In-At)
-          (load-growing (load (goal.at.loop-done-preserved c).Start) c.requires.0) c.loop-done.start c.loop-done.invariant.1 (omega (arith, starts (goal.at.loop-done-preserved c).After-delta, c.if-delta-deadline.false)),
-      c.climb-w.ensures.counted _ c.in-At.is,
-    )
+  omega (arith, c.loop-done-test.true),
+  swept_on (demand (goal.at.loop-done-preserved c).Start) (δ (own_of (load (goal.at.loop-done-preserved c).Start))) c.deadline_at-deadline.result c.args.close c.loop-done.done c.loop-done-test.true _ (at (goal.at.loop-done-preserved c).In-At)
+      (load-growing (load (goal.at.loop-done-preserved c).Start) c.requires.0) c.loop-done.start c.loop-done.invariant.1 (omega (arith, starts (goal.at.loop-done-preserved c).After-delta, c.if-delta-deadline.false)),
+  c.climb-w.ensures.counted _ c.in-At.is,
+)
 
 pub returns : goal.returns
 returns c = let e : c.loop-done.done ≡ c.args.close = omega arith in

@@ -84,10 +84,10 @@ near c = walk-near ((demand_in ((load_of c.args.s.now c.args.own c.args.held.now
 
 pub overflow_add-late : goal.overflow_add-late
 overflow_add-late c = omega (
-      arith,
-      c.loop-done.invariant.0.some,
-      walk-few (demand (goal.at.overflow_add-late c).Start) (own (goal.at.overflow_add-late c).Start) c.deadline_at-deadline.result (growing (goal.at.overflow_add-late c).Start) c.loop-done.invariant.0 (turn (goal.at.overflow_add-late c).In-At) (at (goal.at.overflow_add-late c).In-At) c.larger-latency.ensures c.over-late.ensures,
-    )
+  arith,
+  c.loop-done.invariant.0.some,
+  walk-few (demand (goal.at.overflow_add-late c).Start) (own (goal.at.overflow_add-late c).Start) c.deadline_at-deadline.result (growing (goal.at.overflow_add-late c).Start) c.loop-done.invariant.0 (turn (goal.at.overflow_add-late c).In-At) (at (goal.at.overflow_add-late c).In-At) c.larger-latency.ensures c.over-late.ensures,
+)
 
 pub overflow_cast-greatest : goal.overflow_cast-greatest
 overflow_cast-greatest c = omega (arith, near (goal.at.overflow_cast-greatest c).After-over-late)
@@ -108,10 +108,10 @@ returns-then-t-next c = let l = c.loop-done in
 
 pub loop-done-preserved : goal.loop-done-preserved
 loop-done-preserved c = (
-      walk-on (demand (goal.at.loop-done-preserved c).Start) (own (goal.at.loop-done-preserved c).Start) c.deadline_at-deadline.result (growing (goal.at.loop-done-preserved c).Start) c.loop-done.invariant.0 (turn (goal.at.loop-done-preserved c).In-At) (at (goal.at.loop-done-preserved c).In-At) c.larger-latency.ensures c.over-late.ensures
-          (starts (goal.at.loop-done-preserved c).After-delta-next) c.if-t-next.false,
-      c.climb-w.ensures.counted (size (goal.at.loop-done-preserved c).In-At) c.in-At.is,
-    )
+  walk-on (demand (goal.at.loop-done-preserved c).Start) (own (goal.at.loop-done-preserved c).Start) c.deadline_at-deadline.result (growing (goal.at.loop-done-preserved c).Start) c.loop-done.invariant.0 (turn (goal.at.loop-done-preserved c).In-At) (at (goal.at.loop-done-preserved c).In-At) c.larger-latency.ensures c.over-late.ensures
+      (starts (goal.at.loop-done-preserved c).After-delta-next) c.if-t-next.false,
+  c.climb-w.ensures.counted (size (goal.at.loop-done-preserved c).In-At) c.in-At.is,
+)
 
 pub returns : goal.returns
 returns c = c.refused-2.ensures
