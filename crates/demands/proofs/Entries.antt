@@ -61,7 +61,7 @@ one-part : (table : Bor (List ℕ)) (chain against number : ℕ) → OnePart tab
 one-part table chain against number =
     let answer = segment_of table.now chain against number in
     record {
-      taken = (record { ref_ptr = (table.ref_ptr.0, offset_of answer + table.ref_ptr.1); ghost_name = table.ghost_name; now = part_of table.now answer }, record { bytes = refl; place = refl });
+      taken = (record { ref_ptr = (table.ref_ptr.0, offset_of answer + table.ref_ptr.1); now = part_of table.now answer }, record { bytes = refl; place = refl });
       one = λ x y. (x.bytes ∙ sym y.bytes, x.place ∙ sym y.place);
     }
 
@@ -140,7 +140,7 @@ one-chosen : (ancestor first second : Bor (List ℕ)) (id : ℕ) → OneChosen a
 one-chosen ancestor first second id =
     let v = merge.versions ancestor first second in
     record {
-      taken = (record { ref_ptr = merge.chosen_place v id first.ref_ptr second.ref_ptr; ghost_name = first.name; now = merge.chosen_of v id }, record { bytes = refl; place = refl });
+      taken = (record { ref_ptr = merge.chosen_place v id first.ref_ptr second.ref_ptr; now = merge.chosen_of v id }, record { bytes = refl; place = refl });
       one = λ x y. (x.bytes ∙ sym y.bytes, x.place ∙ sym y.place);
     }
 
