@@ -1,0 +1,10 @@
+-- The loop's invariant (`Picking`): the best of the costs gone through is open, or none of them is.
+use Prim.Native.Nat.{◌-◌}
+use Rattle.misses.proofs.Settles.{Picking}
+use Rattle.misses.proofs.settling.pick.Given as goal
+
+abbrev pub invariant-loop-m : goal.invariant-loop-m
+invariant-loop-m l = Picking l.ends l.costs l.sets l.best l.most l.m
+
+abbrev pub decreases-loop-m : goal.decreases-loop-m
+decreases-loop-m l = l.sets - l.m

@@ -1,0 +1,15 @@
+-- The loop's invariant: the sets below m have their flags.
+use Prim.Native.Nat.{◌-◌}
+use native.Mathlib.Omega.{arith}
+use Rattle.misses.proofs.Fills.{filled_none, filled_on}
+use Rattle.misses.proofs.testing.flags.Goals as goal
+
+pub loop-m-init : goal.loop-m-init
+loop-m-init c = filled_none _ 64
+
+pub loop-m-preserved : goal.loop-m-preserved
+loop-m-preserved c = let l = c.loop-m in
+    filled_on _ _ l.out l.m c.flag.result l.invariant (omega arith) c.flag.ensures
+
+pub returns : goal.returns
+returns c m h = c.loop-m.invariant.each m (omega arith)
