@@ -1,9 +1,8 @@
 -- What the type of a row says of its values. Assumes nothing.
 use Prim.Native.Nat.{ℕ, zero, suc, ◌^◌, ◌<◌}
 use native.Mathlib.Omega.{arith}
-use mathlib.Core.Path.{sym, ◌∙◌}
-use mathlib.Core.List.{List, [], ◌∷◌, map}
-use lib.ListN.{get_or, length-map}
+use mathlib.Core.List.{List, [], ◌∷◌}
+use lib.ListN.{get_or}
 use mir.Syntax.{Width, w16, w32}
 use mir.Val.{Val, bits}
 use denote.Laws.{Is}
@@ -16,7 +15,7 @@ use Rattle.table.specs.declared.Row.{Row}
 use Rattle.writing.specs.Rows.{Typed}
 
 -- each number of an array is of the elements' width
-each_below : (w : Width) → 0 < 2 ^ bits w → (xs : List ℕ) (us : List Val) → shadow (each ℕ (uint_field w).row.own_val (map (λ n. n) xs) us) → (j : ℕ) → get_or xs j 0 < 2 ^ bits w
+each_below : (w : Width) → 0 < 2 ^ bits w → (xs : List ℕ) (us : List Val) → shadow (each ℕ (uint_field w).row.own_val xs us) → (j : ℕ) → get_or xs j 0 < 2 ^ bits w
 each_below w p [] [] h j = p
 each_below w p [] (u ∷ us) h j = absurd h
 each_below w p (x ∷ xs) [] h j = absurd h
@@ -43,8 +42,8 @@ row_fits r vs h =
       largest = each_below w32 (omega arith) r.largest largest.0 largest.1.1;
       priority = each_below w16 (omega arith) r.priority priority.0 priority.1.1;
       cost = each_below w32 (omega arith) r.cost cost.0 cost.1.1;
-      list_places = sym (length-map r.list (λ n. n)) ∙ list.1.0.1;
-      largest_places = sym (length-map r.largest (λ n. n)) ∙ largest.1.0.1;
-      priority_places = sym (length-map r.priority (λ n. n)) ∙ priority.1.0.1;
-      cost_places = sym (length-map r.cost (λ n. n)) ∙ cost.1.0.1;
+      list_places = list.1.0.1;
+      largest_places = largest.1.0.1;
+      priority_places = priority.1.0.1;
+      cost_places = cost.1.0.1;
     }
