@@ -4,7 +4,7 @@ use Prim.Native.Nat.{ℕ, ◌+◌, ◌<◌, ◌≤◌}
 use native.Mathlib.Omega.{arith}
 use mathlib.Core.Path.{◌≡◌, refl, ap, sym, subst, ◌∙◌}
 use mathlib.Core.List.{List, [], ◌++◌, flatten}
-use mathlib.Core.Bool.{true, false, not}
+use mathlib.Core.Bool.{false, not}
 use lib.ListN.{length, get_or, drop, set, length-set}
 use lib.Seq.{get_or-set_same, get_or-set_other, set-get_or, set-set}
 use lib.Dec.{eqb}
@@ -15,10 +15,7 @@ use Rattle.table.specs.Find.{row_of, rows}
 use Rattle.table.specs.Fault.{mark_of, is_chain}
 use Rattle.table.specs.Read.{accepted, read_table, table_of}
 use Rattle.table.specs.Place.{length_of, place_of}
-use Rattle.table.specs.declared.Mark.{Mark}
-use Rattle.table.specs.declared.Mark.TheVariants.{Chain, Task, End, Unknown}
 use Rattle.table.specs.declared.Table.{Table}
-use Rattle.search.proofs.Choice.{true-not-false}
 use Rattle.table.proofs.Firsts.{none_or}
 use Rattle.table.proofs.Marks.{chain-told}
 use Rattle.saving.specs.Save.{read_fault, seen_of, cut, unfit, result_of}

@@ -1,29 +1,22 @@
 -- A refused table hands back nothing.
 use mathlib.Core.Path.{sym, ◌∙◌}
-use native.Mathlib.Omega.{arith}
 use Rattle.merging.specs.Merge.{versions, chosen_of, chosen_place}
 use Rattle.merging.proofs.Judgements.{all-taken, says-accepted, asked, refused-ancestor, refused-first, refused-second}
 use Rattle.merging.proofs.Seeks.{first_record}
 use Rattle.merging.specs.Versions.{Versions}
-use Rattle.merging.specs.Code.Parts.{AllTaken}
-use Rattle.merging.specs.Code.Judged.{AllAccepted}
 use Rattle.merging.proofs.chosen.Goals as goal
-use Rattle.merging.proofs.chosen.Goals.{After-shared_slice_known-3-1, Start}
+use Rattle.merging.proofs.chosen.Goals.{Start}
 
 -- the three tables
 abbrev of : (c : Start) → Versions
 of c = versions c.args.ancestor c.args.first c.args.second
 
--- of bytes, so that they hold their records
-held : (c : After-shared_slice_known-3-1) → AllAccepted ((versions c.args.ancestor c.args.first c.args.second)) → AllTaken c.args.ancestor.now c.args.first.now c.args.second.now
-held c a = all-taken a (λ i. omega (arith, c.shared_slice_known-1.given i)) (λ i. omega (arith, c.shared_slice_known-2-1.given i)) (λ i. omega (arith, c.shared_slice_known-3-1.given i))
-
 pub taken-requires : goal.taken-requires
 taken-requires c = (
-      held (goal.at.taken-requires c).After-shared_slice_known-3-1 (says-accepted (of (goal.at.taken-requires c).Start) (sym c.judge_all.ensures ∙ c.in-Accepted.is)),
-      first_record c.args.first.now,
-      first_record c.args.second.now,
-    )
+  all-taken (says-accepted (of (goal.at.taken-requires c).Start) (sym c.judge_all.ensures ∙ c.in-Accepted.is)) (λ i. (c.type_inv.ancestor i).fits) (λ i. (c.type_inv.first i).fits) (λ i. (c.type_inv.second i).fits),
+  first_record c.args.first.now,
+  first_record c.args.second.now,
+)
 
 pub returns-in-Accepted : goal.returns-in-Accepted
 unfolding chosen_of chosen_place

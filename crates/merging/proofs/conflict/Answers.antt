@@ -1,25 +1,18 @@
 -- A refused table refuses with its number.
 use mathlib.Core.Path.{ap, sym, ◌∙◌}
-use native.Mathlib.Omega.{arith}
 use Rattle.merging.specs.Merge.{versions, found_of}
 use Rattle.merging.specs.declared.Found.TheVariants.{Id, Refused}
 use Rattle.merging.proofs.Judgements.{all-taken, says-accepted, asked, refused-ancestor, refused-first, refused-second}
 use Rattle.merging.specs.Versions.{Versions}
-use Rattle.merging.specs.Code.Parts.{AllTaken}
-use Rattle.merging.specs.Code.Judged.{AllAccepted}
 use Rattle.merging.proofs.conflict.Goals as goal
-use Rattle.merging.proofs.conflict.Goals.{After-shared_slice_known-3-1, Start}
+use Rattle.merging.proofs.conflict.Goals.{Start}
 
 -- the three tables
 abbrev of : (c : Start) → Versions
 of c = versions c.args.ancestor c.args.first c.args.second
 
--- of bytes, so that they hold their records
-held : (c : After-shared_slice_known-3-1) → AllAccepted ((versions c.args.ancestor c.args.first c.args.second)) → AllTaken c.args.ancestor.now c.args.first.now c.args.second.now
-held c a = all-taken a (λ i. omega (arith, c.shared_slice_known-1.given i)) (λ i. omega (arith, c.shared_slice_known-2-1.given i)) (λ i. omega (arith, c.shared_slice_known-3-1.given i))
-
 pub conflict_above-requires : goal.conflict_above-requires
-conflict_above-requires c = held (goal.at.conflict_above-requires c).After-shared_slice_known-3-1 (says-accepted (of (goal.at.conflict_above-requires c).Start) (sym c.judge_all.ensures ∙ c.in-Accepted.is))
+conflict_above-requires c = all-taken (says-accepted (of (goal.at.conflict_above-requires c).Start) (sym c.judge_all.ensures ∙ c.in-Accepted.is)) (λ i. (c.type_inv.ancestor i).fits) (λ i. (c.type_inv.first i).fits) (λ i. (c.type_inv.second i).fits)
 
 pub returns-in-Accepted : goal.returns-in-Accepted
 unfolding found_of

@@ -10,31 +10,27 @@ use Rattle.merging.specs.Versions.{Versions}
 use Rattle.merging.specs.Rule.{order, conflict_above}
 use Rattle.merging.specs.Merge.{versions, fitted, buffer_after}
 use Rattle.merging.specs.declared.Merged.TheVariants.{Conflict}
-use Rattle.merging.specs.Code.Parts.{AllTaken}
 use Rattle.merging.specs.Code.Size.{states_of, least_of, result_from}
-use Rattle.merging.specs.Code.Judged.{AllAccepted}
 use Rattle.merging.proofs.Judgements.{all-taken, merge-asked}
 use Rattle.merging.proofs.Results.{result-from}
 use Rattle.merging.proofs.merge_accepted.Goals as goal
-use Rattle.merging.proofs.merge_accepted.Goals.{After-shared_slice_known-3-1, Start}
+use Rattle.merging.proofs.merge_accepted.Goals.{Start}
 
 -- the three tables
 abbrev of : (c : Start) → Versions
 of c = versions c.args.ancestor c.args.first c.args.second
 
--- of bytes, so that they hold their records
-held : (c : After-shared_slice_known-3-1) → AllAccepted ((versions c.args.ancestor c.args.first c.args.second)) → AllTaken c.args.ancestor.now c.args.first.now c.args.second.now
-held c a = all-taken a (λ i. omega (arith, c.shared_slice_known-1.given i)) (λ i. omega (arith, c.shared_slice_known-2-1.given i)) (λ i. omega (arith, c.shared_slice_known-3-1.given i))
-
 pub ids_in_order-n-requires : goal.ids_in_order-n-requires
-ids_in_order-n-requires c = (held (goal.at.ids_in_order-n-requires c).After-shared_slice_known-3-1 c.requires, refl)
+ids_in_order-n-requires c = (all-taken c.requires (λ i. (c.type_inv.ancestor i).fits) (λ i. (c.type_inv.first i).fits) (λ i. (c.type_inv.second i).fits), refl)
 
 pub slice_bounds-fit-end : goal.slice_bounds-fit-end
 slice_bounds-fit-end c = let w = c.ids_in_order-n in sym (length-take-le w.result w.new.ids w.ensures.few)
 
 pub fit-requires : goal.fit-requires
-fit-requires c = let w = c.ids_in_order-n in
-    (held (goal.at.fit-requires c).After-shared_slice_known-3-1 c.requires, omega (arith, length-take-le w.result w.new.ids w.ensures.few, w.ensures.few))
+fit-requires c = let w = c.ids_in_order-n in (
+  all-taken c.requires (λ i. (c.type_inv.ancestor i).fits) (λ i. (c.type_inv.first i).fits) (λ i. (c.type_inv.second i).fits),
+  omega (arith, length-take-le w.result w.new.ids w.ensures.few, w.ensures.few),
+)
 
 pub returns : goal.returns
 unfolding conflict_above

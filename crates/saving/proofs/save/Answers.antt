@@ -93,4 +93,4 @@ returns-in-0 c = let a = c.args in
 
 pub returns-in_default : goal.returns-in_default
 returns-in_default c = let a = c.args in
-    refuses a.buffer.now a.used a.old.now a.new.now c.judged.result (sym (faulty (goal.at.returns-in_default c).After-judged)) c.in_default.in_default-own.rest.1
+    refuses a.buffer.now a.used a.old.now a.new.now c.judged.result (sym (faulty (goal.at.returns-in_default c).After-judged)) (λ z. omega (arith, z))

@@ -1,5 +1,5 @@
 -- The smallest so far, and those from i on, give the smallest of all.
-use Prim.Native.Nat.{◌+◌, ◌-◌}
+use Prim.Native.Nat.{◌+◌}
 use mathlib.Core.Path.{◌≡◌, ap, sym, ◌∙◌}
 use lib.Dec.{ltb}
 use lib.ListN.{length, drop, get_or}

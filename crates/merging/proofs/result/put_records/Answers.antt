@@ -1,5 +1,5 @@
 -- The first bytes, with the states of the ids from i on, are the states of all.
-use Prim.Native.Nat.{ℕ, ◌+◌, ◌≤◌, ◌<◌, ◌-◌}
+use Prim.Native.Nat.{ℕ, ◌+◌, ◌≤◌, ◌<◌}
 use mathlib.Core.Path.{◌≡◌, refl, ap, sym, ◌∙◌}
 use mathlib.Core.List.{List, [], ◌++◌, flatten, append_assoc, append-nil}
 use lib.ListN.{length, take, drop, get_or, length-append}

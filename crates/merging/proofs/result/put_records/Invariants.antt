@@ -1,5 +1,5 @@
 -- The first bytes, with the states of the ids from i on, are the states of all.
-use Prim.Native.Nat.{◌+◌, ◌≤◌, ◌-◌}
+use Prim.Native.Nat.{◌≤◌, ◌-◌}
 use mathlib.Core.Path.{◌≡◌}
 use mathlib.Core.List.{◌++◌, flatten}
 use lib.ListN.{length, take, drop}

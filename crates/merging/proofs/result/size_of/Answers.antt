@@ -1,5 +1,5 @@
 -- With those of the ids from i on, conflict, bytes and records are those of all.
-use Prim.Native.Nat.{ℕ, ◌+◌, ◌≤◌, ◌-◌}
+use Prim.Native.Nat.{ℕ, ◌+◌, ◌≤◌}
 use mathlib.Core.Path.{◌≡◌, ap, sym, ◌∙◌}
 use mathlib.Core.List.{List, [], flatten}
 use mathlib.Core.Bool.{◌&&◌}
@@ -12,7 +12,7 @@ use Rattle.search.specs.Lists.{keep}
 use Rattle.search.proofs.Choice.{when_cases}
 use Rattle.search.proofs.Rest.{rest}
 use Rattle.table.proofs.Standing.{longest_record}
-use Rattle.merging.specs.Versions.{Versions, three}
+use Rattle.merging.specs.Versions.{Versions}
 use Rattle.merging.specs.Rule.{taken_of, conflict_of, lesser, least}
 use Rattle.merging.specs.Merge.{versions, is_record}
 use Rattle.merging.specs.declared.states.Weight.{Weight}

@@ -1,5 +1,5 @@
 -- The loop's invariant (`Passed`): a record starts at `at`, and, from the first on, no chain before it bears the id.
-use Prim.Native.Nat.{◌<◌, ◌-◌}
+use Prim.Native.Nat.{◌<◌}
 use mathlib.Core.Path.{◌≡◌, ap, sym, ◌∙◌}
 use native.Mathlib.Omega.{arith}
 use Rattle.table.specs.Record.{row_at}
@@ -23,7 +23,7 @@ there c = record_stands c.requires.0 c.loop-at.invariant.there (within c)
 bears : (c : After-u32_from_u16) → c.u32_from_u16.result ≡ (row_of (table_of c.args.s.now) c.loop-at.invariant.there.chain).id
 unfolding row_at
 bears c = c.u32_from_u16.ensures.0 ∙ c.id_at.ensures
-    ∙ ap (λ (r : Row). r.id) (row-there c.requires.0 c.loop-at.invariant.there.place ((let it : c.loop-at.invariant.there.chain < (table_of c.args.s.now).count = chain-there c.requires.0 c.loop-at.invariant.there (omega (arith, c.end_place-end.ensures, c.loop-at-test.true)) in it)))
+    ∙ ap (λ (r : Row). r.id) (row-there c.requires.0 c.loop-at.invariant.there.place (chain-there c.requires.0 c.loop-at.invariant.there (omega (arith, c.end_place-end.ensures, c.loop-at-test.true))))
 
 pub end_place-end-requires : goal.end_place-end-requires
 end_place-end-requires c = c.requires.0

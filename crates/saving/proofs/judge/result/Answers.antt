@@ -22,8 +22,8 @@ n c = length c.args.s.now - c.args.gone + length c.args.new.now
 made-length : (c : Start) → length (made c) ≡ n c
 made-length c = splice-length c.args.s.now c.args.at c.args.gone c.args.new.now c.requires.0
 
-begins : (c : After-spliced) → take ((length c.args.s.now - c.args.gone + length c.args.new.now)) c.spliced.new.out ≡ (splice c.args.s.now c.args.at c.args.gone c.args.new.now)
-begins c = ap (λ (m : ℕ). take m c.spliced.new.out) (sym ((let it : length ((splice c.args.s.now c.args.at c.args.gone c.args.new.now)) ≡ (length c.args.s.now - c.args.gone + length c.args.new.now) = splice-length c.args.s.now c.args.at c.args.gone c.args.new.now c.requires.0 in it))) ∙ c.spliced.ensures.first
+begins : (c : After-spliced) → take (length c.args.s.now - c.args.gone + length c.args.new.now) c.spliced.new.out ≡ splice c.args.s.now c.args.at c.args.gone c.args.new.now
+begins c = ap (λ (m : ℕ). take m c.spliced.new.out) (sym (splice-length c.args.s.now c.args.at c.args.gone c.args.new.now c.requires.0)) ∙ c.spliced.ensures.first
 
 pub returns-then-room-n : goal.returns-then-room-n
 returns-then-room-n c = record { faulty = sym (result-long c.args.room (made (goal.at.returns-then-room-n c).Start) (omega (arith, made-length (goal.at.returns-then-room-n c).Start, c.if-room-n.true))); begins = λ z. absurd (omega (arith, z)) }

@@ -2,7 +2,6 @@
 use Prim.Native.Nat.{ℕ, ◌<◌, ◌+◌, ◌-◌}
 use mathlib.Core.Path.{◌≡◌, ap, ap₂, sym, ◌∙◌}
 use mathlib.Core.List.{List}
-use mathlib.Core.Bool.{true}
 use lib.ListN.{take, drop}
 use borrow.Author.Count.{below_more}
 use native.Mathlib.Omega.{arith}
@@ -13,7 +12,6 @@ use Rattle.table.specs.Code.Taken.{Stands}
 use Rattle.table.specs.Read.{table_of}
 use Rattle.table.proofs.Standing.{place_none}
 use Rattle.table.proofs.Stands.{length-at, row-there, stands, place-next}
-use Rattle.slices.specs.Slices.{same}
 use Rattle.slices.specs.Stored.{record_of}
 use Rattle.saving.proofs.Seen.{seen-is, seen_none}
 use Rattle.saving.proofs.judge.seen.Goals as goal
