@@ -7,12 +7,10 @@ use mathlib.Core.List.{List}
 use lib.Dec.{eqb}
 use lib.ListN.{get_or}
 use borrow.Author.Tests.{eqb-false}
-use borrow.Author.Rules.{rules}
 use Rattle.table.proofs.Firsts.{none_or}
 use Rattle.salvaging.specs.Code.Walk.{NoC}
 use Rattle.salvaging.proofs.Starts.{no_c-none, no_c-more}
-use Rattle.salvaging.proofs.walk.has_c.Statement.{statement}
-use Rattle.salvaging.proofs.walk.has_c.Tie as tie
+use Rattle.salvaging.proofs.walk.has_c.Goals as goal
 
 -- four bytes, one after the other
 four : (s : List ℕ) (at : ℕ) → (get_or s at 0 ≡ 67 → ⊥) → (get_or s (at + 1) 0 ≡ 67 → ⊥) → (get_or s (at + 2) 0 ≡ 67 → ⊥) → (get_or s (at + 3) 0 ≡ 67 → ⊥) → NoC s at (at + 4)
@@ -24,45 +22,10 @@ four s at a b c d =
     let three = subst (NoC s at) f (no_c-more s at (at + 2) two c) in
     subst (NoC s at) g (no_c-more s at (at + 3) three d)
 
-shared-slice-read-result : tie.Need-shared-slice-read-result
-shared-slice-read-result c = search rules
-
-add-result : tie.Need-overflow-add-result
-add-result c = search rules
-
-shared-slice-read-result-2 : tie.Need-shared-slice-read-result-2
-shared-slice-read-result-2 c = search rules
-
-add-result-2 : tie.Need-overflow-add-result-2
-add-result-2 c = search rules
-
-shared-slice-read-result-3 : tie.Need-shared-slice-read-result-3
-shared-slice-read-result-3 c = search rules
-
-add-result-3 : tie.Need-overflow-add-result-3
-add-result-3 c = search rules
-
-shared-slice-read-result-4 : tie.Need-shared-slice-read-result-4
-shared-slice-read-result-4 c = search rules
-
-returns : tie.Need-returns
-returns c e =
-    let s = c.before.before.before.before.args.s.now in
-    let at = c.before.before.before.before.args.at in
+pub returns : goal.returns
+returns c e = let s = c.args.s.now in
+    let at = c.args.at in
     let last = none_or (eqb (get_or s at 0) 67 || eqb (get_or s (at + 1) 0) 67 || eqb (get_or s (at + 2) 0) 67) (eqb (get_or s (at + 3) 0) 67) e in
     let third = none_or (eqb (get_or s at 0) 67 || eqb (get_or s (at + 1) 0) 67) (eqb (get_or s (at + 2) 0) 67) last.0 in
     let two = none_or (eqb (get_or s at 0) 67) (eqb (get_or s (at + 1) 0) 67) third.0 in
     four s at (eqb-false _ _ two.0) (eqb-false _ _ two.1) (eqb-false _ _ third.1) (eqb-false _ _ last.1)
-
-pub has-c-spec : {M : Type 1} → statement M
-has-c-spec =
-    tie.close
-    (tie.spec
-    shared-slice-read-result
-    add-result
-    shared-slice-read-result-2
-    add-result-2
-    shared-slice-read-result-3
-    add-result-3
-    shared-slice-read-result-4
-    returns)

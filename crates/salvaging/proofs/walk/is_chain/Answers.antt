@@ -7,8 +7,7 @@ use Rattle.search.specs.Choice.{◌when◌else◌}
 use Rattle.table.specs.Record.{gap_form, largest_form, task_mark, end_mark}
 use Rattle.table.specs.Fault.{mark_of, is_chain}
 use Rattle.table.specs.declared.Mark.TheVariants.{Chain, Task, End, Unknown}
-use Rattle.salvaging.proofs.walk.is_chain.Statement.{statement}
-use Rattle.salvaging.proofs.walk.is_chain.Tie as tie
+use Rattle.salvaging.proofs.walk.is_chain.Goals as goal
 
 either : (m : ℕ) → (eqb m gap_form || eqb m largest_form) ≡ is_chain (mark_of m)
 unfolding mark_of ◌when◌else◌
@@ -20,8 +19,5 @@ either m = by (eqb m gap_form || eqb m largest_form) (eqb m task_mark) (eqb m en
     by false false true = refl
     by false false false = refl
 
-returns : tie.Need-returns
+pub returns : goal.returns
 returns c = either c.args.mark
-
-pub is-chain-spec : {M : Type 1} → statement M
-is-chain-spec = tie.close (tie.spec returns)
