@@ -1,12 +1,15 @@
 -- The digits below m went back to 0, those from m on are as they were (`Turning`).
+use Prim.Native.Nat.{ℕ, ◌+◌, ◌≤◌, ◌<◌}
+use mathlib.Core.Bool.{Bool, false}
 use mathlib.Core.Path.{◌≡◌, refl, sym, ◌∙◌}
 use mathlib.Core.Logic.{inl, inr}
 use native.Mathlib.Omega.{arith}
-use Rattle.odometer.specs.Code.Steps.{Changed}
-use Rattle.odometer.proofs.Turns.{turning_start, turning_reset, turning_raise, turning_end, unchanged, gone_raisable, gone_resettable}
+use Rattle.odometer.specs.Code.Steps.{Fits, Changed}
+use Rattle.odometer.specs.declared.Odometer.{Odometer}
+use Rattle.odometer.specs.Code.Gone.{uses_of, left_of, Gone}
+use Rattle.odometer.proofs.Turns.{Turning, turning_start, turning_reset, turning_raise, turning_end, unchanged, gone_raisable, gone_resettable}
 use borrow.Author.Rules.{rules}
 use Rattle.odometer.proofs.Odometer.next.Goals as goal
-use Rattle.odometer.proofs.Odometer.next.Goals.{Joined-o-m-ne0, then-o-m-ne0, else-o-m-ne0}
 
 pub loop-m-init : goal.loop-m-init
 loop-m-init c = (search rules, search rules, c.requires.0, λ x a l. refl, turning_start (omega arith))
@@ -33,24 +36,23 @@ pub reset-o-requires : goal.reset-o-requires
 reset-o-requires c = let g = c.requires.1 in
     gone_resettable (c.loop-m.invariant.4 g.room g.gone).gone (search rules)
 
--- where m was used it is not any more, and else it was not anyhow
-reset : (c : Joined-o-m-ne0) → let o = c.loop-m.o in
-    Changed c.loop-m.m 0 o c.if-o-m-ne0.o × (c.if-o-m-ne0.o.most ≡ o.most)
-reset c = elim c.if-o-m-ne0.branch [
-  | then-o-m-ne0 w ↦ rw w.o-is w.reset-o.ensures
-  | else-o-m-ne0 w ↦ rw w.o-is (unchanged (omega arith), refl)
-]
+-- m can't be raised and is not used any more: the digit after it is next
+further : {bad : ℕ → Bool} {m : ℕ} {s o r : Odometer}
+    → (0 < m) × (m ≤ 64) × (o.over ≡ false) × ((x : ℕ) → m ≤ x → x < 64 → uses_of o x ≡ uses_of s x) × ((room : ℕ → ℕ) → Gone bad room s → Turning bad room m o)
+    → m < 64 → (Fits bad (left_of o) m → ⊥) → Changed m 0 o r × (r.most ≡ o.most)
+    → (0 < m + 1) × (m + 1 ≤ 64) × (r.over ≡ false) × ((x : ℕ) → m + 1 ≤ x → x < 64 → uses_of r x ≡ uses_of s x) × ((room : ℕ → ℕ) → Gone bad room s → Turning bad room (m + 1) r)
+further i l full r = (
+  omega arith,
+  omega arith,
+  r.0.over ∙ i.2,
+  λ x a q. r.0.others x q (λ e. omega (arith, e)) ∙ i.3 x (omega arith) q,
+  λ room g. turning_reset (i.4 room g) l full r.0 r.1,
+)
 
+-- where m was used it is not any more, and else it was not anyhow
 pub loop-m-preserved : goal.loop-m-preserved
 loop-m-preserved c = let l = c.loop-m in
-    let full = c.fits.ensures.not c.if-fits.false in
-    let r = reset (goal.at.loop-m-preserved c).Joined-o-m-ne0 in (
-      omega arith,
-      omega (arith, c.loop-m-test.true),
-      r.0.over ∙ l.invariant.2,
-      λ x a q. r.0.others x q (λ e. omega (arith, e)) ∙ l.invariant.3 x (omega arith) q,
-      λ room g. turning_reset (l.invariant.4 room g) (search rules) full r.0 r.1,
-    )
+    further l.invariant (omega arith) (c.fits.ensures.not c.if-fits.false) (search (rules, unchanged {m = l.m} {o = l.o}))
 
 pub returns : goal.returns
 returns c = record { still = λ room g. turning_end (c.loop-m.invariant.4 room g) (search rules); later = λ z. inl refl }
