@@ -1,6 +1,6 @@
 -- Two analyses compared: where in the first every demand is no greater, every distance no shorter and the deadline no earlier, no figure of the
 -- first is worse, and it has figures where the second has. Assumes nothing.
-use Prim.Native.Nat.{ℕ, zero, suc, zero-le, ◌+◌, ◌-◌, ◌≤◌}
+use Prim.Native.Nat.{ℕ, zero, suc, zero-le, ◌+◌, ◌≤◌}
 use mathlib.Core.Path.{◌≡◌, refl, ap, sym, subst, ◌∙◌}
 use mathlib.Core.List.{List}
 use mathlib.Core.Logic.{⊎_elim}

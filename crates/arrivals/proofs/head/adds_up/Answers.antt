@@ -1,5 +1,5 @@
 -- `adds_up` meets its contract. The loop's invariant: each step shorter than i adds up. The measure is what is left of the list.
-use Prim.Native.Nat.{ℕ, ◌-◌}
+use Prim.Native.Nat.{ℕ}
 use mathlib.Core.Path.{◌≡◌, sym, subst, ◌∙◌}
 use mathlib.Core.List.{List}
 use mathlib.Core.Logic.{⊎_elim}

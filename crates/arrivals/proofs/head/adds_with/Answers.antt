@@ -1,5 +1,5 @@
 -- `adds_with` meets its contract. The loop's invariant: a step of i adds up with each shorter than j. The measure is what is left up to i.
-use Prim.Native.Nat.{ℕ, ◌+◌, ◌-◌, ◌≤◌}
+use Prim.Native.Nat.{ℕ, ◌+◌, ◌≤◌}
 use mathlib.Core.Path.{◌≡◌, sym, subst}
 use mathlib.Core.List.{List}
 use mathlib.Core.Logic.{⊎_elim}

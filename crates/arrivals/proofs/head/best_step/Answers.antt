@@ -1,5 +1,5 @@
 -- `best_step` meets its contract. The loop's invariant: `best` is a best step of those below j. The measure is what is left of the list.
-use Prim.Native.Nat.{ℕ, ◌*◌, ◌-◌}
+use Prim.Native.Nat.{ℕ, ◌*◌}
 use mathlib.Core.Path.{◌≡◌, ap, sym, ◌∙◌}
 use mathlib.Core.List.{List}
 use native.Mathlib.Omega.{arith}

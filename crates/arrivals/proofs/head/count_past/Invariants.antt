@@ -4,7 +4,6 @@ use Prim.Native.Nat.{◌+◌, ◌-◌, ◌<◌, ◌≤◌}
 use Rattle.table.specs.Code.Listed.{listed_from, distances_from}
 use Rattle.arrivals.specs.Arrivals.{δ}
 use Rattle.arrivals.specs.Code.Sums.{SumsAt}
-use Rattle.arrivals.proofs.Heads.{head}
 use Rattle.arrivals.proofs.head.count_past.Given as goal
 
 abbrev pub invariant-loop-m : goal.invariant-loop-m

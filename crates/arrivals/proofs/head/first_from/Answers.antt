@@ -1,5 +1,5 @@
 -- `first_from` meets its contract. The loop's invariant: those before r lie below t. The measure is what is left.
-use Prim.Native.Nat.{◌-◌, ◌%◌}
+use Prim.Native.Nat.{◌%◌}
 use mathlib.Core.Path.{◌≡◌, ap}
 use mathlib.Core.Logic.{inl, inr, ⊎_elim}
 use native.Mathlib.Omega.{arith}

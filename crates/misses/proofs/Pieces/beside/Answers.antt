@@ -1,5 +1,5 @@
 -- The loop's invariant: i of the active segments found are held after what was held before.
-use Prim.Native.Nat.{◌-◌, ◌≤◌}
+use Prim.Native.Nat.{◌≤◌}
 use mathlib.Core.Path.{refl, ap, ap₂, sym, ◌∙◌}
 use native.Mathlib.Omega.{arith}
 use Rattle.table.specs.Limits.{max_tasks}

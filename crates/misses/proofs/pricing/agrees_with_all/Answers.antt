@@ -1,5 +1,4 @@
 -- The loop's invariant: the active segment i may stand with those after it exactly where it may with those from j on.
-use Prim.Native.Nat.{◌-◌}
 use mathlib.Core.Path.{refl, ap, sym, ◌∙◌}
 use native.Mathlib.Omega.{arith}
 use Rattle.search.proofs.Choice.{when_yes, when_no}

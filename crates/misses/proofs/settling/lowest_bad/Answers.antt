@@ -1,5 +1,4 @@
 -- The loop's invariant: which costs are settled (`Settles`), and an open one, 0 where none is. Each round leaves less room between.
-use Prim.Native.Nat.{◌-◌}
 use mathlib.Core.Path.{◌≡◌, subst}
 use native.Mathlib.Omega.{arith}
 use Rattle.windows.specs.Code.Load.{load_of}

@@ -1,5 +1,4 @@
 -- The loop's invariant (`Picking`): the best of the costs gone through is open, or none of them is.
-use Prim.Native.Nat.{◌-◌}
 use native.Mathlib.Omega.{arith}
 use Rattle.misses.proofs.Settles.{picking_none, picking_better, picking_worse, picking_done}
 use Rattle.misses.proofs.settling.pick.Goals as goal

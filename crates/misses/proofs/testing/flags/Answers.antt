@@ -1,5 +1,4 @@
 -- The loop's invariant: the sets below m have their flags.
-use Prim.Native.Nat.{◌-◌}
 use native.Mathlib.Omega.{arith}
 use Rattle.misses.proofs.Fills.{filled_none, filled_on}
 use Rattle.misses.proofs.testing.flags.Goals as goal

@@ -1,6 +1,4 @@
 use Rattle.slices.proofs.Writes.{wrote_byte}
-use Rattle.report_text.proofs.text.put_byte.Reads as reads
-use Rattle.report_text.proofs.text.put_byte.Lts as lts
 use Rattle.report_text.proofs.text.put_byte.Goals as goal
 
 -- src/text.rt:10:1

@@ -1,8 +1,7 @@
 -- The loop's invariant (`Compared`): the dearest segment is the dearer of `best` and what the tasks left make it.
-use Prim.Native.Nat.{◌<◌, ◌+◌, ◌-◌, max}
+use Prim.Native.Nat.{◌<◌, ◌+◌, max}
 use native.Mathlib.Omega.{arith}
 use mathlib.Core.Path.{◌≡◌, ap, ◌∙◌, sym}
-use mathlib.Core.Logic.{⊎_elim}
 use lib.ListN.{get_or}
 use Rattle.table.specs.Record.{row_at}
 use Rattle.table.specs.declared.Row.{Row}

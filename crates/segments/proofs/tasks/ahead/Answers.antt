@@ -1,5 +1,5 @@
 -- The loop's invariant (`Going`): what was passed and what is left make up the tasks before the first below the level.
-use Prim.Native.Nat.{◌-◌, ◌<◌}
+use Prim.Native.Nat.{◌<◌}
 use native.Mathlib.Omega.{arith}
 use Rattle.table.specs.Record.{row_at}
 use Rattle.table.specs.declared.Row.{Row}

@@ -1,8 +1,7 @@
 -- The loop's invariant (`Sided`): what was counted and what is left make up the whole.
-use Prim.Native.Nat.{◌+◌, ◌-◌, ◌<◌}
+use Prim.Native.Nat.{◌+◌, ◌<◌}
 use native.Mathlib.Omega.{arith}
 use mathlib.Core.Path.{◌≡◌, ap, ◌∙◌}
-use mathlib.Core.Logic.{⊎_elim}
 use lib.ListN.{get_or}
 use Rattle.table.specs.Record.{tasks_at, row_at}
 use Rattle.segments.proofs.Costing.{sided_start, sided_low, sided_high, sided_end}

@@ -1,5 +1,4 @@
 -- The loop has stored the first i numbers, with 0 past them.
-use Prim.Native.Nat.{◌-◌}
 use mathlib.Core.Path.{◌≡◌}
 use Rattle.table.specs.Bytes.{word}
 use Rattle.table.proofs.Lists.{pad-none, pad-on}

@@ -1,7 +1,6 @@
 -- An accepted table is decoded; a refusal carries the empty one.
 use native.Mathlib.Omega.{arith}
 use mathlib.Core.Path.{ap, ap₂, sym, ◌∙◌}
-use Rattle.table.specs.Read.{empty}
 use Rattle.table.specs.declared.Reading.{Reading}
 use Rattle.table.proofs.Accepted.{taken}
 use Rattle.table.proofs.Rows.{refused_reading}

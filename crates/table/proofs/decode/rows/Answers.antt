@@ -1,5 +1,5 @@
 -- The loop has decoded the first rows; the next record starts at `at`.
-use Prim.Native.Nat.{◌+◌, ◌-◌, ◌<◌}
+use Prim.Native.Nat.{◌+◌, ◌<◌}
 use native.Mathlib.Omega.{arith}
 use mathlib.Core.Path.{◌≡◌, ap, ◌∙◌}
 use Rattle.table.specs.Find.{row_of}

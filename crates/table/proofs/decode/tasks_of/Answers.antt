@@ -1,5 +1,4 @@
 -- The loop has stored what the first i tasks hold, with 0 past them.
-use Prim.Native.Nat.{◌-◌}
 use mathlib.Core.Path.{◌≡◌}
 use Rattle.table.specs.Record.{priority_at, cost_at}
 use Rattle.table.proofs.Lists.{pad-none, pad-on}

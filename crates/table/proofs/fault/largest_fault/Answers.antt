@@ -3,7 +3,7 @@ use Prim.Native.Nat.{◌+◌, ◌*◌}
 use mathlib.Core.Path.{◌≡◌, ap, ap₂, sym, ◌∙◌}
 use lib.ListN.{get_or}
 use lib.Dec.{eqb}
-use borrow.Author.Tests.{eqb-false, not-true, lt-ltb, le-ltb}
+use borrow.Author.Tests.{eqb-false, lt-ltb, le-ltb}
 use Rattle.search.specs.Choice.{◌when◌else◌}
 use Rattle.table.specs.Bytes.{word}
 use Rattle.table.specs.Record.{largest_form, form_at, flag_at, listed_at, list_place, largest_place}

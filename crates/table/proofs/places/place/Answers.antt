@@ -1,5 +1,5 @@
 -- The loop has come to the chain i, whose record starts at `at`.
-use Prim.Native.Nat.{◌+◌, ◌-◌}
+use Prim.Native.Nat.{◌+◌}
 use mathlib.Core.Path.{◌≡◌, ap, ◌∙◌}
 use Rattle.table.specs.Place.{place_of}
 use Rattle.table.specs.Read.{table_of}

@@ -1,6 +1,6 @@
 -- `held_sum` meets its contract. The loop's invariant: the sum is what the first i chains add, and fits, and these are counted. The measure
 -- is how many are left.
-use Prim.Native.Nat.{◌≤◌, ◌-◌, ◌+◌, ◌*◌}
+use Prim.Native.Nat.{◌≤◌, ◌+◌, ◌*◌}
 use mathlib.Core.Path.{◌≡◌, refl, ap, ap₂, sym, subst, ◌∙◌}
 use native.Mathlib.Omega.{arith}
 use native.Mathlib.Nat.{le_of_eq}

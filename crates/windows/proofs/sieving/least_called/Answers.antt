@@ -1,6 +1,6 @@
 -- `least_called` meets its contract. The loop's invariant: the costs called bad by the activations looked at so far are those from `least`
 -- on.
-use Prim.Native.Nat.{ℕ, ◌+◌, ◌-◌, ◌≤◌}
+use Prim.Native.Nat.{ℕ, ◌+◌, ◌≤◌}
 use mathlib.Core.Path.{◌≡◌, ap, ap₂, sym, subst, ◌∙◌}
 use native.Mathlib.Omega.{arith}
 use Rattle.table.specs.Record.{row_at}

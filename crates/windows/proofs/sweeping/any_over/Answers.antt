@@ -1,6 +1,6 @@
 -- `any_over` meets its contract. The loop's invariant (`Swept`): the windows taken so far are not over the deadline, and the next is
 -- not under its start.
-use Prim.Native.Nat.{ℕ, ◌+◌, ◌-◌, ◌≤◌}
+use Prim.Native.Nat.{ℕ, ◌+◌, ◌≤◌}
 use mathlib.Core.Path.{◌≡◌, ap, sym, ◌∙◌}
 use mathlib.Core.Bool.{Bool}
 use native.Mathlib.Omega.{arith}

@@ -1,5 +1,5 @@
 -- `walk` meets its contract. The loop's invariant is where the walk stands (`Walk`) and what is counted. The measure is how many activations are left.
-use Prim.Native.Nat.{ℕ, ◌+◌, ◌-◌, ◌≤◌, ◌<◌}
+use Prim.Native.Nat.{ℕ, ◌+◌, ◌≤◌, ◌<◌}
 use mathlib.Core.Path.{◌≡◌, ap, sym, ◌∙◌}
 use native.Mathlib.Omega.{arith}
 use mir.Val.{to_z, of_z}
