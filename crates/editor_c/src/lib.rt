@@ -175,4 +175,3 @@ pub extern "C" fn mishtodran_version() -> u32
 {
     editor::mishtodran_version()
 }
-
