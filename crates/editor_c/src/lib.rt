@@ -1,5 +1,5 @@
-// The entries of the C library (document 01, 'The C editor and the report'; document 02, requests 1, 2, 4 and 6 to 8): each is the
-// editor's, with the editor's contract, under a name that C finds. A slice comes from C as a pointer, and how many items stand there.
+// The entries of the C library: each is the editor's, with the editor's contract, under a name that C finds. A slice comes from C as a
+// pointer, and how many items stand there.
 #![tactic(auto)]
 
 ghost use Rattle.std.specs.Prelude.{◌≡◌};
