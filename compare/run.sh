@@ -2,7 +2,7 @@
 # Holds a library with the entries of mishtodran.h against the plain analyzer, or measures both.
 # Usage: compare/run.sh LIBRARY compare SEED N
 #        compare/run.sh LIBRARY bench [SEED]
-# LIBRARY is an x86-64 archive (target/staticlib/libeditor.a). bench measures GLPK too where compare/glpk.sh has fetched it.
+# LIBRARY is an x86-64 archive (target/mishtodran/libmishtodran.a). bench measures GLPK too where compare/glpk.sh has fetched it.
 set -u
 name=compare
 # shellcheck source=scripts/shell.sh

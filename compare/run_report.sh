@@ -1,7 +1,7 @@
 #!/usr/bin/env bash
 # Holds the report program against the plain analyzer's report, on generated tables.
 # Usage: compare/run_report.sh PROGRAM SEED N
-# PROGRAM is the report as rt links it (target/bin/report).
+# PROGRAM is the report as rt links it (target/bin/report, which ./mishtodran report builds).
 set -u
 name=run_report
 # shellcheck source=scripts/shell.sh

@@ -71,19 +71,8 @@ check_reports() {
 
 # ---- The Rattle toolchain ----
 
-# rt starts so many proofs at once, and the next ones when all of these have ended: more than there are processors keep
-# the processors busy. Each takes up to 1 GB.
-export RT_JOBS=${RT_JOBS-6}
-
 find_rt() {
     command -v rt >/dev/null || fail "the Rattle toolchain's rt is not on the PATH"
-}
-
-# The folder of its compiler for this machine.
-toolchain() {
-    local rt
-    rt=$(readlink -f "$(command -v rt)")
-    echo "${RATTLE_HOME:-${rt%/*/*}}/on/$(uname -m)/toolchain"
 }
 
 # ---- C programs ----
@@ -104,7 +93,7 @@ case $(uname -m) in
         c_compilers=(x86_64-linux-gnu-gcc)
         c_package=gcc-x86-64-linux-gnu
         c_link=(-static)
-        c_emulators=("$(toolchain)/bin/qemu-x86_64" qemu-x86_64 qemu-x86_64-static)
+        c_emulators=(qemu-x86_64 qemu-x86_64-static)
         ;;
 esac
 [ -z "${CC_X86_64-}" ] || c_compilers=("$CC_X86_64")
@@ -161,17 +150,18 @@ quoted() {
 
 # run_proved PROGRAM: runs one that rt has linked, with the toolchain's C library.
 run_proved() {
-    local lib
+    local rt lib
     find_rt
-    lib=$(toolchain)/lib
-    [ -f "$lib/ld-linux-x86-64.so.2" ] || fail "the Rattle toolchain has no C library for this machine, $(uname -m)"
+    rt=$(readlink -f "$(command -v rt)")
+    lib=${rt%/*/*}/toolchain/lib
+    [ -f "$lib/ld-linux-x86-64.so.2" ] || fail "the Rattle toolchain has no C library: there is no $lib/ld-linux-x86-64.so.2"
     c_run "$lib/ld-linux-x86-64.so.2" --library-path "$lib" "$@"
 }
 
 # ---- Builds ----
 
 # One build at a time in a project's folder: `lock` waits until no other is going on, `unlock` lets the next one start.
-# The folder itself is locked, since rt ci removes target/.
+# The folder itself is locked, so that target/ may be removed meanwhile.
 lock() {
     command -v flock >/dev/null || fail "there is no flock here: install Debian's package util-linux"
     { exec 9<"$top"; } 2>/dev/null || fail "$top cannot be read"
@@ -202,6 +192,39 @@ note_made() {
     { mkdir -p "$top/target/made" && echo "$3 $(fingerprint "" "$2")" >"$top/target/made/$1"; } ||
         fail "$top/target cannot be written"
 }
+
+# copy FILE TO: makes TO the same as FILE; it is there whole at any moment.
+copy() {
+    cmp -s "$1" "$2" && return
+    { mkdir -p "${2%/*}" && cp "$1" "$2.new" && mv "$2.new" "$2"; } || fail "$2 cannot be written"
+}
+
+# crates_of CRATE: those of crates.txt that it needs, one a line, and itself last.
+crates_of() {
+    awk -F: -v crate="$1" '
+        function visit(one, needs, n) {
+            if (!(one in needed) || seen[one]++) return
+            for (n = split(needed[one], needs, " "); n > 0; n--) visit(needs[n])
+            print one
+        }
+        { sub(/#.*/, "") }
+        NF > 1 { split($1, words, " "); needed[words[1]] = $2 }
+        END { visit(crate) }' "$top/crates.txt"
+}
+
+# sources_of CRATE..: the fingerprint of what rt builds these from.
+sources_of() {
+    local folders=() crate part
+    for crate in "$@"; do
+        for part in src specs proofs; do
+            [ ! -d "$top/crates/$crate/$part" ] || folders+=("crates/$crate/$part")
+        done
+    done
+    fingerprint "$(rt version)" crates.txt "${folders[@]}"
+}
+
+# The crates of the programs that the commands run. Of each, the program stands in target/bin.
+programs=(report table_check table_misses table_merge table_convert table_salvage)
 
 # c_program NAME SOURCE WORDS..: builds target/FOLDER/NAME of these words, FOLDER being the source's, unless it was made of
 # just the same: words, files among them, compiler, the C files of FOLDER, and include/. Sets c_program to it.

@@ -43,7 +43,7 @@ help_and_links() {
     ln -s "$copy/mishtodran" "$room/links/one"
     ln -s one "$room/links/two"
     expect 0 "usage: ./mishtodran COMMAND*" "" "" "$room/links/two" help
-    expect 0 "a report" "*built the report program in*" "*rt check report" "$room/links/two" report examples/sample.table
+    expect 0 "a report" "*built the report program in*" "*rt run report" "$room/links/two" report examples/sample.table
 }
 
 # says SCRIPT: what the programs of report, check, misses, merge, convert and salvage do.
@@ -53,7 +53,7 @@ says() {
 
 checks() {
     says 'echo accepted, 4 chains'
-    expect 0 "accepted, 4 chains" "*built the verdict program in*" "*rt check table_check" ./mishtodran check examples/sample.table
+    expect 0 "accepted, 4 chains" "*built the verdict program in*" "*rt run table_check" ./mishtodran check examples/sample.table
     expect 0 "accepted, 4 chains" "" "" ./mishtodran check examples/sample.table
     says 'wc -c'
     expect 0 "140" "" "" ./mishtodran check examples/sample.table
@@ -66,7 +66,7 @@ checks() {
     says 'echo accepted, 4 chains'
     expect 2 "" "mishtodran: standard output cannot be written" "" sh -c './mishtodran check >/dev/full'
     echo more >"$copy/crates/input/src/lib.rt"
-    expect 0 "accepted, 4 chains" "*" "*rt check table_check" ./mishtodran check
+    expect 0 "accepted, 4 chains" "*" "*rt run table_check" ./mishtodran check
     says 'echo a report'
 }
 
@@ -92,7 +92,7 @@ reports() {
 misses() {
     local misses=(./mishtodran misses examples/sample.table)
     says 'echo "$@" && wc -c'
-    expect 0 $'10\n140' "*built the misses program in*" "*rt check table_misses" "${misses[@]}"
+    expect 0 $'10\n140' "*built the misses program in*" "*rt run table_misses" "${misses[@]}"
     expect 0 $'10\n140' "" "" "${misses[@]}"
     expect 0 $'10 all\n140' "" "" "${misses[@]}" --all
     expect 0 $'1000\n140' "" "" "${misses[@]}" 1000
@@ -172,7 +172,7 @@ results() {
     shift
     mkdir "$copy/made"
     says 'echo new'
-    expect 0 "" "*built the $program program in*" "*rt check table_$program" "$@"
+    expect 0 "" "*built the $program program in*" "*rt run table_$program" "$@"
     holds new
     expect 0 "" "" "" "$@"
     says 'echo a note >&2 && echo new'
@@ -273,15 +273,15 @@ salvages() {
 
 # What the library is built from, and when it is built again.
 builds() {
-    local built="rt check *saving*"$'\n'"rt staticlib editor"
-    expect 0 "library: *" "mishtodran: building the library: 16 crates*crate 15 of 16 is proved: *built the library in*" "$built" ./mishtodran lib
+    local built="rt lib search"$'\n'"*rt lib editor"$'\n'"rt lib editor_c"
+    expect 0 "library: *" "mishtodran: building the library: 17 crates*crate 16 of 17 is proved: editor,*built the library in*" "$built" ./mishtodran lib
     expect 0 "library: *" "" "" ./mishtodran lib
     echo "/* more */" >>"$copy/include/mishtodran.h"
     expect 0 "library: *" "" "" ./mishtodran lib
     cmp "$copy/include/mishtodran.h" "$copy/target/mishtodran/mishtodran.h" || found "the header is not the changed one"
     echo more >"$copy/target/mishtodran/libmishtodran.a"
     expect 0 "library: *" "" "" ./mishtodran lib
-    cmp "$copy/target/staticlib/libeditor.a" "$copy/target/mishtodran/libmishtodran.a" || found "the library is not what was built"
+    cmp "$copy/target/staticlib/libeditor_c.a" "$copy/target/mishtodran/libmishtodran.a" || found "the library is not what was built"
     echo more >"$copy/crates/vectors/src/lib.rt"
     expect 0 "library: *" "" "" ./mishtodran lib
     echo more >"$copy/crates/search/src/lib.rt"
@@ -290,25 +290,25 @@ builds() {
     expect 0 "library: *" "*" "$built" ./mishtodran lib
     touch -d '10 years ago' "$room/older" && mv "$room/older" "$copy/crates/search/src/lib.rt"
     expect 0 "library: *" "*" "$built" ./mishtodran lib
-    echo more >>"$copy/target/staticlib/libeditor.a"
+    echo more >>"$copy/target/staticlib/libeditor_c.a"
     expect 0 "library: *" "*" "$built" ./mishtodran lib
     expect 0 "library: *" "" "" ./mishtodran lib
 }
 
 # A source that changes while it is built, a build that fails, and no rt.
 builds_that_go_wrong() {
-    local built="rt check *saving*"$'\n'"rt staticlib editor"
+    local built="rt lib search"$'\n'"*rt lib editor"$'\n'"rt lib editor_c"
     echo again >"$copy/crates/search/src/lib.rt"
-    during <<<'echo meanwhile >crates/search/src/lib.rt'
+    during <<<'echo meanwhile >"$ROOM/a copy/crates/search/src/lib.rt"'
     expect 0 "library: *" "*" "$built"$'\n'"$built" ./mishtodran lib
     expect 0 "library: *" "" "" ./mishtodran lib
     echo wrong >"$copy/crates/search/src/lib.rt"
-    during <<<'echo "rt: search NOT PROVED (exit 1, 1 s)" && exit 1'
-    expect 2 "" "*search NOT PROVED*mishtodran: the library was not built; *editor.log has what rt said" "rt check*" ./mishtodran lib
+    during <<<'echo "src/lib.rt:1:1: error: it is wrong" && exit 1'
+    expect 2 "" "*error: it is wrong*search NOT PROVED*mishtodran: the library was not built; *editor_c.log has what rt said" "rt lib search" ./mishtodran lib
     expect 0 "library: *" "*" "$built" ./mishtodran lib
-    rm "$copy/target/staticlib/libeditor.a"
+    rm "$copy/target/staticlib/libeditor_c.a"
     touch "$room/makes_nothing"
-    expect 2 "" "*rt has not made *libeditor.a" "$built" ./mishtodran lib
+    expect 2 "" "*rt has not made *libeditor_c.a" "$built" ./mishtodran lib
     rm "$room/makes_nothing"
     mv "$tools/rt" "$room/rt"
     expect 2 "" "mishtodran: the Rattle toolchain's rt is not on the PATH" "" ./mishtodran lib
@@ -345,9 +345,9 @@ EOT
 
 two_at_once() {
     at_once "./mishtodran lib" "./mishtodran lib"
-    is "two builds of the library: calls" "$(grep -c staticlib "$room/called")" 1
+    is "two builds of the library: calls" "$(grep -c 'rt lib editor_c' "$room/called")" 1
     at_once "./mishtodran report examples/sample.table" "./mishtodran lib"
-    is "the report program and the library: calls" "$(grep -c 'staticlib\|check report' "$room/called")" 2
+    is "the report program and the library: calls" "$(grep -c 'rt lib editor_c\|rt run report' "$room/called")" 2
 }
 
 # The programs of compare/ are compiled where something of theirs has changed.
@@ -359,7 +359,7 @@ compiled_programs() {
     expect 0 "ran compare 1 5" "compare: compiling compare" "$compiled" ./mishtodran compare 5
     echo "stand-in 2" >"$room/compiler"
     expect 0 "ran compare 1 5" "compare: compiling compare" "$compiled" ./mishtodran compare 5
-    cp "$copy/target/staticlib/libeditor.a" "$copy/other.a"
+    cp "$copy/target/staticlib/libeditor_c.a" "$copy/other.a"
     expect 0 "ran compare 1 5" "compare: compiling compare" "gcc *other.a>" compare/run.sh other.a compare 1 5
     expect 0 "ran bench 1" "compare: GLPK is not measured: bash compare/glpk.sh fetches it*" "gcc *bench.c>*" ./mishtodran bench
     mkdir -p "$copy/target/glpk/usr/lib/x86_64-linux-gnu" && touch "$copy/target/glpk/usr/lib/x86_64-linux-gnu/libglpk.a"
@@ -374,7 +374,7 @@ texts() {
     echo 0 >"$room/ends"
     rm -rf "$copy/target"
     expect 0 $'ran rows for table.py\n<--text><examples/sample.table>' "*built the library in*mishtodran: compiling rows" \
-        "*rt staticlib editor"$'\n'"$built" ./mishtodran text examples/sample.table
+        "*rt lib editor_c"$'\n'"$built" ./mishtodran text examples/sample.table
     expect 0 $'ran rows for table.py\n<--text>' "" "" ./mishtodran text
     expect 0 $'ran rows for table.py\n<examples/sample.txt><new>' "" "" ./mishtodran table examples/sample.txt new
     echo "# more" >>"$copy/examples/sample.txt"
@@ -382,7 +382,7 @@ texts() {
     echo >>"$copy/examples/rows.c"
     expect 0 "*" "mishtodran: compiling rows" "$built" ./mishtodran text
     echo more >"$copy/crates/search/src/lib.rt"
-    expect 0 "*" "*built the library in*mishtodran: compiling rows" "*rt staticlib editor"$'\n'"$built" ./mishtodran table examples/sample.txt new
+    expect 0 "*" "*built the library in*mishtodran: compiling rows" "*rt lib editor_c"$'\n'"$built" ./mishtodran table examples/sample.txt new
     cp "$copy/examples/sample.txt" "$copy/-x"
     cp "$copy/examples/sample.txt" "$copy/--text"
     expect 0 $'ran rows for table.py\n<./-x><./--text>' "" "" ./mishtodran table -x --text
@@ -427,14 +427,14 @@ machine_x86_64() {
 
 machine_aarch64() {
     local missing="there is no emulator of x86-64 here: install Debian's package qemu-user"
-    local kit=$room/kit/on/aarch64/toolchain/bin
     machine aarch64
     linked "x86_64-linux-gnu-gcc <-static>"
+    emulator "$tools/qemu-x86_64"
     rm -rf "$copy/target"
-    expect 0 "ran compare 1 5" "*" "*x86_64-linux-gnu-gcc *kit/on/aarch64/toolchain/bin/qemu-x86_64 compare" ./mishtodran compare 5
-    expect 0 "a report" "*" "*kit/on/aarch64/toolchain/bin/qemu-x86_64 ld-linux-x86-64.so.2" ./mishtodran report
-    expect 0 "ran rows for table.py*" "*" "*x86_64-linux-gnu-gcc *kit/on/aarch64/toolchain/bin/qemu-x86_64 rows" ./mishtodran text
-    rm -rf "$copy/target" "$kit/qemu-x86_64"
+    expect 0 "ran compare 1 5" "*" "*x86_64-linux-gnu-gcc *tools/qemu-x86_64 compare" ./mishtodran compare 5
+    expect 0 "a report" "*" "*tools/qemu-x86_64 ld-linux-x86-64.so.2" ./mishtodran report
+    expect 0 "ran rows for table.py*" "*" "*x86_64-linux-gnu-gcc *tools/qemu-x86_64 rows" ./mishtodran text
+    rm -rf "$copy/target" "$tools/qemu-x86_64"
     expect 2 "" "mishtodran: $missing" "" ./mishtodran report
     expect 2 "" "mishtodran: $missing" "" ./mishtodran text
     expect 2 "" "mishtodran: $missing" "" ./mishtodran compare 5
@@ -507,9 +507,6 @@ gate() {
         expect 1 "*" "*gate: *" "*" .ci/run
     done
     stand_in "$tools/python3" <<<':'
-    touch "$room/unformatted"
-    expect 1 "*" "*gate: some files are not in rt's layout" "*" .ci/run
-    rm "$room/unformatted"
     for one in "${samples[@]}"; do
         echo >>"$copy/$one"
         expect 1 "*" "*gate: $one is not examples/sample.table" "*" .ci/run
@@ -520,6 +517,11 @@ gate() {
     expect 2 "*" "*gate: the library was not built" "*" .ci/run
     rm "$room/makes_nothing"
     expect 0 "*"$'\n'"2 passed, 0 failed" "*" "*rt ci*" .ci/run
+    expect 0 "a report" "" "" ./mishtodran report
+    printf '%s\n' "rt: ok; must-fail edits: 3 refused, 1 of them only by a limit; all in this run" "5 passed, 0 failed" >"$room/verdict"
+    expect 0 "*"$'\n'"5 passed, 0 failed" "*" "*rt ci*" .ci/run
+    printf '%s\n' "rt: ok; must-fail edits: 3 refused, 2 bad; all in this run" "5 passed, 0 failed" >"$room/verdict"
+    expect 1 "*5 passed, 2 failed" "*gate: rt ci could not try 2 of the must-fail edits*" "*rt ci" .ci/run
     for one in "0 passed, 0 failed" "2 passed, 1 failed" "passed"; do
         echo "$one" >"$room/verdict"
         expect 1 "*$one" "*gate: rt ci did not pass (exit status 0)*" "*rt ci" .ci/run

@@ -2,7 +2,7 @@
 # Holds the header against the library, runs the cases of tests/entries.bin through the C entries, and tries the example
 # editor and the example merge on copies of the sample table.
 # Usage: tests/run_c.sh LIBRARY [INCLUDE]
-# LIBRARY is an x86-64 archive with the entries of mishtodran.h (target/staticlib/libeditor.a), INCLUDE the header's folder.
+# LIBRARY is an x86-64 archive with the entries of mishtodran.h (target/mishtodran/libmishtodran.a), INCLUDE the header's folder.
 set -u
 name=run_c
 # shellcheck source=scripts/shell.sh

@@ -49,8 +49,7 @@ fn put_figures(answer: &mut [u8], figures: &[u32])
 }
 
 // A chain's K, latency, late and margin.
-#[unsafe(no_mangle)]
-pub extern "C" fn mishtodran_latency(table: &[u8], id: u32, answer: &mut [u8]) -> u32
+pub fn mishtodran_latency(table: &[u8], id: u32, answer: &mut [u8]) -> u32
     ensures { LatencyEntry table.now id answer.old answer.new result }
 {
     if answer.len() < 16 {
@@ -87,8 +86,7 @@ fn put_missed(missed: misses::Answer, answer: &mut [u8]) -> u32
 }
 
 // How many deadlines a chain misses in a run of k activations.
-#[unsafe(no_mangle)]
-pub extern "C" fn mishtodran_misses(table: &[u8], id: u32, k: u32, answer: &mut [u8]) -> u32
+pub fn mishtodran_misses(table: &[u8], id: u32, k: u32, answer: &mut [u8]) -> u32
     ensures { MissesEntry table.now id k answer.old answer.new result }
 {
     if answer.len() < 4 {
@@ -98,8 +96,7 @@ pub extern "C" fn mishtodran_misses(table: &[u8], id: u32, k: u32, answer: &mut 
 }
 
 // The same by the plain engine, which goes through every packing and may take very long.
-#[unsafe(no_mangle)]
-pub extern "C" fn mishtodran_misses_plain(table: &[u8], id: u32, k: u32, answer: &mut [u8]) -> u32
+pub fn mishtodran_misses_plain(table: &[u8], id: u32, k: u32, answer: &mut [u8]) -> u32
     ensures { PlainEntry table.now id k answer.old answer.new result }
 {
     if answer.len() < 4 {
@@ -109,8 +106,7 @@ pub extern "C" fn mishtodran_misses_plain(table: &[u8], id: u32, k: u32, answer:
 }
 
 // A number that the misses do not exceed, by the sieve.
-#[unsafe(no_mangle)]
-pub extern "C" fn mishtodran_misses_at_most(table: &[u8], id: u32, k: u32, answer: &mut [u8]) -> u32
+pub fn mishtodran_misses_at_most(table: &[u8], id: u32, k: u32, answer: &mut [u8]) -> u32
     ensures { AtMostEntry table.now id k answer.old answer.new result }
 {
     if answer.len() < 4 {
@@ -127,8 +123,7 @@ pub extern "C" fn mishtodran_misses_at_most(table: &[u8], id: u32, k: u32, answe
 }
 
 // Where the active segment of that number stands, of a chain against another: offset and length.
-#[unsafe(no_mangle)]
-pub extern "C" fn mishtodran_segment(
+pub fn mishtodran_segment(
     table: &[u8],
     id: u32,
     against: u32,
@@ -151,8 +146,7 @@ pub extern "C" fn mishtodran_segment(
 }
 
 // Replaces one record in the table that is the first `used` bytes of the buffer: the new used length.
-#[unsafe(no_mangle)]
-pub extern "C" fn mishtodran_save(
+pub fn mishtodran_save(
     buffer: &mut [u8],
     used: u64,
     old_record: &[u8],
@@ -176,8 +170,7 @@ pub extern "C" fn mishtodran_save(
 
 // What the reader says of a table: the number and the place of its first fault, 0 and 0 where it is accepted. That is an answer,
 // so a refused table does not refuse the call.
-#[unsafe(no_mangle)]
-pub extern "C" fn mishtodran_check(table: &[u8], answer: &mut [u8]) -> u32
+pub fn mishtodran_check(table: &[u8], answer: &mut [u8]) -> u32
     ensures { CheckEntry table.now answer.old answer.new result }
 {
     if answer.len() < 8 {
@@ -220,8 +213,7 @@ fn as_single(merged: Merged) -> Single
 }
 
 // Merges two edited copies of a table, given their common ancestor, into a buffer: the length of the result.
-#[unsafe(no_mangle)]
-pub extern "C" fn mishtodran_merge<'a>(
+pub fn mishtodran_merge<'a>(
     ancestor: &[u8],
     first: &'a [u8],
     second: &'a [u8],
@@ -244,8 +236,7 @@ pub extern "C" fn mishtodran_merge<'a>(
 }
 
 // The smallest id greater than `above` that is in conflict there, 0 if there is none.
-#[unsafe(no_mangle)]
-pub extern "C" fn mishtodran_conflict(
+pub fn mishtodran_conflict(
     ancestor: &[u8],
     first: &[u8],
     second: &[u8],
@@ -283,8 +274,7 @@ fn put_filled(filled: Filled, answer: &mut [u8]) -> u32
 }
 
 // Reads a table into rows: how many chains there are.
-#[unsafe(no_mangle)]
-pub extern "C" fn mishtodran_read(table: &[u8], rows: &mut [Row], answer: &mut [u8]) -> u32
+pub fn mishtodran_read(table: &[u8], rows: &mut [Row], answer: &mut [u8]) -> u32
     ensures { ReadEntry table.now rows.old answer.old rows.new answer.new result }
 {
     if answer.len() < 4 {
@@ -309,8 +299,7 @@ fn put_written(written: Written, answer: &mut [u8]) -> u32
 }
 
 // Writes the table of the rows into a buffer: its length.
-#[unsafe(no_mangle)]
-pub extern "C" fn mishtodran_write(rows: &[Row], buffer: &mut [u8], answer: &mut [u8]) -> u32
+pub fn mishtodran_write(rows: &[Row], buffer: &mut [u8], answer: &mut [u8]) -> u32
     ensures { WriteEntry rows.now buffer.old answer.old buffer.new answer.new result }
 {
     if answer.len() < 4 {
@@ -320,8 +309,7 @@ pub extern "C" fn mishtodran_write(rows: &[Row], buffer: &mut [u8], answer: &mut
 }
 
 // Where the record of a chain stands: offset and length.
-#[unsafe(no_mangle)]
-pub extern "C" fn mishtodran_record(table: &[u8], id: u32, answer: &mut [u8]) -> u32
+pub fn mishtodran_record(table: &[u8], id: u32, answer: &mut [u8]) -> u32
     ensures { RecordEntry table.now id answer.old answer.new result }
 {
     if answer.len() < 8 {
@@ -338,8 +326,7 @@ pub extern "C" fn mishtodran_record(table: &[u8], id: u32, answer: &mut [u8]) ->
 }
 
 // Writes the table with largest distances in the place of gaps into a buffer: its length.
-#[unsafe(no_mangle)]
-pub extern "C" fn mishtodran_to_largest(table: &[u8], buffer: &mut [u8], answer: &mut [u8]) -> u32
+pub fn mishtodran_to_largest(table: &[u8], buffer: &mut [u8], answer: &mut [u8]) -> u32
     ensures { ConvertEntry Largest table.now buffer.old answer.old buffer.new answer.new result }
 {
     if answer.len() < 4 {
@@ -349,8 +336,7 @@ pub extern "C" fn mishtodran_to_largest(table: &[u8], buffer: &mut [u8], answer:
 }
 
 // Writes the table with gaps in the place of largest distances into a buffer: its length.
-#[unsafe(no_mangle)]
-pub extern "C" fn mishtodran_to_gap(table: &[u8], buffer: &mut [u8], answer: &mut [u8]) -> u32
+pub fn mishtodran_to_gap(table: &[u8], buffer: &mut [u8], answer: &mut [u8]) -> u32
     ensures { ConvertEntry Gap table.now buffer.old answer.old buffer.new answer.new result }
 {
     if answer.len() < 4 {
@@ -360,8 +346,7 @@ pub extern "C" fn mishtodran_to_gap(table: &[u8], buffer: &mut [u8], answer: &mu
 }
 
 // Salvages what is left of a damaged table: the new table and the list of what was skipped, each into a buffer, and their lengths.
-#[unsafe(no_mangle)]
-pub extern "C" fn mishtodran_salvage(
+pub fn mishtodran_salvage(
     input: &[u8],
     table: &mut [u8],
     list: &mut [u8],
@@ -384,8 +369,7 @@ pub extern "C" fn mishtodran_salvage(
 
 // The report's text at the start of a text buffer, and its length. It is made in a place of its own first, so that a text that does
 // not fit leaves the buffer as it was.
-#[unsafe(no_mangle)]
-pub extern "C" fn mishtodran_report(table: &[u8], text: &mut [u8], answer: &mut [u8]) -> u32
+pub fn mishtodran_report(table: &[u8], text: &mut [u8], answer: &mut [u8]) -> u32
     ensures { ReportEntry table.now text.old answer.old text.new answer.new result }
 {
     if answer.len() < 4 {
@@ -403,8 +387,7 @@ pub extern "C" fn mishtodran_report(table: &[u8], text: &mut [u8], answer: &mut 
 }
 
 // The version of the entries, which an editor holds against its header's.
-#[unsafe(no_mangle)]
-pub extern "C" fn mishtodran_version() -> u32
+pub fn mishtodran_version() -> u32
     ensures { result ≡ version }
 {
     VERSION
