@@ -1,9 +1,10 @@
-// Packed cases with known answers, as a program reads them from standard input, and what it says of them.
+// What the test programs share: packed cases with known answers, as a program reads them from standard input, and what it says of
+// them. What could not be written is not told.
 #![tactic(auto)]
 
 ghost use Rattle.std.specs.Prelude.{◌≡◌, ◌≤◌, length, take};
 
-use input::read_full;
+pub use input::read_full;
 use std::io::Read;
 
 // More cases than a program is ever given: with a bound, its loop is known to end.
@@ -47,18 +48,18 @@ pub fn scribbled() -> [u8; 65536]
     bytes
 }
 
-// Text and a number after it.
-pub fn say(out: &impl Print, text: &[u8], n: u64) {
-    let _ = out.write_all(text).is_ok() && out.print(n).is_ok();
-}
-
-pub fn say_text(out: &impl Print, text: &[u8]) {
+pub fn say(out: &impl Print, text: &[u8]) {
     let _ = out.write_all(text);
 }
 
+// Text and a number after it.
+pub fn say_number(out: &impl Print, text: &[u8], n: u64) {
+    let _ = out.write_all(text).is_ok() && out.print(n).is_ok();
+}
+
 fn say_wrong(out: &impl Print, case: u64) {
-    say(out, b"not as expected: case ", case);
-    say_text(out, b"\n");
+    say_number(out, b"not as expected: case ", case);
+    say(out, b"\n");
 }
 
 // How many more cases are right with this one, which is named where it is not.
@@ -76,7 +77,7 @@ pub fn told(out: &impl Print, case: u64, outcome: Outcome) -> u64
 }
 
 pub fn say_counts(out: &impl Print, cases: u64, right: u64) {
-    say(out, b"", cases);
-    say(out, b" cases, ", right);
-    say_text(out, b" as expected\n");
+    say_number(out, b"", cases);
+    say_number(out, b" cases, ", right);
+    say(out, b" as expected\n");
 }
