@@ -102,6 +102,15 @@ fn take_named(rt: &impl Files, err: &impl Print, name: &[u8], buffer: &mut [u8])
     }
 }
 
+// Whether the program was given this argument.
+pub fn has_argument(rt: &impl Env, argument: usize) -> bool {
+    let mut word = [0u8; 1];
+    match rt.arg(argument, &mut word) {
+        Ok(_) | Err(FillError::TooLong) => true,
+        Err(FillError::NotPresent) => false,
+    }
+}
+
 // What the file holds that this argument names. Where it cannot be read, that is said, and of an argument that is not there, which one.
 pub fn take_file<R: Env + Files>(
     rt: &R,
