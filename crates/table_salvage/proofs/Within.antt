@@ -1,0 +1,38 @@
+-- What an accepted salvage has used is within its buffers, and the table in it is accepted. Assumes nothing.
+use Prim.Native.Nat.{ℕ, ◌≤◌}
+use native.Mathlib.Omega.{arith}
+use mathlib.Core.Path.{◌≡◌, sym, ap, ◌∙◌}
+use mathlib.Core.List.{List, ◌++◌}
+use lib.ListN.{length, take, drop, length-append}
+use lib.Seq.{take_at}
+use borrow.Author.Tests.{eq-eqb}
+use Rattle.search.proofs.Choice.{when_yes}
+use Rattle.table.specs.Bytes.{Bytes}
+use Rattle.table.specs.Code.Taken.{Taken}
+use Rattle.table.proofs.Accepted.{taken}
+use Rattle.salvaging.specs.Salvage.{table_kept, list_skipped, number_of, buffer_after, Salvages}
+use Rattle.salvaging.specs.declared.Salvaged.{Salvaged}
+use Rattle.salvaging.specs.declared.Salvaged.TheVariants.{Used}
+use Rattle.salvaging.proofs.Results.{kept-bytes, kept-accepted}
+use Rattle.salvaging.proofs.Answers.{Made, made}
+
+module _ {s table list tableAfter listAfter : List ℕ} {answer : Salvaged} (salvages : Salvages s table list answer tableAfter listAfter) (n m : ℕ) (e : answer ≡ Used n m) where
+  uses : Made s n m
+  uses = made salvages e
+
+  -- each buffer holds its result
+  left : (result buffer : List ℕ) → buffer_after answer result buffer ≡ result ++ drop (length result) buffer
+  left result buffer = when_yes _ _ (eq-eqb (number_of answer) 0 (ap number_of e))
+
+  pub table-within : n ≤ length tableAfter
+  table-within = let t = table_kept s in omega (arith, uses.table_long, ap length (salvages.leaves_table ∙ left t table), length-append t (drop (length t) table))
+
+  pub list-within : m ≤ length listAfter
+  list-within = let l = list_skipped s in omega (arith, uses.list_long, ap length (salvages.leaves_list ∙ left l list), length-append l (drop (length l) list))
+
+  -- the table is accepted, so its chains can be read
+  pub table_taken : Bytes s → Taken (take n tableAfter)
+  table_taken bytes =
+      let t = table_kept s in
+      rw (salvages.leaves_table ∙ left t table, take_at t (drop (length t) table) n (sym uses.table_long))
+      (taken t (kept-bytes s bytes) (kept-accepted s bytes uses.some))
