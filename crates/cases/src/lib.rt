@@ -37,6 +37,11 @@ pub fn filled(from: &mut impl Read, buffer: &mut [u8], n: usize) -> usize
     read_full(from, &mut buffer[..n])
 }
 
+// Whether the bytes are the same.
+pub fn same(a: &[u8], b: &[u8]) -> bool {
+    a == b
+}
+
 // Bytes that are not 0 and differ from those near them, so that each that is written or moved is seen.
 pub fn scribbled() -> [u8; 65536]
     ensures { 65536 ≡ length result }
