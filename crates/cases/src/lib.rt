@@ -1,10 +1,11 @@
-// Packed cases with known answers, as a program reads them from standard input, and what it says of them.
+// What the test programs share: packed cases with known answers, as a program reads them from standard input, and what it says of
+// them. What could not be written is not told.
 #![tactic(auto)]
 
-ghost use Rattle.std.specs.Prelude.{◌≡◌, ◌≤◌, length};
-ghost use Rattle.io.specs.Counts.{IsPrefixLen};
+ghost use Rattle.std.specs.Prelude.{◌≡◌, ◌≤◌, length, take};
 
-use libc::{STDIN_FILENO, STDOUT_FILENO};
+pub use input::read_full;
+use std::io::Read;
 
 // More cases than a program is ever given: with a bound, its loop is known to end.
 pub const MOST: u64 = 1_000_000;
@@ -26,13 +27,19 @@ pub fn went(is_right: bool) -> Outcome {
 }
 
 // Reads n bytes to the start of the buffer, and answers how many it put there: fewer where they do not fit or the input ends.
-pub fn filled(buffer: &mut [u8], n: usize) -> usize
-    ensures { IsPrefixLen result buffer.new }
+pub fn filled(from: &mut impl Read, buffer: &mut [u8], n: usize) -> usize
+    ensures bound { result ≤ length buffer.new }
+    ensures whole { result ≡ length (take result buffer.new) }
 {
     if buffer.len() < n {
         return 0;
     }
-    io::read_full(STDIN_FILENO, &mut buffer[..n])
+    read_full(from, &mut buffer[..n])
+}
+
+// Whether the bytes are the same.
+pub fn same(a: &[u8], b: &[u8]) -> bool {
+    a == b
 }
 
 // Bytes that are not 0 and differ from those near them, so that each that is written or moved is seen.
@@ -40,37 +47,42 @@ pub fn scribbled() -> [u8; 65536]
     ensures { 65536 ≡ length result }
 {
     let mut bytes = [0u8; 65536];
-    let mut i: usize = 0;
-    while i < 65536 {
+    for i in 0..65536 {
         bytes[i] = (i % 251 + 1) as u8;
-        i += 1;
     }
     bytes
 }
 
-fn say_wrong(case: u64) {
-    io::write_all(STDOUT_FILENO, b"not as expected: case ");
-    io::print_decimal(STDOUT_FILENO, case);
-    io::write_all(STDOUT_FILENO, b"\n");
+pub fn say(out: &impl Print, text: &[u8]) {
+    let _ = out.write_all(text);
+}
+
+// Text and a number after it.
+pub fn say_number(out: &impl Print, text: &[u8], n: u64) {
+    let _ = out.write_all(text).is_ok() && out.print(n).is_ok();
+}
+
+fn say_wrong(out: &impl Print, case: u64) {
+    say_number(out, b"not as expected: case ", case);
+    say(out, b"\n");
 }
 
 // How many more cases are right with this one, which is named where it is not.
-pub fn told(case: u64, outcome: Outcome) -> u64
+pub fn told(out: &impl Print, case: u64, outcome: Outcome) -> u64
     ensures { result ≤ 1 }
 {
     match outcome {
         Outcome::End => 0,
         Outcome::Right => 1,
         Outcome::Wrong => {
-            say_wrong(case);
+            say_wrong(out, case);
             0
         }
     }
 }
 
-pub fn say_counts(cases: u64, right: u64) {
-    io::print_decimal(STDOUT_FILENO, cases);
-    io::write_all(STDOUT_FILENO, b" cases, ");
-    io::print_decimal(STDOUT_FILENO, right);
-    io::write_all(STDOUT_FILENO, b" as expected\n");
+pub fn say_counts(out: &impl Print, cases: u64, right: u64) {
+    say_number(out, b"", cases);
+    say_number(out, b" cases, ", right);
+    say(out, b" as expected\n");
 }

@@ -2,8 +2,8 @@
 // case that is not as expected and a last line with the counts.
 #![tactic(auto)]
 
-use cases::{MOST, Outcome, filled, say_counts, scribbled, told, went};
-use libc::STDIN_FILENO;
+use cases::{MOST, Outcome, filled, read_full, same, say_counts, scribbled, told, went};
+use std::io::Read;
 use writing::Written;
 
 // What a case expects: the refusal number, 0 for none, and the used length.
@@ -38,20 +38,20 @@ fn leaves_as_expected(
     after: &[u8],
 ) -> bool {
     let written = convert(asked, s, buffer);
-    answers(written, expected) && check::same(buffer, after)
+    answers(written, expected) && same(buffer, after)
 }
 
 // Reads what is expected of the conversion, and looks whether it is so. The result stands before the bytes that stay.
-fn as_expected(asked: u8, s: &[u8]) -> bool {
+fn as_expected(from: &mut impl Read, asked: u8, s: &[u8]) -> bool {
     let mut head = [0u8; 8];
-    if io::read_full(STDIN_FILENO, &mut head) < 8 {
+    if read_full(from, &mut head) < 8 {
         return false;
     }
     let room = table::u16_at(&head, 0) as usize;
     let number = table::u32_at(&head, 2);
     let used = table::u16_at(&head, 6) as usize;
     let mut after = scribbled();
-    if filled(&mut after, used) < used {
+    if filled(from, &mut after, used) < used {
         return false;
     }
     let length = used as u32;
@@ -66,27 +66,29 @@ fn as_expected(asked: u8, s: &[u8]) -> bool {
 }
 
 // Reads the form asked and the table of a case, and then the rest of it.
-fn case() -> Outcome {
+fn case(from: &mut impl Read) -> Outcome {
     let mut head = [0u8; 3];
-    if io::read_full(STDIN_FILENO, &mut head) < 3 {
+    if read_full(from, &mut head) < 3 {
         return Outcome::End;
     }
-    let mut table = io::large_buffer();
-    let n = filled(&mut table, table::u16_at(&head, 1) as usize);
-    went(as_expected(head[0], &table[..n]))
+    let mut table = [0u8; 65536];
+    let n = filled(from, &mut table, table::u16_at(&head, 1) as usize);
+    went(as_expected(from, head[0], &table[..n]))
 }
 
 // The cases count from 1.
-fn main() {
+fn main(rt: HostRuntime) {
+    let out = &rt.stdout();
+    let mut from = rt.stdin();
     let mut cases: u64 = 0;
     let mut right: u64 = 0;
     while cases < MOST {
-        let outcome = case();
+        let outcome = case(&mut from);
         if let Outcome::End = outcome {
             break;
         }
         cases += 1;
-        right += told(cases, outcome);
+        right += told(out, cases, outcome);
     }
-    say_counts(cases, right);
+    say_counts(out, cases, right);
 }

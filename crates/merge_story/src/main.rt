@@ -3,7 +3,7 @@
 // instead: both edits are there.
 #![tactic(auto)]
 
-use libc::{STDIN_FILENO, STDOUT_FILENO};
+use cases::{read_full, say, say_number};
 use merging::{Found, Merged};
 
 // A copy with another deadline of chain 1, another cost of its first task, or of chain 2's, each below 256: the first byte of
@@ -23,60 +23,53 @@ fn with_cost_of_2(mut copy: [u8; 140], cost: u8) -> [u8; 140] {
     copy
 }
 
-fn say(label: &[u8], n: u32) {
-    io::write_all(STDOUT_FILENO, label);
-    io::print_decimal(STDOUT_FILENO, n as u64);
-}
-
 // Prints these three fields of a table.
-fn tell(table: [u8; 140]) {
-    say(b"chain 1: deadline ", table::u32_at(&table, 6));
-    say(b", cost ", table::u32_at(&table, 24));
-    say(b"; chain 2: cost ", table::u32_at(&table, 60));
-    io::write_all(STDOUT_FILENO, b"\n");
+fn tell(out: &impl Print, table: [u8; 140]) {
+    say_number(out, b"chain 1: deadline ", table::u32_at(&table, 6) as u64);
+    say_number(out, b", cost ", table::u32_at(&table, 24) as u64);
+    say_number(out, b"; chain 2: cost ", table::u32_at(&table, 60) as u64);
+    say(out, b"\n");
 }
 
 // Prints the used length, or `r` and the refusal number.
-fn tell_merged(merged: Merged) {
+fn tell_merged(out: &impl Print, merged: Merged) {
     match merged {
-        Merged::Used(n) => say(b"", n),
-        Merged::Ancestor(number, _) => say(b"r", number),
-        Merged::First(number, _) => say(b"r", number),
-        Merged::Second(number, _) => say(b"r", number),
-        Merged::Conflict(_) => say(b"r", 32),
-        Merged::NoRoom => say(b"r", 24),
-        Merged::Result(number, _) => say(b"r", number),
+        Merged::Used(n) => say_number(out, b"", n as u64),
+        Merged::Ancestor(number, _) => say_number(out, b"r", number as u64),
+        Merged::First(number, _) => say_number(out, b"r", number as u64),
+        Merged::Second(number, _) => say_number(out, b"r", number as u64),
+        Merged::Conflict(_) => say_number(out, b"r", 32),
+        Merged::NoRoom => say_number(out, b"r", 24),
+        Merged::Result(number, _) => say_number(out, b"r", number as u64),
     }
-    io::write_all(STDOUT_FILENO, b"\n");
+    say(out, b"\n");
 }
 
 // Prints the chain in conflict, 0 if there is none, or `r` and the refusal number.
-fn tell_found(found: Found) {
+fn tell_found(out: &impl Print, found: Found) {
     match found {
-        Found::Id(id) => say(b"in conflict: chain ", id),
-        Found::Refused(number) => say(b"in conflict: r", number),
+        Found::Id(id) => say_number(out, b"in conflict: chain ", id as u64),
+        Found::Refused(number) => say_number(out, b"in conflict: r", number as u64),
     }
-    io::write_all(STDOUT_FILENO, b"\n");
+    say(out, b"\n");
 }
 
-fn main() {
+fn main(rt: HostRuntime) {
+    let out = &rt.stdout();
     let mut sample = [0u8; 140];
-    io::read_full(STDIN_FILENO, &mut sample);
-    tell(sample);
-    io::write_all(
-        STDOUT_FILENO,
+    read_full(&mut rt.stdin(), &mut sample);
+    tell(out, sample);
+    say(
+        out,
         b"the first tightens chain 1 to deadline 30, the second raises its cost to 12: ",
     );
     let first = with_deadline_of_1(sample, 30);
     let second = with_cost_of_1(sample, 12);
     let mut result = [0u8; 140];
-    tell_merged(merging::merge(&sample, &first, &second, &mut result));
-    tell_found(merging::conflict(&sample, &first, &second, 0));
-    io::write_all(
-        STDOUT_FILENO,
-        b"the second raises the cost of chain 2 to 7 instead: ",
-    );
+    tell_merged(out, merging::merge(&sample, &first, &second, &mut result));
+    tell_found(out, merging::conflict(&sample, &first, &second, 0));
+    say(out, b"the second raises the cost of chain 2 to 7 instead: ");
     let instead = with_cost_of_2(sample, 7);
-    tell_merged(merging::merge(&sample, &first, &instead, &mut result));
-    tell(result);
+    tell_merged(out, merging::merge(&sample, &first, &instead, &mut result));
+    tell(out, result);
 }

@@ -3,11 +3,11 @@
 // the next one is read from its start; where the input ends within a case, its last part is missing, and it is not as expected.
 #![tactic(auto)]
 
-ghost use Rattle.io.specs.Counts.{IsPrefixLen};
+ghost use Rattle.std.specs.Prelude.{◌≡◌, ◌≤◌, length, take};
 
-use cases::{MOST, Outcome, filled, say_counts, scribbled, told, went};
-use libc::STDIN_FILENO;
+use cases::{MOST, Outcome, filled, read_full, same, say_counts, scribbled, told, went};
 use merging::{Found, Merged};
+use std::io::Read;
 
 // What a case expects: the refusal number, 0 for none, and its detail.
 #[derive(Clone, Copy)]
@@ -17,12 +17,13 @@ struct Expected {
 }
 
 // Reads a byte string, its length first, to the start of the buffer, and answers how many bytes it put there.
-fn next_bytes(buffer: &mut [u8]) -> usize
-    ensures { IsPrefixLen result buffer.new }
+fn next_bytes(from: &mut impl Read, buffer: &mut [u8]) -> usize
+    ensures bound { result ≤ length buffer.new }
+    ensures whole { result ≡ length (take result buffer.new) }
 {
     let mut length = [0u8; 2];
-    io::read_full(STDIN_FILENO, &mut length);
-    filled(buffer, table::u16_at(&length, 0) as usize)
+    read_full(from, &mut length);
+    filled(from, buffer, table::u16_at(&length, 0) as usize)
 }
 
 // ---- The merge ----
@@ -84,13 +85,18 @@ fn stands(record: &[u8], copy: &[u8], at: usize, n: usize) -> bool {
         return false;
     }
     let end = at + n;
-    check::same(record, &copy[at..end])
+    same(record, &copy[at..end])
 }
 
 // Reads the id of a record taken, and where it stands, and looks whether it is what the merge chooses.
-fn record_as_expected<'a>(ancestor: &[u8], first: &'a [u8], second: &'a [u8]) -> bool {
+fn record_as_expected<'a>(
+    from: &mut impl Read,
+    ancestor: &[u8],
+    first: &'a [u8],
+    second: &'a [u8],
+) -> bool {
     let mut taken = [0u8; 7];
-    if io::read_full(STDIN_FILENO, &mut taken) < 7 {
+    if read_full(from, &mut taken) < 7 {
         return false;
     }
     let id = table::u16_at(&taken, 0) as u32;
@@ -105,13 +111,16 @@ fn record_as_expected<'a>(ancestor: &[u8], first: &'a [u8], second: &'a [u8]) ->
 }
 
 // Reads how many records are taken, and looks whether each is as expected.
-fn records_as_expected<'a>(ancestor: &[u8], first: &'a [u8], second: &'a [u8]) -> bool {
+fn records_as_expected<'a>(
+    from: &mut impl Read,
+    ancestor: &[u8],
+    first: &'a [u8],
+    second: &'a [u8],
+) -> bool {
     let mut count = [0u8; 1];
-    let mut are_right = io::read_full(STDIN_FILENO, &mut count) == 1;
-    let mut left = count[0];
-    while 0 < left {
-        are_right = record_as_expected(ancestor, first, second) && are_right;
-        left -= 1;
+    let mut are_right = read_full(from, &mut count) == 1;
+    for _ in 0..count[0] {
+        are_right = record_as_expected(from, ancestor, first, second) && are_right;
     }
     are_right
 }
@@ -129,11 +138,12 @@ fn merge_as_expected<'a>(
 ) -> bool {
     let merged = merging::merge(ancestor, first, second, buffer);
     let found = merging::conflict(ancestor, first, second, 0);
-    answers(merged, expected) && check::same(buffer, after) && agrees(found, merged)
+    answers(merged, expected) && same(buffer, after) && agrees(found, merged)
 }
 
 // Reads the result, which is to stand before the bytes that stay in a buffer with this much room, and merges.
 fn result_as_expected<'a>(
+    from: &mut impl Read,
     ancestor: &[u8],
     first: &'a [u8],
     second: &'a [u8],
@@ -142,7 +152,7 @@ fn result_as_expected<'a>(
 ) -> bool {
     let mut buffer = scribbled();
     let mut after = scribbled();
-    next_bytes(&mut after);
+    next_bytes(from, &mut after);
     let n = room as usize;
     merge_as_expected(
         ancestor,
@@ -155,43 +165,50 @@ fn result_as_expected<'a>(
 }
 
 // Reads what is expected of the three tables, and looks whether it is so.
-fn as_expected<'a>(ancestor: &[u8], first: &'a [u8], second: &'a [u8]) -> bool {
+fn as_expected<'a>(
+    from: &mut impl Read,
+    ancestor: &[u8],
+    first: &'a [u8],
+    second: &'a [u8],
+) -> bool {
     let mut head = [0u8; 10];
-    io::read_full(STDIN_FILENO, &mut head);
+    read_full(from, &mut head);
     let room = table::u16_at(&head, 0);
     let number = table::u32_at(&head, 2);
     let detail = table::u32_at(&head, 6);
     let expected = Expected { number, detail };
-    let is_merged = result_as_expected(ancestor, first, second, room, expected);
-    records_as_expected(ancestor, first, second) && is_merged
+    let is_merged = result_as_expected(from, ancestor, first, second, room, expected);
+    records_as_expected(from, ancestor, first, second) && is_merged
 }
 
 // Reads the tables of a case, and then the rest of it. A length of two bytes has room in each buffer.
-fn case() -> Outcome {
+fn case(from: &mut impl Read) -> Outcome {
     let mut length = [0u8; 2];
-    if io::read_full(STDIN_FILENO, &mut length) < 2 {
+    if read_full(from, &mut length) < 2 {
         return Outcome::End;
     }
-    let mut ancestor = io::large_buffer();
-    let mut first = io::large_buffer();
-    let mut second = io::large_buffer();
-    let a = filled(&mut ancestor, table::u16_at(&length, 0) as usize);
-    let f = next_bytes(&mut first);
-    let s = next_bytes(&mut second);
-    went(as_expected(&ancestor[..a], &first[..f], &second[..s]))
+    let mut ancestor = [0u8; 65536];
+    let mut first = [0u8; 65536];
+    let mut second = [0u8; 65536];
+    let a = filled(from, &mut ancestor, table::u16_at(&length, 0) as usize);
+    let f = next_bytes(from, &mut first);
+    let s = next_bytes(from, &mut second);
+    went(as_expected(from, &ancestor[..a], &first[..f], &second[..s]))
 }
 
 // The cases count from 1.
-fn main() {
+fn main(rt: HostRuntime) {
+    let out = &rt.stdout();
+    let mut from = rt.stdin();
     let mut cases: u64 = 0;
     let mut right: u64 = 0;
     while cases < MOST {
-        let outcome = case();
+        let outcome = case(&mut from);
         if let Outcome::End = outcome {
             break;
         }
         cases += 1;
-        right += told(cases, outcome);
+        right += told(out, cases, outcome);
     }
-    say_counts(cases, right);
+    say_counts(out, cases, right);
 }

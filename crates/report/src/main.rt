@@ -2,28 +2,25 @@
 #![tactic(auto)]
 
 use input::{Input, take_in};
-use libc::{STDERR_FILENO, STDIN_FILENO, STDOUT_FILENO};
 use report_text::LONGEST;
 use table::Table;
 
-fn print_report(stored: &[u8]) {
+fn print_report(out: &impl Print, err: &impl Print, stored: &[u8]) {
     let mut text = [0u8; LONGEST];
     let n = report_text::report(stored, &mut text);
-    if !io::write_all(STDOUT_FILENO, &text[..n]) {
-        io::write_all(
-            STDERR_FILENO,
-            b"report: standard output could not be written\n",
-        );
+    if out.write_all(&text[..n]).is_err() {
+        let _ = err.write_all(b"report: standard output could not be written\n");
     }
 }
 
 // One byte more than the longest table has room, so that a longer one is seen to be too long.
-fn main() {
+fn main(rt: HostRuntime) {
     let mut buffer = [0u8; Table::BYTES + 1];
-    match take_in(STDIN_FILENO, &mut buffer) {
-        Input::Bytes(n) => print_report(&buffer[..n]),
+    let err = rt.stderr();
+    match take_in(&mut rt.stdin(), &mut buffer) {
+        Input::Bytes(n) => print_report(&rt.stdout(), &err, &buffer[..n]),
         Input::Failed => {
-            io::write_all(STDERR_FILENO, b"report: standard input could not be read\n");
+            let _ = err.write_all(b"report: standard input could not be read\n");
         }
     }
 }

@@ -2,9 +2,9 @@
 // case that is not as expected and a last line with the counts.
 #![tactic(auto)]
 
-use cases::{MOST, Outcome, filled, say_counts, scribbled, told, went};
-use libc::STDIN_FILENO;
+use cases::{MOST, Outcome, filled, read_full, same, say_counts, scribbled, told, went};
 use salvaging::Salvaged;
+use std::io::Read;
 
 // What a case expects: the refusal number, 0 for none, and the used lengths of the table and of the list.
 #[derive(Clone, Copy)]
@@ -41,38 +41,38 @@ fn leaves_as_expected(
     list_after: &[u8],
 ) -> bool {
     let salvaged = salvaging::salvage(s, table, list);
-    answers(salvaged, expected) && check::same(table, table_after) && check::same(list, list_after)
+    answers(salvaged, expected) && same(table, table_after) && same(list, list_after)
 }
 
 // Reads a length and so many bytes.
-fn take_part(buffer: &mut [u8]) -> Part {
+fn take_part(from: &mut impl Read, buffer: &mut [u8]) -> Part {
     let mut head = [0u8; 2];
-    if io::read_full(STDIN_FILENO, &mut head) < 2 {
+    if read_full(from, &mut head) < 2 {
         return Part::Missing;
     }
     let length = table::u16_at(&head, 0);
     let n = length as usize;
-    if filled(buffer, n) < n {
+    if filled(from, buffer, n) < n {
         return Part::Missing;
     }
     Part::Bytes(table::u32_from_u16(length))
 }
 
 // Reads what is expected of the salvage, and looks whether it is so. Each result stands before the bytes that stay.
-fn as_expected(s: &[u8]) -> bool {
+fn as_expected(from: &mut impl Read, s: &[u8]) -> bool {
     let mut head = [0u8; 8];
-    if io::read_full(STDIN_FILENO, &mut head) < 8 {
+    if read_full(from, &mut head) < 8 {
         return false;
     }
     let table_room = table::u16_at(&head, 0) as usize;
     let list_room = table::u16_at(&head, 2) as usize;
     let number = table::u32_at(&head, 4);
     let mut table_after = scribbled();
-    let Part::Bytes(table) = take_part(&mut table_after) else {
+    let Part::Bytes(table) = take_part(from, &mut table_after) else {
         return false;
     };
     let mut list_after = scribbled();
-    let Part::Bytes(list) = take_part(&mut list_after) else {
+    let Part::Bytes(list) = take_part(from, &mut list_after) else {
         return false;
     };
     let mut table_buffer = scribbled();
@@ -92,27 +92,29 @@ fn as_expected(s: &[u8]) -> bool {
 }
 
 // Reads the input of a case, and then the rest of it.
-fn case() -> Outcome {
+fn case(from: &mut impl Read) -> Outcome {
     let mut head = [0u8; 2];
-    if io::read_full(STDIN_FILENO, &mut head) < 2 {
+    if read_full(from, &mut head) < 2 {
         return Outcome::End;
     }
-    let mut input = io::large_buffer();
-    let n = filled(&mut input, table::u16_at(&head, 0) as usize);
-    went(as_expected(&input[..n]))
+    let mut input = [0u8; 65536];
+    let n = filled(from, &mut input, table::u16_at(&head, 0) as usize);
+    went(as_expected(from, &input[..n]))
 }
 
 // The cases count from 1.
-fn main() {
+fn main(rt: HostRuntime) {
+    let out = &rt.stdout();
+    let mut from = rt.stdin();
     let mut cases: u64 = 0;
     let mut right: u64 = 0;
     while cases < MOST {
-        let outcome = case();
+        let outcome = case(&mut from);
         if let Outcome::End = outcome {
             break;
         }
         cases += 1;
-        right += told(cases, outcome);
+        right += told(out, cases, outcome);
     }
-    say_counts(cases, right);
+    say_counts(out, cases, right);
 }

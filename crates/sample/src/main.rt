@@ -1,12 +1,8 @@
 // Reads the stored table on standard input and prints its rows: a line for each chain.
 #![tactic(auto)]
 
+use cases::{read_full, say, say_number};
 use table::{Row, Table, Verdict, has_flag};
-
-fn say(label: &[u8], n: u64) {
-    io::write_all(libc::STDOUT_FILENO, label);
-    io::print_decimal(libc::STDOUT_FILENO, n);
-}
 
 // What of a row is listed.
 #[derive(Clone, Copy)]
@@ -16,94 +12,91 @@ enum Part {
     Tasks,
 }
 
-fn show_distance(r: Row, i: usize) {
+fn show_distance(out: &impl Print, r: Row, i: usize) {
     if i < r.listed && i < Table::DISTANCES {
-        say(b" ", r.list[i] as u64);
+        say_number(out, b" ", r.list[i] as u64);
     }
 }
 
-fn show_largest(r: Row, i: usize) {
+fn show_largest(out: &impl Print, r: Row, i: usize) {
     if i < r.listed && i < Table::DISTANCES {
-        say(b" ", r.largest[i] as u64);
+        say_number(out, b" ", r.largest[i] as u64);
     }
 }
 
-fn show_task(r: Row, i: usize) {
+fn show_task(out: &impl Print, r: Row, i: usize) {
     if i < r.tasks && i < Table::TASKS {
-        say(b" ", r.priority[i] as u64);
-        say(b"/", r.cost[i] as u64);
+        say_number(out, b" ", r.priority[i] as u64);
+        say_number(out, b"/", r.cost[i] as u64);
     }
 }
 
 // The distance, the largest distance or the task i, nothing past the last.
-fn show_at(r: Row, part: Part, i: usize) {
+fn show_at(out: &impl Print, r: Row, part: Part, i: usize) {
     match part {
-        Part::Distances => show_distance(r, i),
-        Part::Largest => show_largest(r, i),
-        Part::Tasks => show_task(r, i),
+        Part::Distances => show_distance(out, r, i),
+        Part::Largest => show_largest(out, r, i),
+        Part::Tasks => show_task(out, r, i),
     }
 }
 
-fn show_part(r: Row, part: Part) {
-    let mut i: usize = 0;
-    while i < Table::TASKS {
-        show_at(r, part, i);
-        i += 1;
+fn show_part(out: &impl Print, r: Row, part: Part) {
+    for i in 0..Table::TASKS {
+        show_at(out, r, part, i);
     }
 }
 
 // What its form has in the gap's place.
-fn show_gap(r: Row) {
+fn show_gap(out: &impl Print, r: Row) {
     if has_flag(r.form) {
-        say(b" flag ", r.flag as u64);
+        say_number(out, b" flag ", r.flag as u64);
     } else {
-        say(b" gap ", r.gap as u64);
+        say_number(out, b" gap ", r.gap as u64);
     }
 }
 
 // The distances, and the largest ones where they are known.
-fn show_lists(r: Row) {
-    io::write_all(libc::STDOUT_FILENO, b" list");
-    show_part(r, Part::Distances);
+fn show_lists(out: &impl Print, r: Row) {
+    say(out, b" list");
+    show_part(out, r, Part::Distances);
     if r.flag == 1 {
-        io::write_all(libc::STDOUT_FILENO, b" largest");
-        show_part(r, Part::Largest);
+        say(out, b" largest");
+        show_part(out, r, Part::Largest);
     }
 }
 
-fn show(r: Row) {
-    say(b"chain ", r.id as u64);
-    say(b" kind ", r.kind as u64);
-    say(b" overload ", r.overload as u64);
-    say(b" deadline ", r.deadline as u64);
-    show_gap(r);
-    show_lists(r);
-    io::write_all(libc::STDOUT_FILENO, b" tasks");
-    show_part(r, Part::Tasks);
-    io::write_all(libc::STDOUT_FILENO, b"\n");
+fn show(out: &impl Print, r: Row) {
+    say_number(out, b"chain ", r.id as u64);
+    say_number(out, b" kind ", r.kind as u64);
+    say_number(out, b" overload ", r.overload as u64);
+    say_number(out, b" deadline ", r.deadline as u64);
+    show_gap(out, r);
+    show_lists(out, r);
+    say(out, b" tasks");
+    show_part(out, r, Part::Tasks);
+    say(out, b"\n");
 }
 
-fn show_table(t: Table) {
-    let mut chain: usize = 0;
-    while chain < Table::CHAINS {
+fn show_table(out: &impl Print, t: Table) {
+    for chain in 0..Table::CHAINS {
         if chain < t.count {
-            show(t.row[chain]);
+            show(out, t.row[chain]);
         }
-        chain += 1;
     }
 }
 
-fn main() {
-    let mut buffer = io::buffer();
-    let n = io::read_full(libc::STDIN_FILENO, &mut buffer);
+fn main(rt: HostRuntime) {
+    let out = &rt.stdout();
+    let mut buffer = [0u8; 4096];
+    let n = read_full(&mut rt.stdin(), &mut buffer);
     let reading = table::read(&buffer[..n]);
     let verdict = reading.verdict;
     match verdict {
-        Verdict::Accepted => show_table(reading.table),
+        Verdict::Accepted => show_table(out, reading.table),
         Verdict::Refused(n, at) => {
-            say(b"refused ", n as u64);
-            say(b" ", at as u64);
-            io::write_all(libc::STDOUT_FILENO, b"\n");
+            say_number(out, b"refused ", n as u64);
+            say_number(out, b" ", at as u64);
+            say(out, b"\n");
         }
     }
 }

@@ -2,9 +2,9 @@
 // case that is not as expected and a last line with the counts.
 #![tactic(auto)]
 
-use cases::{MOST, Outcome, filled, say_counts, told, went};
-use libc::STDIN_FILENO;
+use cases::{MOST, Outcome, filled, read_full, same, say_counts, told, went};
 use saving::Saved;
+use std::io::Read;
 
 // Room for each of a case's byte strings; a case with a longer one is not as expected.
 const ROOM: usize = 8192;
@@ -37,19 +37,26 @@ fn as_expected(
     if !answers(saved, expected) {
         return false;
     }
-    check::same(buffer, after)
+    same(buffer, after)
 }
 
 // Reads the bytes of a case and runs it.
-fn run(n: usize, used: u64, o: usize, m: usize, expected: Expected) -> Outcome {
+fn run(
+    from: &mut impl Read,
+    n: usize,
+    used: u64,
+    o: usize,
+    m: usize,
+    expected: Expected,
+) -> Outcome {
     let mut buffer = [0u8; ROOM];
     let mut old = [0u8; ROOM];
     let mut new = [0u8; ROOM];
     let mut after = [0u8; ROOM];
-    let b = filled(&mut buffer, n);
-    let c = filled(&mut old, o);
-    let d = filled(&mut new, m);
-    let e = filled(&mut after, n);
+    let b = filled(from, &mut buffer, n);
+    let c = filled(from, &mut old, o);
+    let d = filled(from, &mut new, m);
+    let e = filled(from, &mut after, n);
     if b != n || c != o || d != m || e != n {
         return Outcome::Wrong;
     }
@@ -64,9 +71,9 @@ fn run(n: usize, used: u64, o: usize, m: usize, expected: Expected) -> Outcome {
 }
 
 // Reads the numbers of a case, and then the rest of it.
-fn case() -> Outcome {
+fn case(from: &mut impl Read) -> Outcome {
     let mut head = [0u8; 28];
-    if io::read_full(STDIN_FILENO, &mut head) < 28 {
+    if read_full(from, &mut head) < 28 {
         return Outcome::End;
     }
     let n = table::u32_at(&head, 0) as usize;
@@ -76,20 +83,22 @@ fn case() -> Outcome {
     let m = table::u32_at(&head, 16) as usize;
     let number = table::u32_at(&head, 20);
     let length = table::u32_at(&head, 24);
-    run(n, used, o, m, Expected { number, length })
+    run(from, n, used, o, m, Expected { number, length })
 }
 
 // The cases count from 1.
-fn main() {
+fn main(rt: HostRuntime) {
+    let out = &rt.stdout();
+    let mut from = rt.stdin();
     let mut cases: u64 = 0;
     let mut right: u64 = 0;
     while cases < MOST {
-        let outcome = case();
+        let outcome = case(&mut from);
         if let Outcome::End = outcome {
             break;
         }
         cases += 1;
-        right += told(cases, outcome);
+        right += told(out, cases, outcome);
     }
-    say_counts(cases, right);
+    say_counts(out, cases, right);
 }

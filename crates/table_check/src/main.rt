@@ -3,37 +3,34 @@
 #![tactic(auto)]
 
 use input::{Input, take_in};
-use libc::{STDERR_FILENO, STDIN_FILENO, STDOUT_FILENO};
 use table::{Table, Verdict};
 use verdict_text::{put, put_counted, put_refused};
 
-fn put_accepted(chains: usize) -> bool {
-    put(STDOUT_FILENO, b"accepted, ") && put_counted(STDOUT_FILENO, chains, b" chain")
+fn put_accepted(out: &impl Print, chains: usize) -> bool {
+    put(out, b"accepted, ") && put_counted(out, chains, b" chain")
 }
 
-fn put_verdict(s: &[u8]) -> bool {
+fn put_verdict(out: &impl Print, s: &[u8]) -> bool {
     match table::judge(s) {
-        Verdict::Accepted => put_accepted(table::count(s)),
-        Verdict::Refused(number, at) => put_refused(STDOUT_FILENO, s, number, at),
+        Verdict::Accepted => put_accepted(out, table::count(s)),
+        Verdict::Refused(number, at) => put_refused(out, s, number, at),
     }
 }
 
-fn print_line(s: &[u8]) {
-    if !(put_verdict(s) && put(STDOUT_FILENO, b"\n")) {
-        put(
-            STDERR_FILENO,
-            b"check: standard output could not be written\n",
-        );
+fn print_line(out: &impl Print, err: &impl Print, s: &[u8]) {
+    if !(put_verdict(out, s) && put(out, b"\n")) {
+        put(err, b"check: standard output could not be written\n");
     }
 }
 
 // One byte more than the longest table has room, so that a longer one is seen to be too long.
-fn main() {
+fn main(rt: HostRuntime) {
     let mut buffer = [0u8; Table::BYTES + 1];
-    match take_in(STDIN_FILENO, &mut buffer) {
-        Input::Bytes(n) => print_line(&buffer[..n]),
+    let err = rt.stderr();
+    match take_in(&mut rt.stdin(), &mut buffer) {
+        Input::Bytes(n) => print_line(&rt.stdout(), &err, &buffer[..n]),
         Input::Failed => {
-            put(STDERR_FILENO, b"check: standard input could not be read\n");
+            put(&err, b"check: standard input could not be read\n");
         }
     }
 }

@@ -6,15 +6,15 @@
 ghost use Rattle.table.specs.Code.Taken.{Taken};
 
 use converting::{To, convert, fits_gap};
-use input::{Input, take_file};
-use libc::{STDERR_FILENO, STDOUT_FILENO};
+use input::{Input, has_argument, take_file};
+use std::rt::Env;
 use table::{Table, Verdict, count, id_at, place, u32_from_u16};
 use verdict_text::{put, put_number, put_refused, put_sentence};
 use writing::Written;
 
 // The form asked.
-fn asked() -> To {
-    if 2 < os::arg_count() {
+fn asked(rt: &impl Env) -> To {
+    if has_argument(rt, 2) {
         To::Gap
     } else {
         To::Largest
@@ -23,13 +23,10 @@ fn asked() -> To {
 
 // ---- The answer: each function says whether it was written ----
 
-fn put_result(res: &[u8]) -> bool {
-    let is_written = put(STDOUT_FILENO, res);
+fn put_result(out: &impl Print, err: &impl Print, res: &[u8]) -> bool {
+    let is_written = put(out, res);
     if !is_written {
-        put(
-            STDERR_FILENO,
-            b"convert: standard output could not be written\n",
-        );
+        put(err, b"convert: standard output could not be written\n");
     }
     is_written
 }
@@ -39,70 +36,69 @@ fn first_unfit(s: &[u8]) -> u32
     requires { Taken s.now }
 {
     let chains = count(s);
-    let mut chain: usize = 0;
-    while chain < chains {
+    for chain in 0..chains {
         let at = place(s, chain);
         if !fits_gap(s, at) {
             return u32_from_u16(id_at(s, at));
         }
-        chain += 1;
     }
     0
 }
 
 // That the chain with the id cannot be said with a gap; where there is none, that the table has gaps already.
-fn put_unfit(id: u32) -> bool {
+fn put_unfit(err: &impl Print, id: u32) -> bool {
     if id == 0 {
-        return put(STDERR_FILENO, b"the table already has the form CH");
+        return put(err, b"the table already has the form CH");
     }
-    let which = put(STDERR_FILENO, b"chain ") && put_number(STDERR_FILENO, id as usize);
+    let which = put(err, b"chain ") && put_number(err, id as usize);
     which
         && put(
-            STDERR_FILENO,
+            err,
             b" has largest distances other than 1, 2, 3, .. times a gap of at most 10,000,000",
         )
 }
 
 // Why a table cannot be given the form asked. Every chain can have largest distances, so there the table has them already.
-fn put_reason(s: &[u8], to: To) -> bool
+fn put_reason(err: &impl Print, s: &[u8], to: To) -> bool
     requires { Taken s.now }
 {
     match to {
-        To::Largest => put(STDERR_FILENO, b"the table already has the form CG"),
-        To::Gap => put_unfit(first_unfit(s)),
+        To::Largest => put(err, b"the table already has the form CG"),
+        To::Gap => put_unfit(err, first_unfit(s)),
     }
 }
 
-fn put_no_form(s: &[u8], to: To) -> bool
+fn put_no_form(err: &impl Print, s: &[u8], to: To) -> bool
     requires { Taken s.now }
 {
-    let what = put(STDERR_FILENO, b"refused 34: ") && put_sentence(STDERR_FILENO, 34);
-    what && put(STDERR_FILENO, b" (") && put_reason(s, to) && put(STDERR_FILENO, b")")
+    let what = put(err, b"refused 34: ") && put_sentence(err, 34);
+    what && put(err, b" (") && put_reason(err, s, to) && put(err, b")")
 }
 
 // Why there is no result. Every result has room, so an accepted table is refused with 34 alone.
-fn put_why(s: &[u8], to: To) -> bool {
+fn put_why(err: &impl Print, s: &[u8], to: To) -> bool {
     match table::judge(s) {
-        Verdict::Accepted => put_no_form(s, to),
-        Verdict::Refused(number, at) => put_refused(STDERR_FILENO, s, number, at),
+        Verdict::Accepted => put_no_form(err, s, to),
+        Verdict::Refused(number, at) => put_refused(err, s, number, at),
     }
 }
 
-fn put_converted(s: &[u8], to: To) -> bool {
-    let mut out = [0u8; Table::BYTES];
-    match convert(s, &mut out, to) {
+fn put_converted(out: &impl Print, err: &impl Print, s: &[u8], to: To) -> bool {
+    let mut res = [0u8; Table::BYTES];
+    match convert(s, &mut res, to) {
         Written::Used(n) => {
             let used = n as usize;
-            put_result(&out[..used])
+            put_result(out, err, &res[..used])
         }
-        Written::Refused(_) => put_why(s, to) && put(STDERR_FILENO, b"\n"),
+        Written::Refused(_) => put_why(err, s, to) && put(err, b"\n"),
     }
 }
 
 // One byte more than the longest table has room, so that a longer one is seen to be too long.
-fn main() {
+fn main(rt: HostRuntime) {
+    let err = &rt.stderr();
     let mut buffer = [0u8; Table::BYTES + 1];
-    if let Input::Bytes(n) = take_file(1, b"table", &mut buffer) {
-        put_converted(&buffer[..n], asked());
+    if let Input::Bytes(n) = take_file(&rt, err, 1, b"table", &mut buffer) {
+        put_converted(&rt.stdout(), err, &buffer[..n], asked(&rt));
     }
 }

@@ -3,7 +3,6 @@
 #![tactic(auto)]
 
 use input::{Input, take_file};
-use libc::{STDERR_FILENO, STDOUT_FILENO};
 use merging::{Found, Merged};
 use table::Table;
 use verdict_text::{put, put_number, put_refusal, put_refused, put_sentence};
@@ -16,39 +15,36 @@ const ROOM: usize = 2 * Table::BYTES;
 
 // ---- The answer: each function says whether it was written ----
 
-fn put_result(res: &[u8]) -> bool {
-    let is_written = put(STDOUT_FILENO, res);
+fn put_result(out: &impl Print, err: &impl Print, res: &[u8]) -> bool {
+    let is_written = put(out, res);
     if !is_written {
-        put(
-            STDERR_FILENO,
-            b"merge: standard output could not be written\n",
-        );
+        put(err, b"merge: standard output could not be written\n");
     }
     is_written
 }
 
 // A table's own refusal.
-fn put_table_refused(which: &[u8], s: &[u8], number: u32, at: usize) -> bool {
-    let whose = put(STDERR_FILENO, which) && put(STDERR_FILENO, b": ");
-    whose && put_refused(STDERR_FILENO, s, number, at) && put(STDERR_FILENO, b"\n")
+fn put_table_refused(err: &impl Print, which: &[u8], s: &[u8], number: u32, at: usize) -> bool {
+    let whose = put(err, which) && put(err, b": ");
+    whose && put_refused(err, s, number, at) && put(err, b"\n")
 }
 
 // The result's bytes are not there, so its record and field are not told.
-fn put_result_refused(number: u32, at: usize) -> bool {
-    let whose = put(STDERR_FILENO, b"result: ");
-    whose && put_refusal(STDERR_FILENO, number, at) && put(STDERR_FILENO, b"\n")
+fn put_result_refused(err: &impl Print, number: u32, at: usize) -> bool {
+    let whose = put(err, b"result: ");
+    whose && put_refusal(err, number, at) && put(err, b"\n")
 }
 
-fn put_no_room() -> bool {
-    let what = put(STDERR_FILENO, b"result: refused 24: ");
-    what && put_sentence(STDERR_FILENO, 24) && put(STDERR_FILENO, b"\n")
+fn put_no_room(err: &impl Print) -> bool {
+    let what = put(err, b"result: refused 24: ");
+    what && put_sentence(err, 24) && put(err, b"\n")
 }
 
-fn put_in_conflict(id: u32) -> bool {
-    let which = put(STDERR_FILENO, b"conflict: chain ") && put_number(STDERR_FILENO, id as usize);
+fn put_in_conflict(err: &impl Print, id: u32) -> bool {
+    let which = put(err, b"conflict: chain ") && put_number(err, id as usize);
     which
         && put(
-            STDERR_FILENO,
+            err,
             b" is changed, removed or added differently in the two copies\n",
         )
 }
@@ -62,7 +58,7 @@ fn conflict_above(ancestor: &[u8], first: &[u8], second: &[u8], above: u32) -> u
 }
 
 // A line for each id in conflict, in rising order.
-fn put_ids(ancestor: &[u8], first: &[u8], second: &[u8]) -> bool {
+fn put_ids(err: &impl Print, ancestor: &[u8], first: &[u8], second: &[u8]) -> bool {
     let mut above: u32 = 0;
     let mut is_written = true;
     while is_written {
@@ -70,46 +66,53 @@ fn put_ids(ancestor: &[u8], first: &[u8], second: &[u8]) -> bool {
         if id <= above {
             break;
         }
-        is_written = put_in_conflict(id);
+        is_written = put_in_conflict(err, id);
         above = id;
     }
     is_written
 }
 
-fn put_conflicts(ancestor: &[u8], first: &[u8], second: &[u8]) -> bool {
-    let what = put(STDERR_FILENO, b"refused 32: ");
-    let line = what && put_sentence(STDERR_FILENO, 32) && put(STDERR_FILENO, b"\n");
-    line && put_ids(ancestor, first, second)
+fn put_conflicts(err: &impl Print, ancestor: &[u8], first: &[u8], second: &[u8]) -> bool {
+    let what = put(err, b"refused 32: ");
+    let line = what && put_sentence(err, 32) && put(err, b"\n");
+    line && put_ids(err, ancestor, first, second)
 }
 
-fn put_merged<'a>(ancestor: &[u8], first: &'a [u8], second: &'a [u8]) -> bool {
-    let mut out = [0u8; ROOM];
-    match merging::merge(ancestor, first, second, &mut out) {
+fn put_merged<'a>(
+    out: &impl Print,
+    err: &impl Print,
+    ancestor: &[u8],
+    first: &'a [u8],
+    second: &'a [u8],
+) -> bool {
+    let mut res = [0u8; ROOM];
+    match merging::merge(ancestor, first, second, &mut res) {
         Merged::Used(n) => {
             let used = n as usize;
-            put_result(&out[..used])
+            put_result(out, err, &res[..used])
         }
-        Merged::Ancestor(number, at) => put_table_refused(b"ancestor", ancestor, number, at),
-        Merged::First(number, at) => put_table_refused(b"first copy", first, number, at),
-        Merged::Second(number, at) => put_table_refused(b"second copy", second, number, at),
-        Merged::Conflict(_) => put_conflicts(ancestor, first, second),
-        Merged::NoRoom => put_no_room(),
-        Merged::Result(number, at) => put_result_refused(number, at),
+        Merged::Ancestor(number, at) => put_table_refused(err, b"ancestor", ancestor, number, at),
+        Merged::First(number, at) => put_table_refused(err, b"first copy", first, number, at),
+        Merged::Second(number, at) => put_table_refused(err, b"second copy", second, number, at),
+        Merged::Conflict(_) => put_conflicts(err, ancestor, first, second),
+        Merged::NoRoom => put_no_room(err),
+        Merged::Result(number, at) => put_result_refused(err, number, at),
     }
 }
 
-fn main() {
+fn main(rt: HostRuntime) {
+    let err = &rt.stderr();
     let mut ancestor = [0u8; READ];
-    let Input::Bytes(a) = take_file(1, b"ancestor", &mut ancestor) else {
+    let Input::Bytes(a) = take_file(&rt, err, 1, b"ancestor", &mut ancestor) else {
         return;
     };
     let mut first = [0u8; READ];
-    let Input::Bytes(f) = take_file(2, b"first copy", &mut first) else {
+    let Input::Bytes(f) = take_file(&rt, err, 2, b"first copy", &mut first) else {
         return;
     };
     let mut second = [0u8; READ];
-    let Input::Bytes(s) = take_file(3, b"second copy", &mut second) else {
+    let Input::Bytes(s) = take_file(&rt, err, 3, b"second copy", &mut second) else {
         return;
     };
-    put_merged(&ancestor[..a], &first[..f], &second[..s]);
+    put_merged(&rt.stdout(), err, &ancestor[..a], &first[..f], &second[..s]);
 }

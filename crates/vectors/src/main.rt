@@ -5,6 +5,8 @@
 
 ghost use Rattle.std.specs.Prelude.{◌<◌};
 
+use cases::{Outcome, read_full, same, say, say_number};
+use std::io::Read;
 use table::Verdict;
 
 #[derive(Clone, Copy)]
@@ -13,19 +15,6 @@ struct Case {
     number: u32,
     values: [u32; 6],
     length: usize,
-}
-
-// What a case comes to: no case was left, or whether its answer is the one expected.
-#[derive(Clone, Copy)]
-enum Outcome {
-    End,
-    Right,
-    Wrong,
-}
-
-fn say(label: &[u8], n: u64) {
-    io::write_all(libc::STDOUT_FILENO, label);
-    io::print_decimal(libc::STDOUT_FILENO, n);
 }
 
 fn word(low: u8, high: u8) -> u32
@@ -45,10 +34,8 @@ fn value(head: &[u8; 28], k: usize) -> u32 {
 
 fn case_of(head: &[u8; 28]) -> Case {
     let mut values = [0u32; 6];
-    let mut k: usize = 0;
-    while k < 6 {
+    for k in 0..6 {
         values[k] = value(head, k);
-        k += 1;
     }
     Case {
         kind: head[0],
@@ -137,29 +124,29 @@ fn at_most_right(s: &[u8], c: Case) -> bool {
 }
 
 // The report's text, whose `values[0]` bytes come next on standard input.
-fn report_right(s: &[u8], c: Case) -> bool {
-    let mut body = io::buffer();
+fn report_right(from: &mut impl Read, s: &[u8], c: Case) -> bool {
+    let mut body = [0u8; 4096];
     let length = c.values[0] as usize;
     if body.len() < length {
         return false;
     }
     let expected = &mut body[..length];
-    if io::read_full(libc::STDIN_FILENO, expected) < length {
+    if read_full(from, expected) < length {
         return false;
     }
     let mut text = [0u8; report_text::LONGEST];
     let n = report_text::report(s, &mut text);
-    check::same(&text[..n], expected)
+    same(&text[..n], expected)
 }
 
-fn right(s: &[u8], c: Case) -> bool {
+fn right(from: &mut impl Read, s: &[u8], c: Case) -> bool {
     let kind = c.kind;
     match kind {
         0 => verdict_right(s, c),
         1 => segment_right(s, c),
         2 => latency_right(s, c),
         3 => misses_right(s, c),
-        4 => report_right(s, c),
+        4 => report_right(from, s, c),
         5 => plain_right(s, c),
         6 => at_most_right(s, c),
         _ => false,
@@ -167,46 +154,48 @@ fn right(s: &[u8], c: Case) -> bool {
 }
 
 // Whether all bytes of the table were there and the answer is right.
-fn case_right(c: Case, body: &mut [u8]) -> bool {
+fn case_right(from: &mut impl Read, c: Case, body: &mut [u8]) -> bool {
     let length = c.length;
     if body.len() < length {
         return false;
     }
     let bytes = &mut body[..length];
-    io::read_full(libc::STDIN_FILENO, bytes) == length && right(bytes, c)
+    read_full(from, bytes) == length && right(from, bytes, c)
 }
 
-fn next_case() -> Outcome {
+fn next_case(from: &mut impl Read) -> Outcome {
     let mut head = [0u8; 28];
-    if io::read_full(libc::STDIN_FILENO, &mut head) < 28 {
+    if read_full(from, &mut head) < 28 {
         return Outcome::End;
     }
-    let mut body = io::buffer();
-    if case_right(case_of(&head), &mut body) {
+    let mut body = [0u8; 4096];
+    if case_right(from, case_of(&head), &mut body) {
         Outcome::Right
     } else {
         Outcome::Wrong
     }
 }
 
-fn main() {
+fn main(rt: HostRuntime) {
+    let out = &rt.stdout();
+    let mut from = rt.stdin();
     let mut all: u64 = 0;
     let mut as_expected: u64 = 0;
     while all < 100_000 {
-        match next_case() {
+        match next_case(&mut from) {
             Outcome::End => break,
             Outcome::Right => {
                 all += 1;
                 as_expected += 1;
             }
             Outcome::Wrong => {
-                say(b"not as expected: case ", all);
-                io::write_all(libc::STDOUT_FILENO, b"\n");
+                say_number(out, b"not as expected: case ", all);
+                say(out, b"\n");
                 all += 1;
             }
         }
     }
-    say(b"", all);
-    say(b" cases, as expected ", as_expected);
-    io::write_all(libc::STDOUT_FILENO, b"\n");
+    say_number(out, b"", all);
+    say_number(out, b" cases, as expected ", as_expected);
+    say(out, b"\n");
 }

@@ -1,15 +1,15 @@
-// Pieces of a line, each to the open file `to`: each function answers whether its piece was written.
+// Pieces of a line, each to `to`, which prints: each function answers whether its piece was written.
 
-pub fn put(to: i32, text: &[u8]) -> bool {
-    io::write_all(to, text)
+pub fn put(to: &impl Print, text: &[u8]) -> bool {
+    to.write_all(text).is_ok()
 }
 
-pub fn put_number(to: i32, n: usize) -> bool {
-    io::print_decimal(to, n as u64)
+pub fn put_number(to: &impl Print, n: usize) -> bool {
+    to.print(n).is_ok()
 }
 
 // So many of something, in the plural but for one.
-pub fn put_counted(to: i32, n: usize, what: &[u8]) -> bool {
+pub fn put_counted(to: &impl Print, n: usize, what: &[u8]) -> bool {
     let one = put_number(to, n) && put(to, what);
     if n == 1 { one } else { one && put(to, b"s") }
 }

@@ -87,7 +87,7 @@ fn place_of(s: &[u8], at: usize) -> Place {
 }
 
 // What a chain of this form has after its deadline, by how many bytes of its fixed part are left there.
-fn put_last(to: i32, form: u16, left: usize) -> bool {
+fn put_last(to: &impl Print, form: u16, left: usize) -> bool {
     match left {
         1 => put(to, b"task count"),
         2 => put(to, b"list length"),
@@ -102,7 +102,7 @@ fn put_last(to: i32, form: u16, left: usize) -> bool {
 }
 
 // A field of the fixed part that a chain of this form has.
-fn put_fixed(to: i32, form: u16, offset: usize) -> bool
+fn put_fixed(to: &impl Print, form: u16, offset: usize) -> bool
     requires { offset < head_length form }
 {
     match offset {
@@ -116,7 +116,7 @@ fn put_fixed(to: i32, form: u16, offset: usize) -> bool
 }
 
 // A field of a chain's tasks, by the offset from the first of them.
-fn put_task(to: i32, offset: usize) -> bool {
+fn put_task(to: &impl Print, offset: usize) -> bool {
     let task = put(to, b"task ") && put_number(to, offset / 8 + 1);
     match offset % 8 {
         0 | 1 => task && put(to, b", mark"),
@@ -126,7 +126,7 @@ fn put_task(to: i32, offset: usize) -> bool {
 }
 
 // A field after the fixed part of a chain with so many distances and largest distances.
-fn put_listed(to: i32, listed: usize, known: usize, offset: usize) -> bool {
+fn put_listed(to: &impl Print, listed: usize, known: usize, offset: usize) -> bool {
     let place = offset / 4;
     if place < listed {
         return put(to, b"distance ") && put_number(to, place + 1);
@@ -139,7 +139,7 @@ fn put_listed(to: i32, listed: usize, known: usize, offset: usize) -> bool {
 }
 
 // A field of the chain record at `start`. One whose fixed part is cut off has its mark alone to be refused for.
-fn put_chain(to: i32, s: &[u8], start: usize, offset: usize) -> bool {
+fn put_chain(to: &impl Print, s: &[u8], start: usize, offset: usize) -> bool {
     if !has_head(s, start) {
         return put(to, b"mark");
     }
@@ -152,7 +152,7 @@ fn put_chain(to: i32, s: &[u8], start: usize, offset: usize) -> bool {
     }
 }
 
-fn put_end(to: i32, offset: usize) -> bool {
+fn put_end(to: &impl Print, offset: usize) -> bool {
     if offset < 4 {
         put(to, b"end record, count")
     } else {
@@ -160,7 +160,7 @@ fn put_end(to: i32, offset: usize) -> bool {
     }
 }
 
-fn put_field(to: i32, s: &[u8], p: Place) -> bool {
+fn put_field(to: &impl Print, s: &[u8], p: Place) -> bool {
     match record_at(s, p.start) {
         Record::Chain => {
             let chain = put(to, b"chain record ") && put_number(to, p.record) && put(to, b", ");
@@ -172,7 +172,7 @@ fn put_field(to: i32, s: &[u8], p: Place) -> bool {
 }
 
 // Where the bytes run out before a mark: no byte of it is left, or one.
-fn put_no_mark(to: i32, p: Place) -> bool {
+fn put_no_mark(to: &impl Print, p: Place) -> bool {
     if p.offset == 0 {
         put(to, b"before the end record")
     } else {
@@ -181,7 +181,7 @@ fn put_no_mark(to: i32, p: Place) -> bool {
 }
 
 // Where the bytes run out.
-fn put_missing(to: i32, s: &[u8], p: Place) -> bool {
+fn put_missing(to: &impl Print, s: &[u8], p: Place) -> bool {
     match record_at(s, p.start) {
         Record::Chain => put(to, b"in chain record ") && put_number(to, p.record),
         Record::End => put(to, b"in the end record"),
@@ -189,7 +189,7 @@ fn put_missing(to: i32, s: &[u8], p: Place) -> bool {
     }
 }
 
-fn put_length(to: i32, s: &[u8]) -> bool {
+fn put_length(to: &impl Print, s: &[u8]) -> bool {
     if s.len() == 0 {
         return put(to, b"the table has 0 bytes");
     }
@@ -201,7 +201,7 @@ fn put_length(to: i32, s: &[u8]) -> bool {
 }
 
 // The place that a refusal of this number has at this offset.
-pub(crate) fn put_place(to: i32, s: &[u8], number: u32, at: usize) -> bool {
+pub(crate) fn put_place(to: &impl Print, s: &[u8], number: u32, at: usize) -> bool {
     match number {
         1 => put_length(to, s),
         2 => {

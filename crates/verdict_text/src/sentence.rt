@@ -2,7 +2,7 @@
 use crate::output::put;
 
 // What is wrong with a result. Any other number has no sentence.
-fn put_result_sentence(to: i32, number: u32) -> bool {
+fn put_result_sentence(to: &impl Print, number: u32) -> bool {
     match number {
         24 => put(
             to,
@@ -23,7 +23,7 @@ fn put_result_sentence(to: i32, number: u32) -> bool {
 }
 
 // What is wrong with a table, or with a result.
-pub fn put_sentence(to: i32, number: u32) -> bool {
+pub fn put_sentence(to: &impl Print, number: u32) -> bool {
     match number {
         1 => put(
             to,

@@ -6,8 +6,8 @@ ghost use Rattle.std.specs.Prelude.{◌≡◌, ◌≤◌, length, take, drop};
 ghost use Rattle.writing.specs.Write.{Writes};
 ghost use Rattle.writing.specs.Fill.{Fills};
 
-use cases::{MOST, Outcome, filled, say_counts, scribbled, told, went};
-use libc::STDIN_FILENO;
+use cases::{MOST, Outcome, filled, read_full, same, say_counts, scribbled, told, went};
+use std::io;
 use table::{Row, Table};
 use writing::{Filled, Written};
 
@@ -30,7 +30,7 @@ struct Read {
 
 // ---- Rows, lent ----
 
-// Only these two lend rows: their proofs are walks by hand. All other functions take rows by value.
+// Only these two lend rows. All other functions take rows by value.
 
 // Writes the first n rows.
 fn write_first(rows: [Row; ROWS], n: usize, out: &mut [u8]) -> Written
@@ -57,10 +57,8 @@ fn list_of(s: &[u8], from: usize) -> [u32; Table::DISTANCES]
     requires { (192 ≤ length s.now) × (from ≤ 64) }
 {
     let mut list = [0u32; Table::DISTANCES];
-    let mut i: usize = 0;
-    while i < Table::DISTANCES {
+    for i in 0..Table::DISTANCES {
         list[i] = table::u32_at(s, from + 4 * i);
-        i += 1;
     }
     list
 }
@@ -69,10 +67,8 @@ fn priorities_of(s: &[u8]) -> [u16; Table::TASKS]
     requires { 192 ≤ length s.now }
 {
     let mut priority = [0u16; Table::TASKS];
-    let mut i: usize = 0;
-    while i < Table::TASKS {
+    for i in 0..Table::TASKS {
         priority[i] = table::u16_at(s, 96 + 2 * i);
-        i += 1;
     }
     priority
 }
@@ -81,10 +77,8 @@ fn costs_of(s: &[u8]) -> [u32; Table::TASKS]
     requires { 192 ≤ length s.now }
 {
     let mut cost = [0u32; Table::TASKS];
-    let mut i: usize = 0;
-    while i < Table::TASKS {
+    for i in 0..Table::TASKS {
         cost[i] = table::u32_at(s, 128 + 4 * i);
-        i += 1;
     }
     cost
 }
@@ -114,9 +108,9 @@ fn row_of(s: &[u8]) -> Row
     }
 }
 
-fn next_row() -> Row {
+fn next_row(from: &mut impl io::Read) -> Row {
     let mut bytes = [0u8; 192];
-    io::read_full(STDIN_FILENO, &mut bytes);
+    read_full(from, &mut bytes);
     row_of(&bytes)
 }
 
@@ -140,15 +134,13 @@ fn scribbled_row() -> Row {
 }
 
 // Reads n rows; those past them are scribbled.
-fn next_rows(n: usize) -> [Row; ROWS]
+fn next_rows(from: &mut impl io::Read, n: usize) -> [Row; ROWS]
     requires { n ≤ 272 }
 {
     let row = scribbled_row();
     let mut rows = [row; ROWS];
-    let mut i: usize = 0;
-    while i < n {
-        rows[i] = next_row();
-        i += 1;
+    for i in 0..n {
+        rows[i] = next_row(from);
     }
     rows
 }
@@ -160,13 +152,11 @@ fn longs_come_back(a: &[u32], n: usize, b: &[u32]) -> bool {
     if a.len() != b.len() {
         return false;
     }
-    let mut i: usize = 0;
-    while i < b.len() {
+    for i in 0..b.len() {
         let x = if i < n { a[i] } else { 0 };
         if b[i] != x {
             return false;
         }
-        i += 1;
     }
     true
 }
@@ -175,13 +165,11 @@ fn shorts_come_back(a: &[u16], n: usize, b: &[u16]) -> bool {
     if a.len() != b.len() {
         return false;
     }
-    let mut i: usize = 0;
-    while i < b.len() {
+    for i in 0..b.len() {
         let x = if i < n { a[i] } else { 0 };
         if b[i] != x {
             return false;
         }
-        i += 1;
     }
     true
 }
@@ -249,12 +237,10 @@ fn comes_back(row: Row, found: Row) -> bool {
 }
 
 fn come_back(rows: [Row; ROWS], found: [Row; ROWS]) -> bool {
-    let mut i: usize = 0;
-    while i < ROWS {
+    for i in 0..ROWS {
         if !comes_back(rows[i], found[i]) {
             return false;
         }
-        i += 1;
     }
     true
 }
@@ -280,7 +266,7 @@ fn leaves_as_expected(
     requires { n ≤ 272 }
 {
     let written = write_first(rows, n, buffer);
-    answers(written, expected) && check::same(buffer, after)
+    answers(written, expected) && same(buffer, after)
 }
 
 // The same of a buffer with as many bytes as are expected after the write.
@@ -356,18 +342,18 @@ fn goes_as_expected(rows: [Row; ROWS], n: usize, expected: Expected, after: &[u8
 }
 
 // Reads what is expected of the first n rows, and looks whether it is so. The table stands before the bytes that stay.
-fn as_expected(rows: [Row; ROWS], n: usize) -> bool
+fn as_expected(from: &mut impl io::Read, rows: [Row; ROWS], n: usize) -> bool
     requires { n ≤ 272 }
 {
     let mut head = [0u8; 8];
-    if io::read_full(STDIN_FILENO, &mut head) < 8 {
+    if read_full(from, &mut head) < 8 {
         return false;
     }
     let room = table::u16_at(&head, 0) as usize;
     let number = table::u32_at(&head, 2);
     let used = table::u16_at(&head, 6) as usize;
     let mut after = scribbled();
-    if filled(&mut after, used) < used {
+    if filled(from, &mut after, used) < used {
         return false;
     }
     let length = used as u32;
@@ -375,30 +361,32 @@ fn as_expected(rows: [Row; ROWS], n: usize) -> bool
 }
 
 // Reads the rows of a case, and then the rest of it.
-fn case() -> Outcome {
+fn case(from: &mut impl io::Read) -> Outcome {
     let mut count = [0u8; 2];
-    if io::read_full(STDIN_FILENO, &mut count) < 2 {
+    if read_full(from, &mut count) < 2 {
         return Outcome::End;
     }
     let n = table::u16_at(&count, 0) as usize;
     if ROWS < n {
         return Outcome::Wrong;
     }
-    let rows = next_rows(n);
-    went(as_expected(rows, n))
+    let rows = next_rows(from, n);
+    went(as_expected(from, rows, n))
 }
 
 // The cases count from 1.
-fn main() {
+fn main(rt: HostRuntime) {
+    let out = &rt.stdout();
+    let mut from = rt.stdin();
     let mut cases: u64 = 0;
     let mut right: u64 = 0;
     while cases < MOST {
-        let outcome = case();
+        let outcome = case(&mut from);
         if let Outcome::End = outcome {
             break;
         }
         cases += 1;
-        right += told(cases, outcome);
+        right += told(out, cases, outcome);
     }
-    say_counts(cases, right);
+    say_counts(out, cases, right);
 }
