@@ -6,7 +6,6 @@ ghost use Rattle.odometer.specs.Code.Gone.{Gone};
 ghost use Rattle.misses.specs.Misses.{misses_of};
 ghost use Rattle.table_misses.specs.Code.Counting.{Counts};
 
-use libc::STDERR_FILENO;
 use misses::{Answer, figure, packings_for};
 use odometer::Odometer;
 use packing::COMBINATIONS;
@@ -36,46 +35,50 @@ const STEP: u32 = 50_000_000;
 const MILLIONS: u64 = 50;
 
 // The chain that something is said of.
-fn say_chain(id: u32) -> bool {
-    put(STDERR_FILENO, b"misses: chain ") && put_number(STDERR_FILENO, id as usize)
+fn say_chain(err: &impl Print, id: u32) -> bool {
+    put(err, b"misses: chain ") && put_number(err, id as usize)
 }
 
 // That it is given up, and what to do about that.
-fn say_given_up(id: u32) -> bool {
-    say_chain(id)
+fn say_given_up(err: &impl Print, id: u32) -> bool {
+    say_chain(err, id)
         && put(
-            STDERR_FILENO,
+            err,
             b" has more than 5,000,000 packings; --all goes through them, which may take very long\n",
         )
 }
 
 // How far it is; nothing before the first step.
-fn say_so_far(id: u32, millions: u64) -> bool {
+fn say_so_far(err: &impl Print, id: u32, millions: u64) -> bool {
     if millions == 0 {
         return true;
     }
-    let number = say_chain(id)
-        && put(STDERR_FILENO, b": ")
-        && io::print_decimal(STDERR_FILENO, millions);
-    number && put(STDERR_FILENO, b" million packings so far\n")
+    let number = say_chain(err, id) && put(err, b": ") && put_number(err, millions as usize);
+    number && put(err, b" million packings so far\n")
 }
 
 // Every packing, in steps. The millions only tell how far it is: no one sees them wrap.
-fn every(id: u32, bad: &[u8; COMBINATIONS], capacity: &[u8; Table::OVERLOADS]) -> Odometer
+fn every(
+    err: &impl Print,
+    id: u32,
+    bad: &[u8; COMBINATIONS],
+    capacity: &[u8; Table::OVERLOADS],
+) -> Odometer
     ensures { Gone (flagged bad.now) (capacityIn capacity.now) result × (result.over ≡ true) }
 {
     let mut o = Odometer::start(*capacity);
     let mut millions: u64 = 0;
     while !o.over {
-        say_so_far(id, millions);
+        say_so_far(err, id, millions);
         o = o.turn(bad, STEP);
-        millions = std::num::wrapping_add_u64(millions, MILLIONS);
+        millions = millions.wrapping_add(MILLIONS);
     }
     o
 }
 
 // The packings of that extent.
 fn gone_through(
+    err: &impl Print,
     extent: Extent,
     id: u32,
     bad: &[u8; COMBINATIONS],
@@ -85,21 +88,21 @@ fn gone_through(
 {
     match extent {
         Extent::First => Odometer::start(*capacity).turn(bad, FIRST),
-        Extent::Every => every(id, bad, capacity),
+        Extent::Every => every(err, id, bad, capacity),
     }
 }
 
 // The misses of the chain with the id in a run of k activations, as the plain engine counts them.
-pub fn counted(table: &[u8], id: u32, k: u32, extent: Extent) -> Count
+pub fn counted(err: &impl Print, table: &[u8], id: u32, k: u32, extent: Extent) -> Count
     ensures { Counts (misses_of table.now id k) extent result }
 {
     let p = packings_for(table, id, k);
     if p.pending {
         let bad = p.bad;
         let capacity = p.capacity;
-        let o = gone_through(extent, id, &bad, &capacity);
+        let o = gone_through(err, extent, id, &bad, &capacity);
         if !o.over {
-            say_given_up(id);
+            say_given_up(err, id);
             return Count::GivenUp;
         }
         return Count::Known(Answer::Misses(figure(k, p.late, o.most)));

@@ -10,9 +10,9 @@ ghost use Rattle.table.specs.Code.Taken.{Taken};
 ghost use Rattle.table.specs.Read.{table_of};
 
 use counting::{Count, Extent, counted};
-use input::{Input, take_in};
-use libc::{STDERR_FILENO, STDIN_FILENO, STDOUT_FILENO};
+use input::{Input, has_argument, take_in};
 use misses::{Answer, Sieved, at_most, misses};
+use std::rt::Env;
 use table::{Table, Verdict, id_at, place, u32_from_u16};
 use verdict_text::{put, put_number, put_refused};
 
@@ -30,24 +30,24 @@ fn with_digit(n: u32, digit: u8) -> u32 {
 // The number that the digits say.
 fn number_of(digits: &[u8]) -> u32 {
     let mut n: u32 = 0;
-    let mut i: usize = 0;
-    while i < digits.len() {
-        n = with_digit(n, digits[i]);
-        i += 1;
+    for digit in digits {
+        n = with_digit(n, *digit);
     }
     n
 }
 
 // How long the run is; 0, which every query refuses, where there is no argument.
-fn run() -> u32 {
-    let mut word = io::buffer();
-    let n = os::arg(1, &mut word);
-    number_of(&word[..n])
+fn run(rt: &impl Env) -> u32 {
+    let mut word = [0u8; 4096];
+    match rt.arg(1, &mut word) {
+        Ok(n) => number_of(&word[..n]),
+        Err(_) => 0,
+    }
 }
 
 // Every packing where there is a second argument.
-fn extent() -> Extent {
-    if 2 < os::arg_count() {
+fn extent(rt: &impl Env) -> Extent {
+    if has_argument(rt, 2) {
         Extent::Every
     } else {
         Extent::First
@@ -57,47 +57,47 @@ fn extent() -> Extent {
 // ---- The lines: each function says whether its piece was written ----
 
 // A number in its column.
-fn put_column(n: u32) -> bool {
-    put(STDOUT_FILENO, b" ") && put_number(STDOUT_FILENO, n as usize)
+fn put_column(out: &impl Print, n: u32) -> bool {
+    put(out, b" ") && put_number(out, n as usize)
 }
 
 // A refusal's number in a column.
-fn put_refusal(n: u32) -> bool {
-    put(STDOUT_FILENO, b" r") && put_number(STDOUT_FILENO, n as usize)
+fn put_refusal(out: &impl Print, n: u32) -> bool {
+    put(out, b" r") && put_number(out, n as usize)
 }
 
 // The misses, or their refusal.
-fn put_misses(answer: Answer) -> bool {
+fn put_misses(out: &impl Print, answer: Answer) -> bool {
     match answer {
-        Answer::Misses(n) => put_column(n),
-        Answer::Refused(n) => put_refusal(n),
+        Answer::Misses(n) => put_column(out, n),
+        Answer::Refused(n) => put_refusal(out, n),
     }
 }
 
 // The plain engine's count; `-` where it was given up.
-fn put_plain(plain: Count) -> bool {
+fn put_plain(out: &impl Print, plain: Count) -> bool {
     match plain {
-        Count::Known(answer) => put_misses(answer),
-        Count::GivenUp => put(STDOUT_FILENO, b" -"),
+        Count::Known(answer) => put_misses(out, answer),
+        Count::GivenUp => put(out, b" -"),
     }
 }
 
 // The sieve's number, which is no miss count, or the refusal.
-fn put_at_most(sieved: Sieved) -> bool {
+fn put_at_most(out: &impl Print, sieved: Sieved) -> bool {
     match sieved {
-        Sieved::AtMost(n) => put_column(n),
-        Sieved::Refused(n) => put_refusal(n),
+        Sieved::AtMost(n) => put_column(out, n),
+        Sieved::Refused(n) => put_refusal(out, n),
     }
 }
 
 // The line of the chain with the id. Nothing of it is written before all of it is known, so what is said meanwhile on standard error
 // comes between two lines.
-fn put_line(s: &[u8], id: u32, k: u32, extent: Extent) -> bool {
+fn put_line(out: &impl Print, err: &impl Print, s: &[u8], id: u32, k: u32, extent: Extent) -> bool {
     let exact = misses(s, id, k);
-    let plain = counted(s, id, k, extent);
+    let plain = counted(err, s, id, k, extent);
     let sieved = at_most(s, id, k);
-    let first = put_number(STDOUT_FILENO, id as usize) && put_misses(exact);
-    first && put_plain(plain) && put_at_most(sieved) && put(STDOUT_FILENO, b"\n")
+    let first = put_number(out, id as usize) && put_misses(out, exact);
+    first && put_plain(out, plain) && put_at_most(out, sieved) && put(out, b"\n")
 }
 
 // The id of the chain of that number.
@@ -108,49 +108,43 @@ fn id_of(s: &[u8], chain: usize) -> u32
 }
 
 // A line for each chain, in the table's order.
-fn put_lines(s: &[u8], k: u32, extent: Extent) -> bool
+fn put_lines(out: &impl Print, err: &impl Print, s: &[u8], k: u32, extent: Extent) -> bool
     requires { Taken s.now }
 {
     let chains = table::count(s);
-    let mut chain: usize = 0;
-    while chain < chains {
-        if !put_line(s, id_of(s, chain), k, extent) {
+    for chain in 0..chains {
+        if !put_line(out, err, s, id_of(s, chain), k, extent) {
             return false;
         }
-        chain += 1;
     }
     true
 }
 
 // The heading and the lines; of a refused table its one line.
-fn put_table(s: &[u8], k: u32, extent: Extent) -> bool {
+fn put_table(out: &impl Print, err: &impl Print, s: &[u8], k: u32, extent: Extent) -> bool {
     match table::judge(s) {
         Verdict::Accepted => {
-            put(STDOUT_FILENO, b"chain misses plain at_most\n") && put_lines(s, k, extent)
+            put(out, b"chain misses plain at_most\n") && put_lines(out, err, s, k, extent)
         }
-        Verdict::Refused(number, at) => {
-            put_refused(STDOUT_FILENO, s, number, at) && put(STDOUT_FILENO, b"\n")
-        }
+        Verdict::Refused(number, at) => { put_refused(out, s, number, at) && put(out, b"\n") }
     }
 }
 
 // All that there is to print, or that it could not be written.
-fn print_table(s: &[u8]) {
-    if !put_table(s, run(), extent()) {
-        put(
-            STDERR_FILENO,
-            b"misses: standard output could not be written\n",
-        );
+fn print_table(rt: &impl Env, out: &impl Print, err: &impl Print, s: &[u8]) {
+    if !put_table(out, err, s, run(rt), extent(rt)) {
+        put(err, b"misses: standard output could not be written\n");
     }
 }
 
 // One byte more than the longest table has room, so that a longer one is seen to be too long.
-fn main() {
+fn main(rt: HostRuntime) {
     let mut buffer = [0u8; Table::BYTES + 1];
-    match take_in(STDIN_FILENO, &mut buffer) {
-        Input::Bytes(n) => print_table(&buffer[..n]),
+    let err = &rt.stderr();
+    match take_in(&mut rt.stdin(), &mut buffer) {
+        Input::Bytes(n) => print_table(&rt, &rt.stdout(), err, &buffer[..n]),
         Input::Failed => {
-            put(STDERR_FILENO, b"misses: standard input could not be read\n");
+            put(err, b"misses: standard input could not be read\n");
         }
     }
 }
