@@ -346,12 +346,7 @@ pub fn mishtodran_to_gap(table: &[u8], buffer: &mut [u8], answer: &mut [u8]) -> 
 }
 
 // Salvages what is left of a damaged table: the new table and the list of what was skipped, each into a buffer, and their lengths.
-pub fn mishtodran_salvage(
-    input: &[u8],
-    table: &mut [u8],
-    list: &mut [u8],
-    answer: &mut [u8],
-) -> u32
+pub fn mishtodran_salvage(input: &[u8], table: &mut [u8], list: &mut [u8], answer: &mut [u8]) -> u32
     ensures { SalvageEntry input.now table.old list.old answer.old table.new list.new answer.new result }
 {
     if answer.len() < 8 {
