@@ -122,6 +122,9 @@ pub fn by_each(s: &[u8], chain: usize, k: u32, f: Figures, p: Pieces) -> Packing
     }
 }
 
+// What the empty set costs.
+const NO_COST: u64 = 0;
+
 // What is to be packed, where sets are called bad from the least cost called bad on: nothing, and all k are missed at most, where the
 // empty set is called bad.
 pub fn by_sieve(s: &[u8], chain: usize, k: u32, f: Figures, p: Pieces) -> Packings
@@ -131,7 +134,7 @@ pub fn by_sieve(s: &[u8], chain: usize, k: u32, f: Figures, p: Pieces) -> Packin
     let mut held = [0u64; Own::HELD];
     let own = load(s, chain, Others::Typical, &mut held);
     let lowest = least_called(s, own, &held, f.close, Settled::BEYOND);
-    if lowest == 0 {
+    if lowest == NO_COST {
         return Packings::answered(Answer::Misses(k));
     }
     let costs = prices(p);

@@ -40,9 +40,9 @@ fine c h = sym ((from c) 0 (omega arith)) ∙ lt-leb c.least_called-lowest.resul
 pub least_called-lowest-requires : goal.least_called-lowest-requires
 least_called-lowest-requires c = missed_starts c.requires c.load-own.ensures
 
-pub returns-then-lowest-eq0 : goal.returns-then-lowest-eq0
-returns-then-lowest-eq0 c = leads_answered c.answered.ensures
-    (ap Misses (missed_without c.requires by_sieve (same (goal.at.returns-then-lowest-eq0 c).After-load-own) (sym (from (goal.at.returns-then-lowest-eq0 c).After-least_called-lowest 0 (omega arith)) ∙ le-leb c.least_called-lowest.result 0 (omega (arith, c.if-lowest-eq0.true)))))
+pub returns-then-lowest-eq-NO_COST : goal.returns-then-lowest-eq-NO_COST
+returns-then-lowest-eq-NO_COST c = leads_answered c.answered.ensures
+    (ap Misses (missed_without c.requires by_sieve (same (goal.at.returns-then-lowest-eq-NO_COST c).After-load-own) (sym (from (goal.at.returns-then-lowest-eq-NO_COST c).After-least_called-lowest 0 (omega arith)) ∙ le-leb c.least_called-lowest.result 0 (omega (arith, c.if-lowest-eq-NO_COST.true)))))
 
 pub prices-costs-requires : goal.prices-costs-requires
 prices-costs-requires c = missed_few c.requires
@@ -52,6 +52,6 @@ returns c = let flags = c.flags-bad in
     let prices = c.prices-costs in
     leads_pending refl (missed_sized c.requires)
     (ap Misses
-    (missed_counts c.requires by_sieve (same (goal.at.returns c).After-load-own) (fine (goal.at.returns c).After-least_called-lowest c.if-lowest-eq0.false) prices.result prices.ensures (flagged flags.result)
+    (missed_counts c.requires by_sieve (same (goal.at.returns c).After-load-own) (fine (goal.at.returns c).After-least_called-lowest c.if-lowest-eq-NO_COST.false) prices.result prices.ensures (flagged flags.result)
     (λ m h. flags_tell flags.result (λ m. leb c.least_called-lowest.result (get_or prices.result m 0)) flags.ensures m h
     ∙ from (goal.at.returns c).After-least_called-lowest (get_or prices.result m 0) (missed_within c.requires prices.result prices.ensures m h))))
