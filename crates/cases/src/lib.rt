@@ -59,7 +59,8 @@ pub fn say(out: &impl Print, text: &[u8]) {
 
 // Text and a number after it.
 pub fn say_number(out: &impl Print, text: &[u8], n: u64) {
-    let _ = out.write_all(text).is_ok() && out.print(n).is_ok();
+    say(out, text);
+    let _ = out.print(n);
 }
 
 fn say_wrong(out: &impl Print, case: u64) {

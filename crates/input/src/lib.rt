@@ -15,45 +15,47 @@ pub enum Input {
     Failed,
 }
 
-// Reads until the file ends or the buffer is full.
-fn come_in(from: &mut impl Read, buffer: &mut [u8]) -> io::Result<usize>
-    ensures { IfOk result (λ n. n ≤ length buffer.new) }
+// Reads until the file ends or the buffer is full. Where a read fails, what came in before it is counted too.
+fn come_in(from: &mut impl Read, buffer: &mut [u8], used: &mut usize) -> io::Result<()>
+    ensures { used.new ≤ length buffer.new }
 {
-    let mut used: usize = 0;
-    while used < buffer.len() {
-        let more = from.read(&mut buffer[used..])?;
+    *used = 0;
+    while *used < buffer.len() {
+        let more = from.read(&mut buffer[*used..])?;
         if more == 0 {
             break;
         }
-        used += more;
+        *used += more;
     }
-    Ok(used)
+    Ok(())
 }
 
 // The same, where it matters whether a read failed, but not why.
 pub fn take_in(from: &mut impl Read, buffer: &mut [u8]) -> Input
     ensures { (n : ℕ) → result ≡ Input.Bytes n → n ≤ length buffer.new }
 {
-    match come_in(from, buffer) {
-        Ok(n) => Input::Bytes(n),
+    let mut used: usize = 0;
+    match come_in(from, buffer, &mut used) {
+        Ok(()) => Input::Bytes(used),
         Err(_) => Input::Failed,
     }
 }
 
-// The same, where a read that fails gives no bytes, and so does every one after it.
+// The same, where a read that fails ends the file.
 pub fn read_full(from: &mut impl Read, buffer: &mut [u8]) -> usize
     ensures { result ≤ length buffer.new }
 {
-    match come_in(from, buffer) {
-        Ok(n) => n,
-        Err(_) => 0,
-    }
+    let mut used: usize = 0;
+    let _ = come_in(from, buffer, &mut used);
+    used
 }
 
 // Says what went wrong with what is called so.
 fn say_failed(err: &impl Print, name: &[u8], what: &[u8]) {
-    let name = err.write_all(name).is_ok() && err.write_all(b": ").is_ok();
-    let _ = name && err.write_all(what).is_ok() && err.write_all(b"\n").is_ok();
+    let _ = err.write_all(name);
+    let _ = err.write_all(b": ");
+    let _ = err.write_all(what);
+    let _ = err.write_all(b"\n");
 }
 
 // The words of an error of the system's, which end at the first 0 or before the number that std puts in brackets after them.
@@ -82,7 +84,9 @@ fn take_open(files: &impl Files, name: &str, buffer: &mut [u8]) -> io::Result<us
     ensures { IfOk result (λ n. n ≤ length buffer.new) }
 {
     let mut file = fs::open(files, name)?;
-    come_in(&mut file, buffer)
+    let mut used: usize = 0;
+    come_in(&mut file, buffer, &mut used)?;
+    Ok(used)
 }
 
 // The same, and where it cannot be read, that is said. std opens a file by a name that is text alone.
