@@ -1,4 +1,5 @@
 // Distances that add up (document 02, request 9): the greatest sums, place by place, and after a head by the best step.
+// A loop up to n goes over `1..n + 1`: `1..=n` has a second way out, at its last turn, which costs a test a turn and is to be proved too.
 ghost use Rattle.std.specs.Prelude.{◌≡◌, max, min, ◌+◌, ◌*◌, ◌-◌, ◌≤◌, ◌<◌, length};
 ghost use Rattle.search.specs.Choice.{Tells};
 ghost use Rattle.table.specs.Limits.{max_distances};
@@ -12,25 +13,6 @@ use table::{Table, listed_from};
 
 // No sum of the head is as large.
 const NEVER: u64 = 1_000_000_000;
-
-fn larger(a: u64, b: u64) -> u64
-    ensures { result ≡ max a b }
-{
-    if a < b { b } else { a }
-}
-
-fn smaller(a: usize, b: usize) -> usize
-    ensures { result ≡ min a b }
-{
-    if a < b { a } else { b }
-}
-
-// How far a is past b, 0 if it is not.
-fn past(a: u64, b: u64) -> u64
-    ensures { result ≡ a - b }
-{
-    if a < b { 0 } else { a - b }
-}
 
 // What the repeated list has for m steps, m up to two lists.
 fn repeated_to(s: &[u8], list: usize, m: usize) -> u64
@@ -50,12 +32,10 @@ fn adds_with(s: &[u8], list: usize, i: usize) -> bool
     ensures { Tells result (AddsWith (distances_from s.now list) i) }
 {
     let own = as_listed(s, list, i);
-    let mut j: usize = 1;
-    while j <= i {
+    for j in 1..i + 1 {
         if repeated_to(s, list, i + j) < own + as_listed(s, list, j) {
             return false;
         }
-        j += 1;
     }
     true
 }
@@ -66,12 +46,10 @@ pub fn adds_up(s: &[u8], list: usize) -> bool
     ensures { Tells result (AddsUp (distances_from s.now list)) }
 {
     let listed = listed_from(s, list);
-    let mut i: usize = 1;
-    while i <= listed {
+    for i in 1..listed + 1 {
         if !adds_with(s, list, i) {
             return false;
         }
-        i += 1;
     }
     true
 }
@@ -95,10 +73,8 @@ fn best_step(s: &[u8], list: usize) -> usize
 {
     let listed = listed_from(s, list);
     let mut best: usize = 1;
-    let mut j: usize = 2;
-    while j <= listed {
+    for j in 2..listed + 1 {
         best = better(s, list, best, j);
-        j += 1;
     }
     best
 }
@@ -109,13 +85,8 @@ fn greatest_to(s: &[u8], list: usize, sums: &[u64; Table::DISTANCES], m: usize, 
     ensures { GreatestTo (distances_from s.now list) m (most + 1) result }
 {
     let mut best: u64 = 0;
-    let mut j: usize = 1;
-    while j <= most {
-        best = larger(
-            best,
-            as_listed(s, list, j) + sums[(m - j) % Table::DISTANCES],
-        );
-        j += 1;
+    for j in 1..most + 1 {
+        best = best.max(as_listed(s, list, j) + sums[(m - j) % Table::DISTANCES]);
     }
     best
 }
@@ -125,7 +96,7 @@ fn put_sum(s: &[u8], list: usize, sums: &mut [u64; Table::DISTANCES], m: usize)
     requires { Lists s.now list × (1 ≤ m) × (m ≤ places) × SumsAt (distances_from s.now list) (m - 1) sums.old }
     ensures { SumsAt (distances_from s.now list) m sums.new }
 {
-    let most = smaller(listed_from(s, list), m);
+    let most = listed_from(s, list).min(m);
     sums[m % Table::DISTANCES] = greatest_to(s, list, sums, m, most);
 }
 
@@ -140,15 +111,13 @@ fn first_sum(
     requires { Lists s.now list × (most ≤ places) × SumsAt (distances_from s.now list) 0 sums.old }
     ensures { FirstSum (distances_from s.now list) t most result × SumsAt (distances_from s.now list) result sums.new }
 {
-    let mut m: usize = 0;
-    while m < most {
+    for m in 0..most {
         if t <= sums[m % Table::DISTANCES] {
             return m;
         }
-        m += 1;
-        put_sum(s, list, sums, m);
+        put_sum(s, list, sums, m + 1);
     }
-    m
+    most
 }
 
 // δ(m + 1), place by place.
@@ -185,14 +154,12 @@ fn find_useful(
     sums[1] = as_listed(s, list, 1);
     steps[0] = 1;
     let mut n: usize = 1;
-    let mut m: usize = 2;
-    while m <= listed {
+    for m in 2..listed + 1 {
         let shorter = greatest_to(s, list, sums, m, m - 1);
         let own = as_listed(s, list, m);
         steps[n] = m;
-        n = n + below(shorter, own) as usize;
-        sums[m % Table::DISTANCES] = larger(shorter, own);
-        m += 1;
+        n += below(shorter, own) as usize;
+        sums[m % Table::DISTANCES] = shorter.max(own);
     }
     n
 }
@@ -210,14 +177,9 @@ fn put_by_useful(
     ensures { SumsAt (distances_from s.now list) m sums.new }
 {
     let mut best: u64 = 0;
-    let mut k: usize = 0;
-    while k < n {
-        let step = steps[k];
-        best = larger(
-            best,
-            as_listed(s, list, step) + sums[(m - step) % Table::DISTANCES],
-        );
-        k += 1;
+    let useful = &steps[..n];
+    for step in useful {
+        best = best.max(as_listed(s, list, *step) + sums[(m - *step) % Table::DISTANCES]);
     }
     sums[m % Table::DISTANCES] = best;
 }
@@ -230,10 +192,8 @@ fn sum_past(s: &[u8], list: usize, m: usize) -> u64
     let mut sums = [0u64; Table::DISTANCES];
     let mut steps = [0usize; Table::DISTANCES];
     let n = find_useful(s, list, &mut sums, &mut steps);
-    let mut at = listed_from(s, list);
-    while at < m {
-        at += 1;
-        put_by_useful(s, list, &mut sums, &steps, n, at);
+    for at in listed_from(s, list)..m {
+        put_by_useful(s, list, &mut sums, &steps, n, at + 1);
     }
     sums[m % Table::DISTANCES]
 }
@@ -257,7 +217,7 @@ pub fn distance_past(s: &[u8], list: usize, m: u64) -> u64
 {
     let step = best_step(s, list);
     let head = head_of(s, list, step);
-    let whole = past(m + step as u64, head as u64 + 1) / step as u64;
+    let whole = (m + step as u64).saturating_sub(head as u64 + 1) / step as u64;
     let rest = (m - whole * step as u64) as usize;
     whole * as_listed(s, list, step) + sum_past(s, list, rest)
 }
@@ -267,14 +227,12 @@ fn first_from(sums: &[u64; Table::DISTANCES], from: usize, end: usize, t: u64) -
     requires { (from ≤ end) × (end ≤ places) × (length sums.now ≡ max_distances) }
     ensures { FirstFrom sums.now from end t result }
 {
-    let mut r = from;
-    while r < end {
+    for r in from..end {
         if t <= sums[r % Table::DISTANCES] {
             return r;
         }
-        r += 1;
     }
-    r
+    end
 }
 
 // η(t), which lies past the first list: in the head place by place; past it by best steps, and what lies inside the remainder.
@@ -287,16 +245,15 @@ pub fn count_past(s: &[u8], list: usize, t: u64) -> u64
     let mut sums = [0u64; Table::DISTANCES];
     let mut steps = [0usize; Table::DISTANCES];
     let n = find_useful(s, list, &mut sums, &mut steps);
-    let mut m = listed_from(s, list);
-    while m <= head {
+    let end = head + 1;
+    for m in listed_from(s, list)..end {
         if t <= sums[m % Table::DISTANCES] {
             return m as u64;
         }
-        m += 1;
-        put_by_useful(s, list, &mut sums, &steps, n, m);
+        put_by_useful(s, list, &mut sums, &steps, n, m + 1);
     }
     let distance = as_listed(s, list, step);
-    let whole = past(t + distance - 1, sums[m % Table::DISTANCES]) / distance;
-    let last = first_from(&sums, m + 1 - step, m, t - whole * distance);
+    let whole = (t + distance - 1).saturating_sub(sums[end % Table::DISTANCES]) / distance;
+    let last = first_from(&sums, end + 1 - step, end, t - whole * distance);
     whole * step as u64 + last as u64
 }

@@ -117,12 +117,6 @@ pub fn eta_from(s: &[u8], list: usize, t: u64, from: u64) -> u64
     eta_by_list(s, list, t, from)
 }
 
-fn smaller(a: u64, b: u64) -> u64
-    ensures { result ≡ min a b }
-{
-    if a < b { a } else { b }
-}
-
 // The smaller of η(t) and `most`. It asks the two by itself: a second call keeps `eta_by_list` out of `eta_from`, which so stays small enough
 // for a climb's loop.
 pub fn eta_up_to(s: &[u8], list: usize, t: u64, most: u64) -> u64
@@ -130,9 +124,9 @@ pub fn eta_up_to(s: &[u8], list: usize, t: u64, most: u64) -> u64
     ensures { result ≡ min (η (distances_from s.now list) t) most }
 {
     if listed_from(s, list) == 1 {
-        return smaller(eta_by_one(s, list, t, 0), most);
+        return eta_by_one(s, list, t, 0).min(most);
     }
-    smaller(eta_by_list(s, list, t, 0), most)
+    eta_by_list(s, list, t, 0).min(most)
 }
 
 // The largest distance of 1 + j activations as listed.

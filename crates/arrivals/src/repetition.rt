@@ -52,7 +52,7 @@ pub fn split(n: u64, listed: u64) -> Steps
 pub fn below(distance: u64, x: u64) -> u64
     ensures { result ≡ (1 when ltb distance x else 0) }
 {
-    if distance < x { 1 } else { 0 }
+    u64::from(distance < x)
 }
 
 // How many of a list's own activations lie within x; its last distance is that of the next one's first. The loop does not stop at
@@ -63,10 +63,8 @@ fn within_list(s: &[u8], list: usize, x: u64) -> u64
 {
     let listed = listed_from(s, list);
     let mut n: u64 = 1;
-    let mut j: usize = 1;
-    while j < listed {
-        n = n + below(as_listed(s, list, j), x);
-        j += 1;
+    for j in 1..listed {
+        n += below(as_listed(s, list, j), x);
     }
     n
 }

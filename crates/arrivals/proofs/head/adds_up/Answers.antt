@@ -1,4 +1,4 @@
--- `adds_up` meets its contract. The loop's invariant: each step shorter than i adds up. The measure is what is left of the list.
+-- `adds_up` meets its contract. The loop's invariant: each step shorter than i adds up.
 use Prim.Native.Nat.{ℕ}
 use mathlib.Core.Path.{◌≡◌, sym, subst, ◌∙◌}
 use mathlib.Core.List.{List}
@@ -30,9 +30,6 @@ adds_with-requires c = (c.requires, omega (arith, c.listed_from-listed.ensures.0
 
 pub returns-then-not-adds_with : goal.returns-then-not-adds_with
 returns-then-not-adds_with c = tells-not (λ a. c.adds_with.ensures.not (c.if-not-adds_with.true) (a.with c.loop-i.i c.loop-i.invariant.0 (omega (arith, listed (goal.at.returns-then-not-adds_with c).At-loop-i))))
-
-pub overflow_add-i : goal.overflow_add-i
-overflow_add-i c = omega (arith, listed (goal.at.overflow_add-i c).At-loop-i, c.requires.good.few)
 
 pub loop-i-preserved : goal.loop-i-preserved
 loop-i-preserved c = (

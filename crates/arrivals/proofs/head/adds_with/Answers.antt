@@ -1,4 +1,4 @@
--- `adds_with` meets its contract. The loop's invariant: a step of i adds up with each shorter than j. The measure is what is left up to i.
+-- `adds_with` meets its contract. The loop's invariant: a step of i adds up with each shorter than j.
 use Prim.Native.Nat.{ℕ, ◌+◌, ◌≤◌}
 use mathlib.Core.Path.{◌≡◌, sym, subst}
 use mathlib.Core.List.{List}
@@ -53,9 +53,6 @@ overflow_add-own c = omega (arith, own c, other c, near c c.args.i, near c c.loo
 
 pub returns-then-repeated_to-own : goal.returns-then-repeated_to-own
 returns-then-repeated_to-own c = tells-not (λ a. omega (arith, own (goal.at.returns-then-repeated_to-own c).After-as_listed, other (goal.at.returns-then-repeated_to-own c).After-as_listed, both (goal.at.returns-then-repeated_to-own c).After-as_listed, c.if-repeated_to-own.true, a.adds c.loop-j.j c.loop-j.invariant.0 (omega arith)))
-
-pub overflow_add-j : goal.overflow_add-j
-overflow_add-j c = omega (arith, few (goal.at.overflow_add-j c).After-as_listed)
 
 pub loop-j-preserved : goal.loop-j-preserved
 loop-j-preserved c = let l = c.loop-j in (

@@ -1,5 +1,5 @@
--- `adds_with` meets its contract. The loop's invariant: a step of i adds up with each shorter than j. The measure is what is left up to i.
-use Prim.Native.Nat.{ℕ, ◌+◌, ◌-◌, ◌≤◌, ◌<◌}
+-- `adds_with` meets its contract. The loop's invariant: a step of i adds up with each shorter than j.
+use Prim.Native.Nat.{ℕ, ◌+◌, ◌≤◌, ◌<◌}
 use mathlib.Core.List.{List}
 use Rattle.table.specs.Code.Listed.{distances_from}
 use Rattle.arrivals.specs.Arrivals.{as_listed, repeated}
@@ -10,6 +10,3 @@ Adds ds i j = as_listed ds i + as_listed ds j ≤ repeated ds (i + j + 1)
 
 abbrev pub invariant-loop-j : goal.invariant-loop-j
 invariant-loop-j l = (1 ≤ l.j) × (l.j ≤ l.i + 1) × ((k : ℕ) → 1 ≤ k → k < l.j → Adds (distances_from l.s l.list) l.i k)
-
-abbrev pub decreases-loop-j : goal.decreases-loop-j
-decreases-loop-j l = l.i + 1 - l.j

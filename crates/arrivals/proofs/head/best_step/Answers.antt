@@ -1,4 +1,4 @@
--- `best_step` meets its contract. The loop's invariant: `best` is a best step of those below j. The measure is what is left of the list.
+-- `best_step` meets its contract. The loop's invariant: `best` is a best step of those below j.
 use Prim.Native.Nat.{ℕ, ◌*◌}
 use mathlib.Core.Path.{◌≡◌, ap, sym, ◌∙◌}
 use mathlib.Core.List.{List}
@@ -30,9 +30,6 @@ loop-j-init c = (
 pub better-best-requires : goal.better-best-requires
 better-best-requires c = let b = c.loop-j.invariant.0 in
     (c.requires, b.low, omega (arith, b.high, c.listed_from-listed.ensures.0), omega (arith, c.loop-j.invariant.1), omega (arith, c.listed_from-listed.ensures.0))
-
-pub overflow_add-j : goal.overflow_add-j
-overflow_add-j c = omega (arith, listed (goal.at.overflow_add-j c).At-loop-j, c.requires.good.few)
 
 pub loop-j-preserved : goal.loop-j-preserved
 loop-j-preserved c = (best-on (ds (goal.at.loop-j-preserved c).Start) c.loop-j.j c.loop-j.best c.better-best.result (omega (arith, c.loop-j.invariant.1)) c.loop-j.invariant.0 c.better-best.ensures, omega (arith, c.loop-j.invariant.1), omega arith)

@@ -1,11 +1,8 @@
--- `best_step` meets its contract. The loop's invariant: `best` is a best step of those below j. The measure is what is left of the list.
-use Prim.Native.Nat.{◌+◌, ◌-◌, ◌≤◌}
+-- `best_step` meets its contract. The loop's invariant: `best` is a best step of those below j.
+use Prim.Native.Nat.{◌+◌, ◌≤◌}
 use Rattle.table.specs.Code.Listed.{distances_from}
 use Rattle.arrivals.proofs.Heads.{BestTo}
 use Rattle.arrivals.proofs.head.best_step.Given as goal
 
 abbrev pub invariant-loop-j : goal.invariant-loop-j
 invariant-loop-j l = BestTo (distances_from l.s l.list) l.j l.best × (2 ≤ l.j) × (l.j ≤ l.listed + 1)
-
-abbrev pub decreases-loop-j : goal.decreases-loop-j
-decreases-loop-j l = l.listed + 1 - l.j

@@ -1,6 +1,6 @@
--- `count_past` meets its contract. The loop's invariant: the sums up to m are put, and that before m, past the first list, lies below t. The
--- measure is what is left of the head and one more. Past it the whole best steps and the remainder are those of η.
-use Prim.Native.Nat.{◌+◌, ◌-◌, ◌<◌, ◌≤◌}
+-- `count_past` meets its contract. The loop's invariant: the sums up to m are put, and that before m, past the first list, lies below t.
+-- Past the head the whole best steps and the remainder are those of η.
+use Prim.Native.Nat.{◌+◌, ◌<◌, ◌≤◌}
 use Rattle.table.specs.Code.Listed.{listed_from, distances_from}
 use Rattle.arrivals.specs.Arrivals.{δ}
 use Rattle.arrivals.specs.Code.Sums.{SumsAt}
@@ -8,6 +8,3 @@ use Rattle.arrivals.proofs.head.count_past.Given as goal
 
 abbrev pub invariant-loop-m : goal.invariant-loop-m
 invariant-loop-m l = (listed_from l.s l.list ≤ l.m) × (l.m ≤ l.head + 1) × SumsAt (distances_from l.s l.list) l.m l.sums × (listed_from l.s l.list < l.m → δ (distances_from l.s l.list) l.m < l.t)
-
-abbrev pub decreases-loop-m : goal.decreases-loop-m
-decreases-loop-m l = l.head + 1 - l.m

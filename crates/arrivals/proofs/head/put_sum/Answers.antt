@@ -9,7 +9,7 @@ use Rattle.arrivals.proofs.head.put_sum.Goals as goal
 
 pub returns : goal.returns
 returns c = let ds = distances_from c.args.s.now c.args.list in
-    let most : c.smaller-most.result ≡ min (length ds) c.args.m =
-    c.smaller-most.ensures ∙ ap (λ n. min n c.args.m) (c.listed_from.ensures.0 ∙ sym (lists_length c.requires.0)) in
+    let most : c.min-most.result ≡ min (length ds) c.args.m =
+    c.min-most.ensures ∙ ap (λ n. min n c.args.m) (c.listed_from.ensures.0 ∙ sym (lists_length c.requires.0)) in
     sums_next ds c.args.m c.greatest_to.result c.args.sums.now c.requires.1 c.requires.3
     (last-all ds c.args.m _ c.greatest_to.result c.requires.0.good.some c.requires.1 (ap (λ n. n + 1) most) c.greatest_to.ensures)

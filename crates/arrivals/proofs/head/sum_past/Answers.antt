@@ -1,4 +1,4 @@
--- `sum_past` meets its contract. The loop's invariant: the sums up to `at` are put, the last eight of them. The measure is what is left.
+-- `sum_past` meets its contract. The loop's invariant: the sums up to `at` are put, the last eight of them.
 use Prim.Native.Nat.{ℕ, suc, ◌+◌, ◌-◌}
 use mathlib.Core.Path.{◌≡◌, refl, ap, sym, subst, ◌∙◌}
 use mathlib.Core.List.{List}

@@ -1,11 +1,13 @@
 -- `below` meets its contract: the definition, by the test.
-use mathlib.Core.Path.{sym}
-use borrow.Author.Tests.{lt-ltb, le-ltb}
-use Rattle.search.proofs.Choice.{when_yes, when_no}
+use Rattle.std.proofs.Common.{◌≡◌, Bool, true, false, refl, ◌∙◌}
+use mir.Val.{bool_byte}
+use Rattle.search.specs.Choice.{◌when◌else◌}
 use Rattle.arrivals.proofs.repetition.below.Goals as goal
 
-pub returns-then-distance-x : goal.returns-then-distance-x
-returns-then-distance-x c = sym (when_yes _ _ (lt-ltb _ _ c.if-distance-x.true))
+one_or_none : (b : Bool) → bool_byte b ≡ (1 when b else 0)
+unfolding ◌when◌else◌
+one_or_none true = refl
+one_or_none false = refl
 
-pub returns-else-distance-x : goal.returns-else-distance-x
-returns-else-distance-x c = sym (when_no _ _ (le-ltb _ _ c.if-distance-x.false))
+pub returns : goal.returns
+returns c = c.from.ensures ∙ one_or_none _

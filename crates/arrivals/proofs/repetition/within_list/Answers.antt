@@ -1,4 +1,4 @@
--- `within_list` meets its contract. The loop's invariant: n of the first j activations lie within x. The measure is what is left of the list.
+-- `within_list` meets its contract. The loop's invariant: n of the first j activations lie within x.
 use Prim.Native.Nat.{ℕ, ◌+◌, ◌<◌}
 use mathlib.Core.Path.{◌≡◌, ap, ap₂, sym, ◌∙◌}
 use mathlib.Core.List.{List}
@@ -36,9 +36,6 @@ as_listed-requires c = (c.requires.0, c.loop-j.invariant.2)
 
 pub overflow_add-n : goal.overflow_add-n
 overflow_add-n c = omega (arith, more c, ahead c, within_le (ds (goal.at.overflow_add-n c).Start) c.args.x (c.loop-j.j + 1), c.requires.0.good.few)
-
-pub overflow_add-j : goal.overflow_add-j
-overflow_add-j c = omega (arith, ahead c, c.requires.0.good.few)
 
 pub loop-j-preserved : goal.loop-j-preserved
 loop-j-preserved c = (more c, omega arith, omega (arith, ahead c, lists_length c.requires.0))
