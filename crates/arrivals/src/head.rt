@@ -1,5 +1,5 @@
 // Distances that add up (document 02, request 9): the greatest sums, place by place, and after a head by the best step.
-// A loop up to n goes over `1..n + 1`: `1..=n` has a second way out, at its last turn, which costs a test a turn and is to be proved too.
+// A loop up to n goes over `1..n + 1`: `1..=n` has a second way out, at its last turn, which would be proved once more.
 ghost use Rattle.std.specs.Prelude.{◌≡◌, max, min, ◌+◌, ◌*◌, ◌-◌, ◌≤◌, ◌<◌, length};
 ghost use Rattle.search.specs.Choice.{Tells};
 ghost use Rattle.table.specs.Limits.{max_distances};

@@ -15,8 +15,7 @@ pub fn chain_cost(s: &[u8], at: usize) -> u32
     requires { Stands s.now at }
     ensures { result ≡ chain_cost (row_at s.now at) }
 {
-    let whole = ahead(s, at, 0, 0);
-    whole.cost
+    ahead(s, at, 0, 0).cost
 }
 
 // A chain's own first part: no task is below its floor, so the first at the floor is the first below the next level.
@@ -24,8 +23,7 @@ pub fn own_part(s: &[u8], at: usize, floor: u32) -> u32
     requires { Stands s.now at × (floor ≡ floor_of (row_at s.now at)) }
     ensures { result ≡ own_part (row_at s.now at) }
 {
-    let first = ahead(s, at, 0, floor + 1);
-    first.cost
+    ahead(s, at, 0, floor + 1).cost
 }
 
 // What all segments cost together: the tasks at or above the floor.
@@ -33,14 +31,7 @@ pub fn all_cost(s: &[u8], at: usize, floor: u32) -> u32
     requires { Stands s.now at }
     ensures { result ≡ sum_of cost_of (segments floor (tasks_of (row_at s.now at))) }
 {
-    let both = both_sides(s, at, floor);
-    both.cost
-}
-
-fn greater(a: u32, b: u32) -> u32
-    ensures { result ≡ max a b }
-{
-    if a < b { b } else { a }
+    both_sides(s, at, floor).cost
 }
 
 // What the dearest segment of a deferred chain costs, given its first stretch, which counts with the last.
@@ -48,18 +39,15 @@ pub fn dearest_cost(s: &[u8], at: usize, floor: u32, first: Stretch) -> u32
     requires { Stands s.now at × FirstOf (row_at s.now at) floor first }
     ensures { result ≡ most_of cost_of (segments floor (tasks_of (row_at s.now at))) }
 {
-    let n = tasks_at(s, at);
     let mut best: u32 = 0;
     let mut sum: u32 = 0;
-    let mut i: usize = first.len + 1;
-    while i < n {
+    for i in first.len + 1..tasks_at(s, at) {
         if priority_at(s, at, i) < floor {
-            best = greater(best, sum);
+            best = best.max(sum);
             sum = 0;
         } else {
-            sum = sum + cost_at(s, at, i);
+            sum += cost_at(s, at, i);
         }
-        i += 1;
     }
-    greater(best, sum + first.cost)
+    best.max(sum + first.cost)
 }

@@ -56,7 +56,7 @@ pub fn active_segments(s: &[u8], at: usize, floor: u32, tail: u32) -> Actives
             out.cost[j] = cost_at(s, at, i) + more.cost;
             out.segment[j] = segment_of(stretch, both.low);
             out.count = j + 1;
-            i = i + 1 + more.len;
+            i += 1 + more.len;
         }
     }
     out

@@ -21,23 +21,14 @@ pub struct Sides {
     pub cost: u32,
 }
 
-fn lesser(a: u32, b: u32) -> u32
-    ensures { result ≡ min a b }
-{
-    if a < b { a } else { b }
-}
-
 // The lowest priority.
 pub fn floor_of(s: &[u8], at: usize) -> u32
     requires { Stands s.now at }
     ensures { result ≡ floor_of (row_at s.now at) }
 {
-    let n = tasks_at(s, at);
     let mut low = priority_at(s, at, 0);
-    let mut i: usize = 1;
-    while i < n {
-        low = lesser(low, priority_at(s, at, i));
-        i += 1;
+    for i in 1..tasks_at(s, at) {
+        low = low.min(priority_at(s, at, i));
     }
     low
 }
@@ -56,21 +47,19 @@ pub fn ahead(s: &[u8], at: usize, from: usize, level: u32) -> Stretch
     ensures { result ≡ stretch_of (before (below level) (tasks_after (row_at s.now at) from)) }
 {
     let n = tasks_at(s, at);
-    let mut sum: u32 = 0;
-    let mut i: usize = from;
-    while i < n {
+    let mut cost: u32 = 0;
+    for i in from..n {
         if priority_at(s, at, i) < level {
             return Stretch {
                 len: i - from,
-                cost: sum,
+                cost,
             };
         }
-        sum = sum + cost_at(s, at, i);
-        i += 1;
+        cost += cost_at(s, at, i);
     }
     Stretch {
-        len: i - from,
-        cost: sum,
+        len: n - from,
+        cost,
     }
 }
 
@@ -79,17 +68,14 @@ pub fn both_sides(s: &[u8], at: usize, level: u32) -> Sides
     requires { Stands s.now at }
     ensures { result ≡ sides_of level (tasks_of (row_at s.now at)) }
 {
-    let n = tasks_at(s, at);
     let mut low: usize = 0;
     let mut cost: u32 = 0;
-    let mut i: usize = 0;
-    while i < n {
+    for i in 0..tasks_at(s, at) {
         if priority_at(s, at, i) < level {
             low += 1;
         } else {
-            cost = cost + cost_at(s, at, i);
+            cost += cost_at(s, at, i);
         }
-        i += 1;
     }
     Sides { low, cost }
 }

@@ -6,4 +6,4 @@ use Rattle.segments.proofs.Costing.{all-kept}
 use Rattle.segments.proofs.costs.all_cost.Goals as goal
 
 pub returns : goal.returns
-returns c = ap (λ x. x.cost) c.both_sides-both.ensures ∙ sym (all-kept c.args.floor (tasks_of (row_at c.args.s.now c.args.at)))
+returns c = ap (λ x. x.cost) c.both_sides.ensures ∙ sym (all-kept c.args.floor (tasks_of (row_at c.args.s.now c.args.at)))

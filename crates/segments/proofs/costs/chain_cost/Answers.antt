@@ -4,4 +4,4 @@ use Rattle.segments.proofs.Levels.{whole_is}
 use Rattle.segments.proofs.costs.chain_cost.Goals as goal
 
 pub returns : goal.returns
-returns c = whole_is (row_at c.args.s.now c.args.at) c.ahead-whole.result c.ahead-whole.ensures
+returns c = whole_is (row_at c.args.s.now c.args.at) c.ahead.result c.ahead.ensures

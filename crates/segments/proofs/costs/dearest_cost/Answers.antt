@@ -18,14 +18,10 @@ row c = row_at c.args.s.now c.args.at
 -- the task i is there
 within : (c : In-loop-i) → c.loop-i.i < ((row_at c.args.s.now c.args.at)).tasks
 unfolding row_at
-within c = omega (arith, c.tasks_at-n.ensures.0, c.loop-i-test.true)
+within c = omega (arith, c.tasks_at-i-end.ensures.0, c.loop-i-test.true)
 
-pub tasks_at-n-requires : goal.tasks_at-n-requires
-tasks_at-n-requires c = omega (arith, c.requires.0.there)
-
-pub overflow_add-i : goal.overflow_add-i
-unfolding row_at
-overflow_add-i c = omega (arith, c.requires.1.deferred, c.tasks_at-n.ensures.0, c.tasks_at-n.ensures.1)
+pub tasks_at-i-end-requires : goal.tasks_at-i-end-requires
+tasks_at-i-end-requires c = omega (arith, c.requires.0.there)
 
 pub loop-i-init : goal.loop-i-init
 unfolding row_at
@@ -44,13 +40,6 @@ overflow_add-sum c = let l = c.loop-i in
     let g = c.requires.0.good.tasks in
     omega (arith, g.few, g.costs_max l.i, c.cost_at-sum.ensures, l.invariant.fits, within (goal.at.overflow_add-sum c).In-loop-i)
 
-pub overflow_add-i-in-loop-i : goal.overflow_add-i-in-loop-i
-overflow_add-i-in-loop-i c = omega (arith, c.tasks_at-n.ensures.1, c.loop-i-test.true)
-
-pub loop-i-smaller : goal.loop-i-smaller
-unfolding row_at
-loop-i-smaller c = omega (arith, within (goal.at.loop-i-smaller c).In-loop-i)
-
 pub loop-i-preserved : goal.loop-i-preserved
 unfolding row_at
 loop-i-preserved c =
@@ -60,7 +49,7 @@ loop-i-preserved c =
     elim c.if-priority_at-floor.branch [
       | then-priority_at-floor w ↦
           let e : c.if-priority_at-floor.sum ≡ 0 = w.sum-is in
-          let g : c.if-priority_at-floor.best ≡ max l.best l.sum = w.best-is ∙ w.greater-best.ensures in
+          let g : c.if-priority_at-floor.best ≡ max l.best l.sum = w.best-is ∙ w.max-best.ensures in
           rw (e, g) (compared_low _ _ _ _ _ _ l.best l.sum l.i l.invariant h (omega (arith, p, w.if-priority_at-floor.true)))
       | else-priority_at-floor w ↦
           let e : c.if-priority_at-floor.sum ≡ l.sum + get_or (row (goal.at.loop-i-preserved c).Start).cost l.i 0 = w.sum-is ∙ ap (λ x. l.sum + x) w.cost_at-sum.ensures in
@@ -79,7 +68,7 @@ overflow_add-sum-2 c = let l = c.loop-i in
 pub returns : goal.returns
 unfolding row_at
 returns c = let l = c.loop-i in
-    c.greater.ensures
+    c.max.ensures
     ∙ sym
     (dearest-more (row (goal.at.returns c).Start) c.args.floor c.args.first c.requires.1
-    ∙ compared_end _ _ _ _ _ _ l.best l.sum l.i l.invariant (omega (arith, c.tasks_at-n.ensures.0, c.loop-i-test.false)))
+    ∙ compared_end _ _ _ _ _ _ l.best l.sum l.i l.invariant (omega (arith, c.tasks_at-i-end.ensures.0, c.loop-i-test.false)))

@@ -10,4 +10,4 @@ overflow_add-floor c = let b = row_at c.args.s.now c.args.at in
     omega (arith, c.requires.1, lowest_le b.priority (b.tasks - 1) 0 (omega arith), c.requires.0.good.tasks.priorities_max 0)
 
 pub returns : goal.returns
-returns c = own_is (row_at c.args.s.now c.args.at) c.args.floor c.ahead-first.result c.requires.1 c.ahead-first.ensures
+returns c = own_is (row_at c.args.s.now c.args.at) c.args.floor c.ahead.result c.requires.1 c.ahead.ensures

@@ -1,7 +1,7 @@
 -- The loop's invariant (`Cutting`): the active segments found and those left are all of them.
 use Prim.Native.Nat.{ℕ, ◌≤◌, ◌<◌, ◌+◌, ◌*◌}
 use native.Mathlib.Omega.{arith}
-use mathlib.Core.Path.{ap, ◌∙◌}
+use mathlib.Core.Path.{◌≡◌, ap, ◌∙◌}
 use lib.Dec.{eqb}
 use lib.ListN.{get_or}
 use Rattle.search.specs.Choice.{◌when◌else◌}
@@ -125,7 +125,7 @@ pub overflow_add-out-else-priority_at-floor-2 : goal.overflow_add-out-else-prior
 overflow_add-out-else-priority_at-floor-2 c = omega (arith, room (goal.at.overflow_add-out-else-priority_at-floor-2 c).In-loop-i)
 
 pub overflow_add-i-else-priority_at-floor-2 : goal.overflow_add-i-else-priority_at-floor-2
-overflow_add-i-else-priority_at-floor-2 c = omega (arith, within (goal.at.overflow_add-i-else-priority_at-floor-2 c).In-loop-i, few (goal.at.overflow_add-i-else-priority_at-floor-2 c).In-loop-i)
+overflow_add-i-else-priority_at-floor-2 c = omega (arith, inside (goal.at.overflow_add-i-else-priority_at-floor-2 c).After-ahead-more, few (goal.at.overflow_add-i-else-priority_at-floor-2 c).In-loop-i)
 
 pub overflow_add-i-else-priority_at-floor-3 : goal.overflow_add-i-else-priority_at-floor-3
 overflow_add-i-else-priority_at-floor-3 c = omega (arith, inside (goal.at.overflow_add-i-else-priority_at-floor-3 c).After-ahead-more, few (goal.at.overflow_add-i-else-priority_at-floor-3 c).In-loop-i)
@@ -136,7 +136,9 @@ loop-i-smaller c = omega (arith, within (goal.at.loop-i-smaller c).In-loop-i)
 
 pub loop-i-preserved : goal.loop-i-preserved
 unfolding row_at
-loop-i-preserved c = rw (c.segment_of.ensures, c.cost_at.ensures) (more (goal.at.loop-i-preserved c).After-ahead-more)
+loop-i-preserved c =
+    let next : c.loop-i.i + (1 + c.ahead-more.result.len) ≡ c.loop-i.i + 1 + c.ahead-more.result.len = omega arith in
+    rw (c.segment_of.ensures, c.cost_at.ensures, next) (more (goal.at.loop-i-preserved c).After-ahead-more)
 
 pub returns : goal.returns
 unfolding row_at

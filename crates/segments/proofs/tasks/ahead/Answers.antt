@@ -1,6 +1,7 @@
 -- The loop's invariant (`Going`): what was passed and what is left make up the tasks before the first below the level.
 use Prim.Native.Nat.{◌<◌}
 use native.Mathlib.Omega.{arith}
+use mathlib.Core.Path.{◌≡◌}
 use Rattle.table.specs.Record.{row_at}
 use Rattle.table.specs.declared.Row.{Row}
 use Rattle.segments.proofs.Steps.{going_start, going_on, going_done, ahead-stop, ahead-end}
@@ -31,30 +32,23 @@ overflow_sub-result c = omega (arith, c.loop-i.invariant.low)
 pub returns-then-priority_at-level : goal.returns-then-priority_at-level
 unfolding row_at
 returns-then-priority_at-level c = let l = c.loop-i in
-    going_done _ _ _ _ _ l.i l.sum l.invariant
+    going_done _ _ _ _ _ l.i l.cost l.invariant
     (ahead-stop _ _ _ _ l.i (within (goal.at.returns-then-priority_at-level c).In-loop-i) (omega (arith, c.priority_at.ensures.0, c.if-priority_at-level.true)))
 
-pub cost_at-sum-requires : goal.cost_at-sum-requires
+pub cost_at-cost-requires : goal.cost_at-cost-requires
 unfolding row_at
-cost_at-sum-requires c = (c.requires.0, within (goal.at.cost_at-sum-requires c).In-loop-i)
+cost_at-cost-requires c = (c.requires.0, within (goal.at.cost_at-cost-requires c).In-loop-i)
 
-pub overflow_add-sum : goal.overflow_add-sum
-overflow_add-sum c = let l = c.loop-i in
+pub overflow_add-cost : goal.overflow_add-cost
+overflow_add-cost c = let l = c.loop-i in
     let g = c.requires.0.good.tasks in
-    omega (arith, g.few, g.costs_max l.i, c.cost_at-sum.ensures, l.invariant.fits, l.invariant.low, within (goal.at.overflow_add-sum c).In-loop-i)
-
-pub overflow_add-i : goal.overflow_add-i
-overflow_add-i c = omega (arith, c.tasks_at-n.ensures.1, c.loop-i-test.true)
-
-pub loop-i-smaller : goal.loop-i-smaller
-unfolding row_at
-loop-i-smaller c = omega (arith, within (goal.at.loop-i-smaller c).In-loop-i)
+    omega (arith, g.few, g.costs_max l.i, c.cost_at-cost.ensures, l.invariant.fits, l.invariant.low, within (goal.at.overflow_add-cost c).In-loop-i)
 
 pub loop-i-preserved : goal.loop-i-preserved
 unfolding row_at
 loop-i-preserved c = let l = c.loop-i in
-    rw c.cost_at-sum.ensures
-    (going_on _ _ _ _ _ l.i l.sum l.invariant (within (goal.at.loop-i-preserved c).In-loop-i)
+    rw c.cost_at-cost.ensures
+    (going_on _ _ _ _ _ l.i l.cost l.invariant (within (goal.at.loop-i-preserved c).In-loop-i)
     (omega (arith, c.priority_at.ensures.0, c.if-priority_at-level.false)) (c.requires.0.good.tasks.costs_max l.i))
 
 pub overflow_sub-result-2 : goal.overflow_sub-result-2
@@ -63,4 +57,5 @@ overflow_sub-result-2 c = omega (arith, c.loop-i.invariant.low)
 pub returns : goal.returns
 unfolding row_at
 returns c = let l = c.loop-i in
-    going_done _ _ _ _ _ l.i l.sum l.invariant (ahead-end _ _ _ _ l.i (omega (arith, c.tasks_at-n.ensures.0, c.loop-i-test.false)))
+    let end : c.tasks_at-n.result ≡ l.i = omega (arith, c.requires.1, c.tasks_at-n.ensures.0, l.auto.i-end, c.loop-i-test.false) in
+    rw end (going_done _ _ _ _ _ l.i l.cost l.invariant (ahead-end _ _ _ _ l.i (omega (arith, c.tasks_at-n.ensures.0, c.loop-i-test.false))))

@@ -11,10 +11,10 @@ use Rattle.segments.proofs.tasks.both_sides.Goals.{In-loop-i}
 
 -- the task i is there
 within : (c : In-loop-i) → c.loop-i.i < tasks_at c.args.s.now c.args.at
-within c = omega (arith, c.tasks_at-n.ensures.0, c.loop-i-test.true)
+within c = omega (arith, c.tasks_at-i-end.ensures.0, c.loop-i-test.true)
 
-pub tasks_at-n-requires : goal.tasks_at-n-requires
-tasks_at-n-requires c = omega (arith, c.requires.there)
+pub tasks_at-i-end-requires : goal.tasks_at-i-end-requires
+tasks_at-i-end-requires c = omega (arith, c.requires.there)
 
 pub loop-i-init : goal.loop-i-init
 loop-i-init c = sided_start _ _ _ _
@@ -23,7 +23,7 @@ pub priority_at-requires : goal.priority_at-requires
 priority_at-requires c = (c.requires, within c)
 
 pub overflow_add-low : goal.overflow_add-low
-overflow_add-low c = omega (arith, c.tasks_at-n.ensures.1, c.loop-i-test.true, c.loop-i.invariant.few)
+overflow_add-low c = omega (arith, c.tasks_at-i-end.ensures.1, c.loop-i-test.true, c.loop-i.invariant.few)
 
 pub cost_at-cost-requires : goal.cost_at-cost-requires
 cost_at-cost-requires c = (c.requires, within (goal.at.cost_at-cost-requires c).In-loop-i)
@@ -33,12 +33,6 @@ unfolding row_at
 overflow_add-cost c = let good = c.requires.good.tasks in
     let l = c.loop-i in
     omega (arith, good.few, good.costs_max l.i, c.cost_at-cost.ensures, l.invariant.fits, within (goal.at.overflow_add-cost c).In-loop-i)
-
-pub overflow_add-i : goal.overflow_add-i
-overflow_add-i c = omega (arith, c.tasks_at-n.ensures.1, c.loop-i-test.true)
-
-pub loop-i-smaller : goal.loop-i-smaller
-loop-i-smaller c = omega (arith, within (goal.at.loop-i-smaller c).In-loop-i)
 
 pub loop-i-preserved : goal.loop-i-preserved
 loop-i-preserved c =
@@ -59,4 +53,4 @@ pub returns : goal.returns
 unfolding row_at
 returns c = let r = row_at c.args.s.now c.args.at in
     let l = c.loop-i in
-    sided_end r.priority r.cost r.tasks c.args.level l.i l.low l.cost l.invariant (omega (arith, c.tasks_at-n.ensures.0, c.loop-i-test.false))
+    sided_end r.priority r.cost r.tasks c.args.level l.i l.low l.cost l.invariant (omega (arith, c.tasks_at-i-end.ensures.0, c.loop-i-test.false))

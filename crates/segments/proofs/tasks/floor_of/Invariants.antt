@@ -7,6 +7,3 @@ use Rattle.segments.proofs.tasks.floor_of.Given as goal
 
 abbrev pub invariant-loop-i : goal.invariant-loop-i
 invariant-loop-i l = (1 ≤ l.i) × (l.i ≤ tasks_at l.s l.at) × (l.low ≡ lowest (row_at l.s l.at).priority (l.i - 1))
-
-abbrev pub decreases-loop-i : goal.decreases-loop-i
-decreases-loop-i l = tasks_at l.s l.at - l.i
