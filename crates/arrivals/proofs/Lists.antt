@@ -88,3 +88,8 @@ module _ {most : ℕ} {ds : List ℕ} (list : Rising most ds) where
       let u : j < length ds = mod-lt n list.some in
       subst₂ P (sym (repeated-lists i j (omega arith)) ∙ ap (repeated ds) (omega arith)) (sym (repeated-lists i (suc j) u) ∙ ap (repeated ds) (omega arith))
       (f (i * as_listed ds (length ds)) j u)
+
+-- whole lists and the rest of the next, as they are read
+pub read-lists : (ds : List ℕ) (i j : ℕ) {listed whole part : ℕ} → listed ≡ length ds → whole ≡ as_listed ds listed → part ≡ as_listed ds j
+    → i * whole + part ≡ i * as_listed ds (length ds) + as_listed ds j
+read-lists ds i j long whole part = ap₂ (λ w p. i * w + p) (whole ∙ ap (as_listed ds) long) part

@@ -5,6 +5,7 @@ use mathlib.Core.List.{List}
 use native.Mathlib.Omega.{arith}
 use native.Mathlib.Nat.{div-add-mod', mod-lt}
 use lib.ListN.{length}
+use Rattle.table.specs.Code.Good.{GoodDistances}
 use Rattle.table.specs.Code.Listed.{distances_from}
 use Rattle.arrivals.specs.Arrivals.{as_listed, δ, η}
 use Rattle.arrivals.specs.Code.Bounds.{farthest}
@@ -14,64 +15,77 @@ use Rattle.arrivals.proofs.Counts.{η-counts, η-stops, η-farthest}
 use Rattle.arrivals.proofs.Heads.{δ-single}
 use Rattle.arrivals.proofs.Rows.{lists_length}
 use Rattle.arrivals.proofs.eta_by_one.Goals as goal
-use Rattle.arrivals.proofs.eta_by_one.Goals.{After-as_listed-distance, Else-t-next-2}
+use Rattle.arrivals.proofs.eta_by_one.Goals.{Start}
 
-abbrev ds : (c : After-as_listed-distance) → List ℕ
+-- a list of one distance d
+module _ {ds : List ℕ} (good : GoodDistances ds) (single : length ds ≡ 1) {d : ℕ} (read : d ≡ as_listed ds 1) where
+  -- the distance of so many steps
+  steps : (m : ℕ) → m * d ≡ δ ds (m + 1)
+  steps m = ap (λ x. m * x) read ∙ sym (δ-single good single m)
+
+  some : 0 < d
+  some = omega (arith, read, ap (as_listed ds) single, last-above good)
+
+  -- where t lies past the next, one more is counted
+  counts : (m t : ℕ) → m * d < t → m < η ds t
+  counts m t h = η-counts good m t (omega (arith, steps m, h))
+
+  stops : (m t : ℕ) → t ≤ m * d → η ds t ≤ m
+  stops m t h = η-stops good m t (omega (arith, steps m, h))
+
+  -- the quotient is one less than the count
+  quotient : (t : ℕ) → 0 < t → (t - 1) / d + 1 ≡ η ds t
+  quotient t h =
+      let q : ℕ = (t - 1) / d in
+      let low = div-add-mod' (t - 1) d in
+      omega (arith, counts q t (omega (arith, low, h)), stops (q + 1) t (omega (arith, low, mod-lt (t - 1) some, h)))
+
+abbrev ds : (c : Start) → List ℕ
 ds c = distances_from c.args.s.now c.args.list
 
-abbrev distance : (c : After-as_listed-distance) → ℕ
-distance c = c.as_listed-distance.result
-
-single : (c : After-as_listed-distance) → length (ds c) ≡ 1
+single : (c : Start) → length (ds c) ≡ 1
 single c = lists_length c.requires.0 ∙ c.requires.1
 
--- the distance of so many steps, by the one that was read
-steps : (c : After-as_listed-distance) → (m : ℕ) → m * (distance c) ≡ δ (ds c) (m + 1)
-steps c m = ap (λ d. m * d) c.as_listed-distance.ensures ∙ sym (δ-single c.requires.0.good (single c) m)
-
-some : (c : After-as_listed-distance) → 0 < (distance c)
-some c = omega (arith, c.as_listed-distance.ensures, ap (as_listed (ds c)) (single c), last-above c.requires.0.good)
-
-near : (c : After-as_listed-distance) → c.args.from < farthest
+near : (c : Start) → c.args.from < farthest
 near c = omega (arith, c.requires.3, η-farthest c.requires.0.good c.args.t c.requires.2)
 
--- where t lies past the next, one more is counted
-counts : (c : After-as_listed-distance) → (m : ℕ) → m * (distance c) < c.args.t → m < η (ds c) c.args.t
-counts c m h = η-counts c.requires.0.good m c.args.t (omega (arith, (steps c) m, h))
-
-stops : (c : After-as_listed-distance) → (m : ℕ) → c.args.t ≤ m * (distance c) → η (ds c) c.args.t ≤ m
-stops c m h = η-stops c.requires.0.good m c.args.t (omega (arith, (steps c) m, h))
-
 pub overflow_mul-next : goal.overflow_mul-next
-overflow_mul-next c = omega (arith, steps c c.args.from, δ-near c.requires.0.good (c.args.from + 1), near c)
+overflow_mul-next c =
+    let b = (goal.at.overflow_mul-next c).Start in
+    omega (arith, steps c.requires.0.good (single b) c.as_listed-distance.ensures c.args.from, δ-near c.requires.0.good (c.args.from + 1), near b)
 
 pub returns-then-t-next : goal.returns-then-t-next
-returns-then-t-next c = omega (arith, c.requires.3, stops (goal.at.returns-then-t-next c).After-as_listed-distance c.args.from (omega (arith, c.if-t-next.true)))
+returns-then-t-next c =
+    let b = (goal.at.returns-then-t-next c).Start in
+    omega (arith, c.requires.3, stops c.requires.0.good (single b) c.as_listed-distance.ensures c.args.from c.args.t c.if-t-next.true)
 
 pub overflow_add-next : goal.overflow_add-next
-overflow_add-next c = omega (arith, steps (goal.at.overflow_add-next c).After-as_listed-distance (c.args.from + 1), δ-near c.requires.0.good (c.args.from + 1 + 1), near (goal.at.overflow_add-next c).After-as_listed-distance)
+overflow_add-next c =
+    let b = (goal.at.overflow_add-next c).Start in
+    let next = steps c.requires.0.good (single b) c.as_listed-distance.ensures (c.args.from + 1) in
+    omega (arith, next, δ-near c.requires.0.good (c.args.from + 1 + 1), near b)
 
 pub overflow_add-result : goal.overflow_add-result
-overflow_add-result c = omega (arith, near (goal.at.overflow_add-result c).After-as_listed-distance)
+overflow_add-result c = omega (arith, near (goal.at.overflow_add-result c).Start)
 
 pub returns-then-t-next-2 : goal.returns-then-t-next-2
-returns-then-t-next-2 c = omega (arith, counts (goal.at.returns-then-t-next-2 c).After-as_listed-distance c.args.from (omega (arith, c.if-t-next.false)), stops (goal.at.returns-then-t-next-2 c).After-as_listed-distance (c.args.from + 1) (omega (arith, c.if-t-next-2.true)))
+returns-then-t-next-2 c =
+    let b = (goal.at.returns-then-t-next-2 c).Start in
+    let more = counts c.requires.0.good (single b) c.as_listed-distance.ensures c.args.from c.args.t c.if-t-next.false in
+    let most = stops c.requires.0.good (single b) c.as_listed-distance.ensures (c.args.from + 1) c.args.t (omega (arith, c.if-t-next-2.true)) in
+    omega (arith, more, most)
 
 pub overflow_sub-result : goal.overflow_sub-result
 overflow_sub-result c = omega (arith, c.if-t-next-2.false)
 
 pub nonzero_div-result : goal.nonzero_div-result
-nonzero_div-result c = some (goal.at.nonzero_div-result c).After-as_listed-distance
-
--- the quotient is one less than the count
-all : (c : Else-t-next-2) → (c.args.t - 1) / c.as_listed-distance.result + 1 ≡ η ((distances_from c.args.s.now c.args.list)) c.args.t
-all c = let x : ℕ = c.args.t - 1 in
-    let q : ℕ = x / c.as_listed-distance.result in
-    let low = div-add-mod' x (c.as_listed-distance.result) in
-    omega (arith, (let it : (m : ℕ) → m * (c.as_listed-distance.result) < c.args.t → m < η ((distances_from c.args.s.now c.args.list)) c.args.t = λ m h. η-counts c.requires.0.good m c.args.t (omega (arith, ((let it : (m : ℕ) → m * (c.as_listed-distance.result) ≡ δ ((distances_from c.args.s.now c.args.list)) (m + 1) = λ m. ap (λ d. m * d) c.as_listed-distance.ensures ∙ sym (δ-single c.requires.0.good ((let it : length ((distances_from c.args.s.now c.args.list)) ≡ 1 = lists_length c.requires.0 ∙ c.requires.1 in it)) m) in it)) m, h)) in it) q (omega (arith, low, c.if-t-next-2.false)), (let it : (m : ℕ) → c.args.t ≤ m * (c.as_listed-distance.result) → η ((distances_from c.args.s.now c.args.list)) c.args.t ≤ m = λ m h. η-stops c.requires.0.good m c.args.t (omega (arith, ((let it : (m : ℕ) → m * (c.as_listed-distance.result) ≡ δ ((distances_from c.args.s.now c.args.list)) (m + 1) = λ m. ap (λ d. m * d) c.as_listed-distance.ensures ∙ sym (δ-single c.requires.0.good ((let it : length ((distances_from c.args.s.now c.args.list)) ≡ 1 = lists_length c.requires.0 ∙ c.requires.1 in it)) m) in it)) m, h)) in it) (q + 1) (omega (arith, low, mod-lt x ((let it : 0 < (c.as_listed-distance.result) = omega (arith, c.as_listed-distance.ensures, ap (as_listed ((distances_from c.args.s.now c.args.list))) ((let it : length ((distances_from c.args.s.now c.args.list)) ≡ 1 = lists_length c.requires.0 ∙ c.requires.1 in it)), last-above c.requires.0.good) in it)), c.if-t-next-2.false)))
+nonzero_div-result c = some c.requires.0.good (single (goal.at.nonzero_div-result c).Start) c.as_listed-distance.ensures
 
 pub overflow_add-result-2 : goal.overflow_add-result-2
-overflow_add-result-2 c = omega (arith, all c, η-farthest c.requires.0.good c.args.t c.requires.2)
+overflow_add-result-2 c =
+    let b = (goal.at.overflow_add-result-2 c).Start in
+    let all = quotient c.requires.0.good (single b) c.as_listed-distance.ensures c.args.t (omega (arith, c.if-t-next-2.false)) in
+    omega (arith, all, η-farthest c.requires.0.good c.args.t c.requires.2)
 
 pub returns : goal.returns
-returns c = all c
+returns c = quotient c.requires.0.good (single (goal.at.returns c).Start) c.as_listed-distance.ensures c.args.t (omega (arith, c.if-t-next-2.false))

@@ -29,7 +29,7 @@ abbrev shortest : (c : After-below) → ℕ
 shortest c = c.greatest_to-shorter.result
 
 more : (c : After-below) → c.loop-m.m ≤ length ((distances_from c.args.s.now c.args.list))
-more c = omega (arith, (let it : c.listed_from-listed.result ≡ length ((distances_from c.args.s.now c.args.list)) = c.listed_from-listed.ensures.0 ∙ sym (lists_length c.requires.0) in it), c.loop-m-test.true)
+more c = omega (arith, c.listed_from-listed.ensures.0, lists_length c.requires.0, c.loop-m-test.true)
 
 tried : (c : After-below) → GreatestTo ((distances_from c.args.s.now c.args.list)) c.loop-m.m c.loop-m.m (shortest c)
 tried c = let e : c.loop-m.m - 1 + 1 ≡ c.loop-m.m = omega (arith, c.loop-m.invariant.0) in subst (λ j. GreatestTo ((distances_from c.args.s.now c.args.list)) c.loop-m.m j (shortest c)) e c.greatest_to-shorter.ensures

@@ -37,10 +37,12 @@ pub as_listed-requires-3 : goal.as_listed-requires-3
 as_listed-requires-3 c = (c.requires.0, omega (arith, c.listed_from-listed.ensures.0, c.requires.1))
 
 -- what the two add up to
-all : (c : After-as_listed-3) → c.as_listed-2.result + c.as_listed-3.result ≡ repeated ((distances_from c.args.s.now c.args.list)) (c.args.m + 1)
-all c = let listed = c.listed_from-listed.ensures.0 ∙ sym ((let it : length ((distances_from c.args.s.now c.args.list)) ≡ listed_from c.args.s.now c.args.list = lists_length c.requires.0 in it)) in
-    ap₂ (λ x y. x + y) (c.as_listed-2.ensures ∙ ap (as_listed ((distances_from c.args.s.now c.args.list))) listed) (c.as_listed-3.ensures ∙ ap (λ n. as_listed ((distances_from c.args.s.now c.args.list)) (c.args.m - n)) listed)
-    ∙ sym (repeated_in_second (rising c.requires.0.good) c.args.m (omega (arith, listed, c.if-m-listed.false)) (omega (arith, c.requires.1, (let it : length ((distances_from c.args.s.now c.args.list)) ≡ listed_from c.args.s.now c.args.list = lists_length c.requires.0 in it))))
+all : (c : After-as_listed-3) → c.as_listed-2.result + c.as_listed-3.result ≡ repeated (distances_from c.args.s.now c.args.list) (c.args.m + 1)
+all c =
+    let d = distances_from c.args.s.now c.args.list in
+    let listed : c.listed_from-listed.result ≡ length d = c.listed_from-listed.ensures.0 ∙ sym (lists_length c.requires.0) in
+    ap₂ (λ x y. x + y) (c.as_listed-2.ensures ∙ ap (as_listed d) listed) (c.as_listed-3.ensures ∙ ap (λ n. as_listed d (c.args.m - n)) listed)
+    ∙ sym (repeated_in_second (rising c.requires.0.good) c.args.m (omega (arith, listed, c.if-m-listed.false)) (omega (arith, c.requires.1, lists_length c.requires.0)))
 
 pub overflow_add-result : goal.overflow_add-result
 overflow_add-result c = omega (arith, all c, repeated-bounded (rising c.requires.0.good) (c.args.m + 1), c.requires.1, long (goal.at.overflow_add-result c).Start, c.requires.0.good.few)

@@ -35,7 +35,7 @@ room c = omega (arith, (within c), (few c), ap (λ o. o.count) c.loop-i.invarian
 
 inside : (c : After-ahead-more) → c.loop-i.i + 1 + c.ahead-more.result.len ≤ ((row_at c.args.s.now c.args.at)).tasks
 unfolding row_at
-inside c = ahead-inside _ _ _ c.args.tail (c.loop-i.i + 1) c.ahead-more.result c.ahead-more.ensures (omega (arith, (let it : c.loop-i.i < ((row_at c.args.s.now c.args.at)).tasks = omega (arith, c.tasks_at-n.ensures.0, c.loop-i-test.true) in it)))
+inside c = ahead-inside _ _ _ c.args.tail (c.loop-i.i + 1) c.ahead-more.result c.ahead-more.ensures (omega (arith, c.tasks_at-n.ensures.0, c.loop-i-test.true))
 
 fits : (c : After-ahead-more) → c.ahead-more.result.cost ≤ c.ahead-more.result.len * max_cost
 fits c = ahead-fits _ _ _ c.args.tail (c.loop-i.i + 1) c.ahead-more.result c.ahead-more.ensures c.requires.0.good.tasks.costs_max
@@ -48,7 +48,7 @@ found c = let l = c.loop-i in
 more : (c : After-ahead-more) → Cutting ((row_at c.args.s.now c.args.at)).priority ((row_at c.args.s.now c.args.at)).cost ((row_at c.args.s.now c.args.at)).tasks c.args.floor c.args.tail (c.both_sides-both.result.low) (found c) c.loop-i.stretch (c.loop-i.i + 1 + c.ahead-more.result.len)
 unfolding row_at
 more c = let l = c.loop-i in
-    cutting_on _ _ _ _ _ _ l.out l.stretch l.i c.ahead-more.result l.invariant ((let it : c.loop-i.i < ((row_at c.args.s.now c.args.at)).tasks = omega (arith, c.tasks_at-n.ensures.0, c.loop-i-test.true) in it)) (c.requires.0.good.tasks.few) c.requires.1
+    cutting_on _ _ _ _ _ _ l.out l.stretch l.i c.ahead-more.result l.invariant (omega (arith, c.tasks_at-n.ensures.0, c.loop-i-test.true)) (c.requires.0.good.tasks.few) c.requires.1
     (omega (arith, c.priority_at.ensures.0, c.if-priority_at-floor.false)) c.ahead-more.ensures
 
 pub tasks_at-n-requires : goal.tasks_at-n-requires

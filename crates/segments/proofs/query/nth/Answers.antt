@@ -19,7 +19,7 @@ use Rattle.table.proofs.Standing.{longest_record, place-max}
 use Rattle.table.proofs.Widths.{width-most, known-most}
 use Rattle.segments.proofs.Asking.{Fetched, found-is, fetched, nth-none, nth-records}
 use Rattle.segments.proofs.query.nth.Goals as goal
-use Rattle.segments.proofs.query.nth.Goals.{After-active_segments-found, After-first_task-first, Else-found-n, Start}
+use Rattle.segments.proofs.query.nth.Goals.{After-active_segments-found, After-first_task-first, Start}
 
 abbrev table : (c : Start) → Table
 table c = table_of c.args.s.now
@@ -30,11 +30,9 @@ held c = found-is (row_at c.args.s.now c.place-at.result) (row_at c.args.s.now c
     c.floor_of.ensures c.tail_of.ensures c.active_segments-found.ensures
     ∙ ap₂ (λ p q. arrays_of (actives_of p q)) (row-there c.requires.0 c.place-at.ensures c.requires.1) (row-there c.requires.0 c.place-b.ensures c.requires.2)
 
-got : (c : Else-found-n) → Fetched (row_of ((table_of c.args.s.now)) c.args.chain) (row_of ((table_of c.args.s.now)) c.args.other) c.active_segments-found.result c.args.number
-got c = fetched _ _ _ c.args.number ((let it : c.active_segments-found.result ≡ arrays_of (actives_in ((table_of c.args.s.now)) c.args.chain c.args.other) = found-is (row_at c.args.s.now c.place-at.result) (row_at c.args.s.now c.place-b.result)
-    c.floor_of.result c.tail_of.result c.active_segments-found.result
-    c.floor_of.ensures c.tail_of.ensures c.active_segments-found.ensures
-    ∙ ap₂ (λ p q. arrays_of (actives_of p q)) (row-there c.requires.0 c.place-at.ensures c.requires.1) (row-there c.requires.0 c.place-b.ensures c.requires.2) in it)) c.if-n-eq0.false c.if-found-n.false
+got : (c : After-active_segments-found) → (c.args.number ≡ 0 → ⊥) → c.args.number ≤ c.active_segments-found.result.count
+    → Fetched (row_of (table_of c.args.s.now) c.args.chain) (row_of (table_of c.args.s.now) c.args.other) c.active_segments-found.result c.args.number
+got c = fetched _ _ _ c.args.number (held c)
 
 first-is : (c : After-first_task-first) → c.first_task-first.result ≡ place_of ((table_of c.args.s.now)) c.args.chain + tasks_start (row_of ((table_of c.args.s.now)) c.args.chain)
 first-is c = c.first_task-first.ensures ∙ first-there c.requires.0 c.place-at.ensures c.requires.1
@@ -65,25 +63,25 @@ pub first_task-first-requires : goal.first_task-first-requires
 first_task-first-requires c = omega (arith, (stands c.requires.0 c.place-at.ensures c.requires.1).there)
 
 pub bounds-found-n : goal.bounds-found-n
-bounds-found-n c = omega (arith, few c, (got (goal.at.bounds-found-n c).Else-found-n).few, c.if-n-eq0.false)
+bounds-found-n c = omega (arith, few c, (got (goal.at.bounds-found-n c).After-active_segments-found c.if-n-eq0.false c.if-found-n.false).few, c.if-n-eq0.false)
 
 pub overflow_mul-offset : goal.overflow_mul-offset
-overflow_mul-offset c = omega (arith, few (goal.at.overflow_mul-offset c).After-first_task-first, (got (goal.at.overflow_mul-offset c).Else-found-n).start, (got (goal.at.overflow_mul-offset c).Else-found-n).inside)
+overflow_mul-offset c = omega (arith, few (goal.at.overflow_mul-offset c).After-first_task-first, (got (goal.at.overflow_mul-offset c).After-active_segments-found c.if-n-eq0.false c.if-found-n.false).start, (got (goal.at.overflow_mul-offset c).After-active_segments-found c.if-n-eq0.false c.if-found-n.false).inside)
 
 pub overflow_add-offset : goal.overflow_add-offset
-overflow_add-offset c = omega (arith, near (goal.at.overflow_add-offset c).After-first_task-first, few (goal.at.overflow_add-offset c).After-first_task-first, (got (goal.at.overflow_add-offset c).Else-found-n).start, (got (goal.at.overflow_add-offset c).Else-found-n).inside)
+overflow_add-offset c = omega (arith, near (goal.at.overflow_add-offset c).After-first_task-first, few (goal.at.overflow_add-offset c).After-first_task-first, (got (goal.at.overflow_add-offset c).After-active_segments-found c.if-n-eq0.false c.if-found-n.false).start, (got (goal.at.overflow_add-offset c).After-active_segments-found c.if-n-eq0.false c.if-found-n.false).inside)
 
 pub bounds-found-n-2 : goal.bounds-found-n-2
-bounds-found-n-2 c = omega (arith, few (goal.at.bounds-found-n-2 c).After-first_task-first, (got (goal.at.bounds-found-n-2 c).Else-found-n).few, c.if-n-eq0.false)
+bounds-found-n-2 c = omega (arith, few (goal.at.bounds-found-n-2 c).After-first_task-first, (got (goal.at.bounds-found-n-2 c).After-active_segments-found c.if-n-eq0.false c.if-found-n.false).few, c.if-n-eq0.false)
 
 pub overflow_mul-length : goal.overflow_mul-length
-overflow_mul-length c = omega (arith, few (goal.at.overflow_mul-length c).After-first_task-first, (got (goal.at.overflow_mul-length c).Else-found-n).len, (got (goal.at.overflow_mul-length c).Else-found-n).inside)
+overflow_mul-length c = omega (arith, few (goal.at.overflow_mul-length c).After-first_task-first, (got (goal.at.overflow_mul-length c).After-active_segments-found c.if-n-eq0.false c.if-found-n.false).len, (got (goal.at.overflow_mul-length c).After-active_segments-found c.if-n-eq0.false c.if-found-n.false).inside)
 
 pub overflow_cast-result : goal.overflow_cast-result
-overflow_cast-result c = omega (arith, near (goal.at.overflow_cast-result c).After-first_task-first, few (goal.at.overflow_cast-result c).After-first_task-first, (got (goal.at.overflow_cast-result c).Else-found-n).start, (got (goal.at.overflow_cast-result c).Else-found-n).inside)
+overflow_cast-result c = omega (arith, near (goal.at.overflow_cast-result c).After-first_task-first, few (goal.at.overflow_cast-result c).After-first_task-first, (got (goal.at.overflow_cast-result c).After-active_segments-found c.if-n-eq0.false c.if-found-n.false).start, (got (goal.at.overflow_cast-result c).After-active_segments-found c.if-n-eq0.false c.if-found-n.false).inside)
 
 pub overflow_cast-result-2 : goal.overflow_cast-result-2
-overflow_cast-result-2 c = omega (arith, few (goal.at.overflow_cast-result-2 c).After-first_task-first, (got (goal.at.overflow_cast-result-2 c).Else-found-n).len, (got (goal.at.overflow_cast-result-2 c).Else-found-n).inside)
+overflow_cast-result-2 c = omega (arith, few (goal.at.overflow_cast-result-2 c).After-first_task-first, (got (goal.at.overflow_cast-result-2 c).After-active_segments-found c.if-n-eq0.false c.if-found-n.false).len, (got (goal.at.overflow_cast-result-2 c).After-active_segments-found c.if-n-eq0.false c.if-found-n.false).inside)
 
 pub returns : goal.returns
 returns c = nth-records _ _ _ c.args.number _ (held (goal.at.returns c).After-active_segments-found) c.first_task-first.result (first-is (goal.at.returns c).After-first_task-first) c.if-n-eq0.false (le-ltb _ _ c.if-found-n.false)
