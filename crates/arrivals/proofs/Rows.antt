@@ -28,6 +28,10 @@ use Rattle.table.proofs.Largests.{largests-long}
 pub lists_length : {s : List ℕ} {list : ℕ} → Lists s list → length (distances_from s list) ≡ listed_from s list
 lists_length {s} {list} here = length-spaced (word 4 s) 4 (listed_from s list) list
 
+-- its number stands before it
+pub lists-inside : {s : List ℕ} {list : ℕ} → Lists s list → (2 ≤ list) × (list ≤ length s)
+lists-inside here = (here.after, omega (arith, here.there))
+
 pub lists-some : {s : List ℕ} {list : ℕ} → Lists s list → 0 < listed_from s list
 lists-some here = omega (arith, lists_length here, here.good.some)
 

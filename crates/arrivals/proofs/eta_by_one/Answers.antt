@@ -57,7 +57,7 @@ overflow_mul-next c =
 pub returns-then-t-next : goal.returns-then-t-next
 returns-then-t-next c =
     let b = (goal.at.returns-then-t-next c).Start in
-    omega (arith, c.requires.3, stops c.requires.0.good (single b) c.as_listed-distance.ensures c.args.from c.args.t c.if-t-next.true)
+    omega (arith, c.requires.3, stops c.requires.0.good (single b) c.as_listed-distance.ensures c.args.from c.args.t (omega (arith, c.if-t-next.true)))
 
 pub overflow_add-next : goal.overflow_add-next
 overflow_add-next c =
@@ -71,7 +71,7 @@ overflow_add-result c = omega (arith, near (goal.at.overflow_add-result c).Start
 pub returns-then-t-next-2 : goal.returns-then-t-next-2
 returns-then-t-next-2 c =
     let b = (goal.at.returns-then-t-next-2 c).Start in
-    let more = counts c.requires.0.good (single b) c.as_listed-distance.ensures c.args.from c.args.t c.if-t-next.false in
+    let more = counts c.requires.0.good (single b) c.as_listed-distance.ensures c.args.from c.args.t (omega (arith, c.if-t-next.false)) in
     let most = stops c.requires.0.good (single b) c.as_listed-distance.ensures (c.args.from + 1) c.args.t (omega (arith, c.if-t-next-2.true)) in
     omega (arith, more, most)
 

@@ -1,10 +1,9 @@
 -- `adds_with` meets its contract. The loop's invariant: a step of i adds up with each shorter than j.
 use Prim.Native.Nat.{ℕ, ◌+◌, ◌≤◌}
-use mathlib.Core.Path.{◌≡◌, sym, subst}
+use mathlib.Core.Path.{◌≡◌}
 use mathlib.Core.List.{List}
-use mathlib.Core.Logic.{⊎_elim}
 use native.Mathlib.Omega.{arith}
-use native.Mathlib.Nat.{eq-or-lt_of_le}
+use borrow.Author.Count.{below_more}
 use Rattle.search.proofs.Choice.{tells-so, tells-not}
 use Rattle.table.specs.Limits.{max_distances, max_distance}
 use Rattle.table.specs.Code.Listed.{distances_from}
@@ -19,7 +18,7 @@ pub as_listed-own-requires : goal.as_listed-own-requires
 as_listed-own-requires c = (c.requires.0, c.requires.1)
 
 pub loop-j-init : goal.loop-j-init
-loop-j-init c = (omega arith, omega arith, λ k l h. absurd (omega arith))
+loop-j-init c = λ k l h. absurd (omega arith)
 
 abbrev ds : (c : After-as_listed) → List ℕ
 ds c = distances_from c.args.s.now c.args.list
@@ -51,19 +50,17 @@ as_listed-requires c = (c.requires.0, omega (arith, c.requires.1))
 pub overflow_add-own : goal.overflow_add-own
 overflow_add-own c = omega (arith, own c, other c, near c c.args.i, near c c.loop-j.j)
 
+-- they come to no more where the test says so
+adds : (c : After-as_listed) → c.as_listed-own.result + c.as_listed.result ≤ c.repeated_to.result → Adds (ds c) c.args.i c.loop-j.j
+adds c h = omega (arith, own c, other c, both c, h)
+
 pub returns-then-repeated_to-own : goal.returns-then-repeated_to-own
-returns-then-repeated_to-own c = tells-not (λ a. omega (arith, own (goal.at.returns-then-repeated_to-own c).After-as_listed, other (goal.at.returns-then-repeated_to-own c).After-as_listed, both (goal.at.returns-then-repeated_to-own c).After-as_listed, c.if-repeated_to-own.true, a.adds c.loop-j.j c.loop-j.invariant.0 (omega arith)))
+returns-then-repeated_to-own c =
+    let l = (goal.at.returns-then-repeated_to-own c).After-as_listed in
+    tells-not (λ a. omega (arith, own l, other l, both l, c.if-repeated_to-own.true, a.adds c.loop-j.j c.loop-j.auto.j (omega (arith, c.loop-j-test.true))))
 
 pub loop-j-preserved : goal.loop-j-preserved
-loop-j-preserved c = let l = c.loop-j in (
-  omega arith,
-  omega arith,
-  λ k low less. ⊎_elim
-      (λ f. let same : k ≡ l.j = omega arith in
-      subst (Adds (ds (goal.at.loop-j-preserved c).After-as_listed) c.args.i) (sym same) (omega (arith, own (goal.at.loop-j-preserved c).After-as_listed, other (goal.at.loop-j-preserved c).After-as_listed, both (goal.at.loop-j-preserved c).After-as_listed, c.if-repeated_to-own.false)))
-      (λ g. l.invariant.2 k low (omega arith))
-      (eq-or-lt_of_le less),
-)
+loop-j-preserved c = below_more _ _ c.loop-j.invariant (λ l. adds (goal.at.loop-j-preserved c).After-as_listed c.if-repeated_to-own.false)
 
 pub returns : goal.returns
-returns c = tells-so (record { adds = λ j low h. c.loop-j.invariant.2 j low (omega arith) })
+returns c = tells-so (record { adds = λ j low h. c.loop-j.invariant j (omega (arith, c.loop-j-test.false)) low })

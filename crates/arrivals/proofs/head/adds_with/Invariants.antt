@@ -9,4 +9,4 @@ abbrev pub Adds : List ℕ → ℕ → ℕ → Type 0
 Adds ds i j = as_listed ds i + as_listed ds j ≤ repeated ds (i + j + 1)
 
 abbrev pub invariant-loop-j : goal.invariant-loop-j
-invariant-loop-j l = (1 ≤ l.j) × (l.j ≤ l.i + 1) × ((k : ℕ) → 1 ≤ k → k < l.j → Adds (distances_from l.s l.list) l.i k)
+invariant-loop-j l = (k : ℕ) → k < l.j → 1 ≤ k → Adds (distances_from l.s l.list) l.i k

@@ -1,24 +1,20 @@
 -- `best_step` meets its contract. The loop's invariant: `best` is a best step of those below j.
 use Prim.Native.Nat.{ℕ, ◌*◌}
-use mathlib.Core.Path.{◌≡◌, ap, sym, ◌∙◌}
+use mathlib.Core.Path.{◌≡◌, ap}
 use mathlib.Core.List.{List}
 use native.Mathlib.Omega.{arith}
-use lib.ListN.{length}
 use Rattle.table.specs.Code.Listed.{distances_from}
 use Rattle.arrivals.specs.Arrivals.{as_listed}
 use Rattle.arrivals.proofs.Heads.{best-on, best-all}
-use Rattle.arrivals.proofs.Rows.{lists_length}
+use Rattle.arrivals.proofs.Rows.{lists_length, lists-inside}
 use Rattle.arrivals.proofs.head.best_step.Goals as goal
-use Rattle.arrivals.proofs.head.best_step.Goals.{At-loop-j, Start}
+use Rattle.arrivals.proofs.head.best_step.Goals.{Start}
 
 abbrev ds : (c : Start) → List ℕ
 ds c = distances_from c.args.s.now c.args.list
 
-listed : (c : At-loop-j) → c.listed_from-listed.result ≡ length ((distances_from c.args.s.now c.args.list))
-listed c = c.listed_from-listed.ensures.0 ∙ sym (lists_length c.requires)
-
 pub listed_from-listed-requires : goal.listed_from-listed-requires
-listed_from-listed-requires c = let h = c.requires in (h.after, omega (arith, h.there))
+listed_from-listed-requires c = lists-inside c.requires
 
 pub loop-j-init : goal.loop-j-init
 loop-j-init c = (
@@ -35,4 +31,4 @@ pub loop-j-preserved : goal.loop-j-preserved
 loop-j-preserved c = (best-on (ds (goal.at.loop-j-preserved c).Start) c.loop-j.j c.loop-j.best c.better-best.result (omega (arith, c.loop-j.invariant.1)) c.loop-j.invariant.0 c.better-best.ensures, omega (arith, c.loop-j.invariant.1), omega arith)
 
 pub returns : goal.returns
-returns c = best-all (ds (goal.at.returns c).Start) c.loop-j.j c.loop-j.best (omega (arith, listed (goal.at.returns c).At-loop-j, c.loop-j.invariant.2)) c.loop-j.invariant.0
+returns c = best-all (ds (goal.at.returns c).Start) c.loop-j.j c.loop-j.best (omega (arith, c.listed_from-listed.ensures.0, lists_length c.requires, c.loop-j.invariant.2, c.loop-j-test.false)) c.loop-j.invariant.0

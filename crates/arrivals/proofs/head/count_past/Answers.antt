@@ -15,7 +15,7 @@ use Rattle.arrivals.specs.Code.Sums.{head_of, SumsAt, FirstFrom}
 use Rattle.arrivals.proofs.Lists.{rising, listed-near}
 use Rattle.arrivals.proofs.Counts.{η-near, η-counts, η-stops}
 use Rattle.arrivals.proofs.Heads.{sums_none, sums-here, best-some, head, head_few, spans-within, η-past}
-use Rattle.arrivals.proofs.Rows.{lists_length}
+use Rattle.arrivals.proofs.Rows.{lists_length, lists-inside}
 use Rattle.arrivals.proofs.head.count_past.Goals as goal
 use Rattle.arrivals.proofs.head.count_past.Goals.{After-head_of-head, After-loop-m, At-loop-m}
 
@@ -101,7 +101,7 @@ pub find_useful-n-requires : goal.find_useful-n-requires
 find_useful-n-requires c = (c.requires.0, sums_none _ _ refl refl, refl)
 
 pub listed_from-m-requires : goal.listed_from-m-requires
-listed_from-m-requires c = let h = c.requires.0 in (h.after, omega (arith, h.there))
+listed_from-m-requires c = lists-inside c.requires.0
 
 pub overflow_add-end : goal.overflow_add-end
 overflow_add-end c = omega (arith, few (goal.at.overflow_add-end c).After-head_of-head)

@@ -11,7 +11,7 @@ use Rattle.table.specs.Code.Listed.{listed_from, distances_from}
 use Rattle.arrivals.specs.Arrivals.{as_listed}
 use Rattle.arrivals.specs.Code.Sums.{SumsAt, GreatestTo, UsefulIn}
 use Rattle.arrivals.proofs.Heads.{inside, sums_first, sums_next}
-use Rattle.arrivals.proofs.Rows.{lists_length, lists-some}
+use Rattle.arrivals.proofs.Rows.{lists_length, lists-some, lists-inside}
 use Rattle.arrivals.proofs.Useful.{useful_first, useful_next, sum_is}
 use Rattle.arrivals.proofs.head.find_useful.Goals as goal
 use Rattle.arrivals.proofs.head.find_useful.Goals.{After-below, At-loop-m, Start}
@@ -41,7 +41,7 @@ useful : (c : After-below) → UsefulIn ((distances_from c.args.s.now c.args.lis
 useful c = useful_next ((distances_from c.args.s.now c.args.list)) c.loop-m.m c.loop-m.n (c.loop-m.n + c.below.result) (shortest c) c.loop-m.steps c.loop-m.invariant.0 (more c) c.requires.0.good.few c.loop-m.invariant.3 (tried c) (found-is c)
 
 pub listed_from-listed-requires : goal.listed_from-listed-requires
-listed_from-listed-requires c = let h = c.requires.0 in (h.after, omega (arith, h.there))
+listed_from-listed-requires c = lists-inside c.requires.0
 
 pub as_listed-requires : goal.as_listed-requires
 as_listed-requires c = (c.requires.0, lists-some c.requires.0)

@@ -8,7 +8,7 @@ use Rattle.table.specs.Code.Listed.{listed_from, distances_from}
 use Rattle.arrivals.specs.Arrivals.{as_listed, repeated}
 use Rattle.arrivals.proofs.Lists.{rising, repeated_in_first, repeated_in_second}
 use Rattle.arrivals.proofs.Repeating.{repeated-bounded}
-use Rattle.arrivals.proofs.Rows.{lists_length}
+use Rattle.arrivals.proofs.Rows.{lists_length, lists-inside}
 use Rattle.arrivals.proofs.head.repeated_to.Goals as goal
 use Rattle.arrivals.proofs.head.repeated_to.Goals.{After-as_listed-3, Start}
 
@@ -19,7 +19,7 @@ long : (c : Start) → length (ds c) ≡ listed_from c.args.s.now c.args.list
 long c = lists_length c.requires.0
 
 pub listed_from-listed-requires : goal.listed_from-listed-requires
-listed_from-listed-requires c = let h = c.requires.0 in (h.after, omega (arith, h.there))
+listed_from-listed-requires c = lists-inside c.requires.0
 
 pub as_listed-requires : goal.as_listed-requires
 as_listed-requires c = (c.requires.0, omega (arith, c.listed_from-listed.ensures.0, c.if-m-listed.true))

@@ -7,6 +7,7 @@ use Rattle.table.specs.Code.Listed.{distances_from}
 use Rattle.arrivals.specs.Arrivals.{δ}
 use Rattle.arrivals.specs.Code.Sums.{SumsAt}
 use Rattle.arrivals.proofs.Heads.{inside, sums_none}
+use Rattle.arrivals.proofs.Rows.{lists-inside}
 use Rattle.arrivals.proofs.head.sum_past.Goals as goal
 use Rattle.arrivals.proofs.head.sum_past.Goals.{Start}
 
@@ -17,7 +18,7 @@ pub find_useful-n-requires : goal.find_useful-n-requires
 find_useful-n-requires c = (c.requires.0, sums_none _ _ refl refl, refl)
 
 pub listed_from-at-requires : goal.listed_from-at-requires
-listed_from-at-requires c = let h = c.requires.0 in (h.after, omega (arith, h.there))
+listed_from-at-requires c = lists-inside c.requires.0
 
 pub loop-at-init : goal.loop-at-init
 loop-at-init c = (omega (arith, c.listed_from-at.ensures.0), omega (arith, c.listed_from-at.ensures.0), subst (λ n. SumsAt (ds (goal.at.loop-at-init c).Start) n c.find_useful-n.new.sums) (sym c.listed_from-at.ensures.0) c.find_useful-n.ensures.0)

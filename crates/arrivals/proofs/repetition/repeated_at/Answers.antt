@@ -10,7 +10,7 @@ use Rattle.arrivals.specs.Arrivals.{as_listed, repeated}
 use Rattle.arrivals.specs.Code.Bounds.{farthest}
 use Rattle.arrivals.proofs.Lists.{rising, repeated-after, read-lists}
 use Rattle.arrivals.proofs.Repeating.{repeated-bounded}
-use Rattle.arrivals.proofs.Rows.{lists_length}
+use Rattle.arrivals.proofs.Rows.{lists_length, lists-inside}
 use Rattle.arrivals.proofs.repetition.repeated_at.Goals as goal
 use Rattle.arrivals.proofs.repetition.repeated_at.Goals.{After-listed_from, Start}
 
@@ -32,7 +32,7 @@ long : (c : After-listed_from) → c.listed_from.result ≡ length (distances_fr
 long c = c.listed_from.ensures.0 ∙ sym (lists_length c.requires.0)
 
 pub listed_from-requires : goal.listed_from-requires
-listed_from-requires c = let h = c.requires.0 in (h.after, omega (arith, h.there))
+listed_from-requires c = lists-inside c.requires.0
 
 pub as_listed-requires : goal.as_listed-requires
 as_listed-requires c = (c.requires.0, omega (arith, c.listed_from.ensures.0))

@@ -13,7 +13,7 @@ use Rattle.arrivals.proofs.Lists.{last-above}
 use Rattle.arrivals.proofs.Rules.{count-near}
 use Rattle.arrivals.proofs.Repeating.{repeated-lawful}
 use Rattle.arrivals.proofs.Remainders.{lists-below, count-whole}
-use Rattle.arrivals.proofs.Rows.{lists_length}
+use Rattle.arrivals.proofs.Rows.{lists_length, lists-inside}
 use Rattle.arrivals.proofs.repetition.repeated_count.Goals as goal
 use Rattle.arrivals.proofs.repetition.repeated_count.Goals.{After-listed_from-listed, Start}
 
@@ -47,13 +47,19 @@ listed-is : (c : After-listed_from-listed) → c.listed_from-listed.result ≡ l
 listed-is c = c.listed_from-listed.ensures.0 ∙ sym (lists_length c.requires.0)
 
 pub listed_from-listed-requires : goal.listed_from-listed-requires
-listed_from-listed-requires c = let h = c.requires.0 in (h.after, omega (arith, h.there))
+listed_from-listed-requires c = lists-inside c.requires.0
 
 pub as_listed-last-requires : goal.as_listed-last-requires
 as_listed-last-requires c = (c.requires.0, omega (arith, c.listed_from-listed.ensures.0))
 
 pub overflow_sub-lists : goal.overflow_sub-lists
 overflow_sub-lists c = omega (arith, c.requires.1)
+
+-- the remainder is at least 1
+pub within_list-requires : goal.within_list-requires
+within_list-requires c =
+    let l = (goal.at.within_list-requires c).After-listed_from-listed in
+    (c.requires.0, omega (arith, ticks-below c.requires.0.good c.requires.1 (listed-is l) c.as_listed-last.ensures))
 
 pub nonzero_div-lists : goal.nonzero_div-lists
 nonzero_div-lists c =
@@ -76,12 +82,6 @@ overflow_sub-t c =
     let l = (goal.at.overflow_sub-t c).After-listed_from-listed in
     omega (arith, ticks-below c.requires.0.good c.requires.1 (listed-is l) c.as_listed-last.ensures)
 
--- the remainder is at least 1
-pub within_list-requires : goal.within_list-requires
-within_list-requires c =
-    let l = (goal.at.within_list-requires c).After-listed_from-listed in
-    (c.requires.0, omega (arith, ticks-below c.requires.0.good c.requires.1 (listed-is l) c.as_listed-last.ensures))
-
 pub overflow_add-result : goal.overflow_add-result
 overflow_add-result c =
     let l = (goal.at.overflow_add-result c).After-listed_from-listed in
@@ -91,4 +91,4 @@ overflow_add-result c =
 pub returns : goal.returns
 returns c =
     let l = (goal.at.returns c).After-listed_from-listed in
-    all c.requires.0.good c.requires.1 (listed-is l) c.as_listed-last.ensures (sym (lists_length c.requires.0)) c.within_list.ensures
+    omega (arith, all c.requires.0.good c.requires.1 (listed-is l) c.as_listed-last.ensures (sym (lists_length c.requires.0)) c.within_list.ensures)

@@ -9,7 +9,7 @@ use Rattle.search.specs.Choice.{◌when◌else◌}
 use Rattle.table.specs.Code.Listed.{listed_from, distances_from}
 use Rattle.arrivals.specs.Code.WithinList.{within_list}
 use Rattle.arrivals.proofs.Remainders.{within_le, within_first, within_on}
-use Rattle.arrivals.proofs.Rows.{lists_length}
+use Rattle.arrivals.proofs.Rows.{lists_length, lists-inside}
 use Rattle.arrivals.proofs.repetition.within_list.Goals as goal
 use Rattle.arrivals.proofs.repetition.within_list.Goals.{After-below-n, Start}
 
@@ -18,7 +18,7 @@ abbrev ds : (c : Start) → List ℕ
 ds c = distances_from c.args.s.now c.args.list
 
 pub listed_from-listed-requires : goal.listed_from-listed-requires
-listed_from-listed-requires c = let h = c.requires.0 in (h.after, omega (arith, h.there))
+listed_from-listed-requires c = lists-inside c.requires.0
 
 pub loop-j-init : goal.loop-j-init
 loop-j-init c = (omega (arith, within_first c.requires.0.good c.requires.1), omega arith, omega (arith, lists_length c.requires.0, c.requires.0.good.some))
