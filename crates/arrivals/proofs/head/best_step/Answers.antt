@@ -28,7 +28,11 @@ better-best-requires c = let b = c.loop-j.invariant.0 in
     (c.requires, b.low, omega (arith, b.high, c.listed_from-listed.ensures.0), omega (arith, c.loop-j.invariant.1), omega (arith, c.listed_from-listed.ensures.0))
 
 pub loop-j-preserved : goal.loop-j-preserved
-loop-j-preserved c = (best-on (ds (goal.at.loop-j-preserved c).Start) c.loop-j.j c.loop-j.best c.better-best.result (omega (arith, c.loop-j.invariant.1)) c.loop-j.invariant.0 c.better-best.ensures, omega (arith, c.loop-j.invariant.1), omega arith)
+loop-j-preserved c =
+    let b = (goal.at.loop-j-preserved c).Start in
+    (best-on (ds b) c.loop-j.j c.loop-j.best c.better-best.result (omega (arith, c.loop-j.invariant.1)) c.loop-j.invariant.0 c.better-best.ensures, omega (arith, c.loop-j.invariant.1), omega arith)
 
 pub returns : goal.returns
-returns c = best-all (ds (goal.at.returns c).Start) c.loop-j.j c.loop-j.best (omega (arith, c.listed_from-listed.ensures.0, lists_length c.requires, c.loop-j.invariant.2, c.loop-j-test.false)) c.loop-j.invariant.0
+returns c =
+    let b = (goal.at.returns c).Start in
+    best-all (ds b) c.loop-j.j c.loop-j.best (omega (arith, c.listed_from-listed.ensures.0, lists_length c.requires, c.loop-j.invariant.2, c.loop-j-test.false)) c.loop-j.invariant.0

@@ -186,4 +186,6 @@ overflow_add-result c =
     omega (arith, all, η-near c.requires.0.good c.args.t, c.requires.2)
 
 pub returns : goal.returns
-returns c = sym (counted (ended (goal.at.returns c).After-loop-m) c.as_listed-distance.ensures c.saturating_sub.ensures c.first_from-last.result c.first_from-last.ensures)
+returns c =
+    let b = (goal.at.returns c).After-loop-m in
+    sym (counted (ended b) c.as_listed-distance.ensures c.saturating_sub.ensures c.first_from-last.result c.first_from-last.ensures)

@@ -47,13 +47,17 @@ pub as_listed-requires : goal.as_listed-requires
 as_listed-requires c = (c.requires.0, lists-some c.requires.0)
 
 pub loop-m-init : goal.loop-m-init
-loop-m-init c = (omega arith, omega (arith, c.listed_from-listed.ensures.0, lists-some c.requires.0), sums_first (ds (goal.at.loop-m-init c).Start) c.args.sums.now c.as_listed.result c.requires.0.good.some c.requires.1 c.as_listed.ensures, useful_first (ds (goal.at.loop-m-init c).Start) c.args.steps.now c.requires.2)
+loop-m-init c =
+    let b = (goal.at.loop-m-init c).Start in
+    (omega arith, omega (arith, c.listed_from-listed.ensures.0, lists-some c.requires.0), sums_first (ds b) c.args.sums.now c.as_listed.result c.requires.0.good.some c.requires.1 c.as_listed.ensures, useful_first (ds b) c.args.steps.now c.requires.2)
 
 pub overflow_sub-m : goal.overflow_sub-m
 overflow_sub-m c = omega (arith, c.loop-m.invariant.0)
 
 pub greatest_to-shorter-requires : goal.greatest_to-shorter-requires
-greatest_to-shorter-requires c = (c.requires.0, omega arith, omega (arith, listed-is (goal.at.greatest_to-shorter-requires c).At-loop-m, lists_length c.requires.0, c.loop-m.invariant.1), omega (arith, few (goal.at.greatest_to-shorter-requires c).At-loop-m), c.loop-m.invariant.2)
+greatest_to-shorter-requires c =
+    let b = (goal.at.greatest_to-shorter-requires c).At-loop-m in
+    (c.requires.0, omega arith, omega (arith, listed-is b, lists_length c.requires.0, c.loop-m.invariant.1), omega (arith, few b), c.loop-m.invariant.2)
 
 pub as_listed-own-requires : goal.as_listed-own-requires
 as_listed-own-requires c = (c.requires.0, omega (arith, listed-is (goal.at.as_listed-own-requires c).At-loop-m, lists_length c.requires.0, c.loop-m-test.true))
@@ -62,7 +66,9 @@ pub offset_bounds-steps-n : goal.offset_bounds-steps-n
 offset_bounds-steps-n c = omega (arith, c.loop-m.invariant.3.few, few (goal.at.offset_bounds-steps-n c).At-loop-m)
 
 pub bounds-steps-n : goal.bounds-steps-n
-bounds-steps-n c = omega (arith, c.loop-m.invariant.3.few, listed-is (goal.at.bounds-steps-n c).At-loop-m, c.requires.0.good.few, c.loop-m-test.true, c.loop-m.invariant.0)
+bounds-steps-n c =
+    let b = (goal.at.bounds-steps-n c).At-loop-m in
+    omega (arith, c.loop-m.invariant.3.few, listed-is b, c.requires.0.good.few, c.loop-m-test.true, c.loop-m.invariant.0)
 
 pub overflow_add-n : goal.overflow_add-n
 overflow_add-n c = omega (arith, (useful c).few, few (goal.at.overflow_add-n c).At-loop-m)

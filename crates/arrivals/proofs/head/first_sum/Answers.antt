@@ -25,7 +25,9 @@ pub bounds-sums-m : goal.bounds-sums-m
 bounds-sums-m c = inside c.loop-m.m
 
 pub returns-then-t-sums : goal.returns-then-t-sums
-returns-then-t-sums c = (record { high = c.loop-m.invariant.0; before = c.loop-m.invariant.2; ends = inr (omega (arith, c.if-t-sums.true, sums-here (ds (goal.at.returns-then-t-sums c).Start) c.loop-m.m c.loop-m.sums c.loop-m.invariant.1)) }, c.loop-m.invariant.1)
+returns-then-t-sums c =
+    let b = (goal.at.returns-then-t-sums c).Start in
+    (record { high = c.loop-m.invariant.0; before = c.loop-m.invariant.2; ends = inr (omega (arith, c.if-t-sums.true, sums-here (ds b) c.loop-m.m c.loop-m.sums c.loop-m.invariant.1)) }, c.loop-m.invariant.1)
 
 pub overflow_add-m : goal.overflow_add-m
 overflow_add-m c = omega (arith, c.requires.1)

@@ -25,7 +25,9 @@ pub as_listed-requires : goal.as_listed-requires
 as_listed-requires c = (c.requires.0, omega (arith, c.listed_from-listed.ensures.0, c.if-m-listed.true))
 
 pub returns-then-m-listed : goal.returns-then-m-listed
-returns-then-m-listed c = c.as_listed.ensures ∙ sym (repeated_in_first (rising c.requires.0.good) c.args.m (omega (arith, long (goal.at.returns-then-m-listed c).Start, c.listed_from-listed.ensures.0, c.if-m-listed.true)))
+returns-then-m-listed c =
+    let b = (goal.at.returns-then-m-listed c).Start in
+    c.as_listed.ensures ∙ sym (repeated_in_first (rising c.requires.0.good) c.args.m (omega (arith, long b, c.listed_from-listed.ensures.0, c.if-m-listed.true)))
 
 pub as_listed-requires-2 : goal.as_listed-requires-2
 as_listed-requires-2 c = (c.requires.0, omega (arith, c.listed_from-listed.ensures.0))
@@ -45,7 +47,9 @@ all c =
     ∙ sym (repeated_in_second (rising c.requires.0.good) c.args.m (omega (arith, listed, c.if-m-listed.false)) (omega (arith, c.requires.1, lists_length c.requires.0)))
 
 pub overflow_add-result : goal.overflow_add-result
-overflow_add-result c = omega (arith, all c, repeated-bounded (rising c.requires.0.good) (c.args.m + 1), c.requires.1, long (goal.at.overflow_add-result c).Start, c.requires.0.good.few)
+overflow_add-result c =
+    let b = (goal.at.overflow_add-result c).Start in
+    omega (arith, all c, repeated-bounded (rising c.requires.0.good) (c.args.m + 1), c.requires.1, long b, c.requires.0.good.few)
 
 pub returns : goal.returns
 returns c = all c

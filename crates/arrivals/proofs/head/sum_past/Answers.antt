@@ -21,7 +21,9 @@ pub listed_from-at-requires : goal.listed_from-at-requires
 listed_from-at-requires c = lists-inside c.requires.0
 
 pub loop-at-init : goal.loop-at-init
-loop-at-init c = (omega (arith, c.listed_from-at.ensures.0), omega (arith, c.listed_from-at.ensures.0), subst (λ n. SumsAt (ds (goal.at.loop-at-init c).Start) n c.find_useful-n.new.sums) (sym c.listed_from-at.ensures.0) c.find_useful-n.ensures.0)
+loop-at-init c =
+    let b = (goal.at.loop-at-init c).Start in
+    (omega (arith, c.listed_from-at.ensures.0), omega (arith, c.listed_from-at.ensures.0), subst (λ n. SumsAt (ds b) n c.find_useful-n.new.sums) (sym c.listed_from-at.ensures.0) c.find_useful-n.ensures.0)
 
 pub overflow_add-at : goal.overflow_add-at
 overflow_add-at c = omega (arith, c.requires.2, c.loop-at-test.true)

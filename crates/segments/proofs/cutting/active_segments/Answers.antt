@@ -80,7 +80,9 @@ loop-i-preserved-then-priority_at-floor c = let l = c.loop-i in
     cutting_low _ _ _ _ _ _ l.out l.stretch l.i l.invariant (within (goal.at.loop-i-preserved-then-priority_at-floor c).In-loop-i) (omega (arith, c.priority_at.ensures.0, c.if-priority_at-floor.true))
 
 pub overflow_add-i-else-priority_at-floor : goal.overflow_add-i-else-priority_at-floor
-overflow_add-i-else-priority_at-floor c = omega (arith, within (goal.at.overflow_add-i-else-priority_at-floor c).In-loop-i, few (goal.at.overflow_add-i-else-priority_at-floor c).In-loop-i)
+overflow_add-i-else-priority_at-floor c =
+    let b = (goal.at.overflow_add-i-else-priority_at-floor c).In-loop-i in
+    omega (arith, within b, few b)
 
 pub ahead-more-requires : goal.ahead-more-requires
 unfolding row_at
@@ -125,10 +127,16 @@ pub overflow_add-out-else-priority_at-floor-2 : goal.overflow_add-out-else-prior
 overflow_add-out-else-priority_at-floor-2 c = omega (arith, room (goal.at.overflow_add-out-else-priority_at-floor-2 c).In-loop-i)
 
 pub overflow_add-i-else-priority_at-floor-2 : goal.overflow_add-i-else-priority_at-floor-2
-overflow_add-i-else-priority_at-floor-2 c = omega (arith, inside (goal.at.overflow_add-i-else-priority_at-floor-2 c).After-ahead-more, few (goal.at.overflow_add-i-else-priority_at-floor-2 c).In-loop-i)
+overflow_add-i-else-priority_at-floor-2 c =
+    let b = (goal.at.overflow_add-i-else-priority_at-floor-2 c).After-ahead-more in
+    let a = (goal.at.overflow_add-i-else-priority_at-floor-2 c).In-loop-i in
+    omega (arith, inside b, few a)
 
 pub overflow_add-i-else-priority_at-floor-3 : goal.overflow_add-i-else-priority_at-floor-3
-overflow_add-i-else-priority_at-floor-3 c = omega (arith, inside (goal.at.overflow_add-i-else-priority_at-floor-3 c).After-ahead-more, few (goal.at.overflow_add-i-else-priority_at-floor-3 c).In-loop-i)
+overflow_add-i-else-priority_at-floor-3 c =
+    let b = (goal.at.overflow_add-i-else-priority_at-floor-3 c).After-ahead-more in
+    let a = (goal.at.overflow_add-i-else-priority_at-floor-3 c).In-loop-i in
+    omega (arith, inside b, few a)
 
 pub loop-i-smaller : goal.loop-i-smaller
 unfolding row_at

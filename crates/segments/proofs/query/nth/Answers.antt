@@ -57,7 +57,9 @@ active_segments-found-requires c = let b = row_at c.args.s.now c.place-b.result 
     (stands c.requires.0 c.place-at.ensures c.requires.1, omega (arith, c.floor_of.ensures, c.tail_of.ensures, floor_tail b))
 
 pub returns-then-n-eq0 : goal.returns-then-n-eq0
-returns-then-n-eq0 c = nth-none _ _ _ c.args.number _ (held (goal.at.returns-then-n-eq0 c).After-active_segments-found) (⊎_elim (λ e. inl e) (λ w. inr (lt-ltb _ _ w.1)) c.then-n-eq0.either)
+returns-then-n-eq0 c =
+    let b = (goal.at.returns-then-n-eq0 c).After-active_segments-found in
+    nth-none _ _ _ c.args.number _ (held b) (⊎_elim (λ e. inl e) (λ w. inr (lt-ltb _ _ w.1)) c.then-n-eq0.either)
 
 pub first_task-first-requires : goal.first_task-first-requires
 first_task-first-requires c = omega (arith, (stands c.requires.0 c.place-at.ensures c.requires.1).there)
@@ -66,22 +68,43 @@ pub bounds-found-n : goal.bounds-found-n
 bounds-found-n c = omega (arith, few c, (got (goal.at.bounds-found-n c).After-active_segments-found c.if-n-eq0.false c.if-found-n.false).few, c.if-n-eq0.false)
 
 pub overflow_mul-offset : goal.overflow_mul-offset
-overflow_mul-offset c = omega (arith, few (goal.at.overflow_mul-offset c).After-first_task-first, (got (goal.at.overflow_mul-offset c).After-active_segments-found c.if-n-eq0.false c.if-found-n.false).start, (got (goal.at.overflow_mul-offset c).After-active_segments-found c.if-n-eq0.false c.if-found-n.false).inside)
+overflow_mul-offset c =
+    let b = (goal.at.overflow_mul-offset c).After-first_task-first in
+    let a = (goal.at.overflow_mul-offset c).After-active_segments-found in
+    omega (arith, few b, (got a c.if-n-eq0.false c.if-found-n.false).start, (got a c.if-n-eq0.false c.if-found-n.false).inside)
 
 pub overflow_add-offset : goal.overflow_add-offset
-overflow_add-offset c = omega (arith, near (goal.at.overflow_add-offset c).After-first_task-first, few (goal.at.overflow_add-offset c).After-first_task-first, (got (goal.at.overflow_add-offset c).After-active_segments-found c.if-n-eq0.false c.if-found-n.false).start, (got (goal.at.overflow_add-offset c).After-active_segments-found c.if-n-eq0.false c.if-found-n.false).inside)
+overflow_add-offset c =
+    let b = (goal.at.overflow_add-offset c).After-first_task-first in
+    let a = (goal.at.overflow_add-offset c).After-active_segments-found in
+    omega (arith, near b, few b, (got a c.if-n-eq0.false c.if-found-n.false).start, (got a c.if-n-eq0.false c.if-found-n.false).inside)
 
 pub bounds-found-n-2 : goal.bounds-found-n-2
-bounds-found-n-2 c = omega (arith, few (goal.at.bounds-found-n-2 c).After-first_task-first, (got (goal.at.bounds-found-n-2 c).After-active_segments-found c.if-n-eq0.false c.if-found-n.false).few, c.if-n-eq0.false)
+bounds-found-n-2 c =
+    let b = (goal.at.bounds-found-n-2 c).After-first_task-first in
+    let a = (goal.at.bounds-found-n-2 c).After-active_segments-found in
+    omega (arith, few b, (got a c.if-n-eq0.false c.if-found-n.false).few, c.if-n-eq0.false)
 
 pub overflow_mul-length : goal.overflow_mul-length
-overflow_mul-length c = omega (arith, few (goal.at.overflow_mul-length c).After-first_task-first, (got (goal.at.overflow_mul-length c).After-active_segments-found c.if-n-eq0.false c.if-found-n.false).len, (got (goal.at.overflow_mul-length c).After-active_segments-found c.if-n-eq0.false c.if-found-n.false).inside)
+overflow_mul-length c =
+    let b = (goal.at.overflow_mul-length c).After-first_task-first in
+    let a = (goal.at.overflow_mul-length c).After-active_segments-found in
+    omega (arith, few b, (got a c.if-n-eq0.false c.if-found-n.false).len, (got a c.if-n-eq0.false c.if-found-n.false).inside)
 
 pub overflow_cast-result : goal.overflow_cast-result
-overflow_cast-result c = omega (arith, near (goal.at.overflow_cast-result c).After-first_task-first, few (goal.at.overflow_cast-result c).After-first_task-first, (got (goal.at.overflow_cast-result c).After-active_segments-found c.if-n-eq0.false c.if-found-n.false).start, (got (goal.at.overflow_cast-result c).After-active_segments-found c.if-n-eq0.false c.if-found-n.false).inside)
+overflow_cast-result c =
+    let b = (goal.at.overflow_cast-result c).After-first_task-first in
+    let a = (goal.at.overflow_cast-result c).After-active_segments-found in
+    omega (arith, near b, few b, (got a c.if-n-eq0.false c.if-found-n.false).start, (got a c.if-n-eq0.false c.if-found-n.false).inside)
 
 pub overflow_cast-result-2 : goal.overflow_cast-result-2
-overflow_cast-result-2 c = omega (arith, few (goal.at.overflow_cast-result-2 c).After-first_task-first, (got (goal.at.overflow_cast-result-2 c).After-active_segments-found c.if-n-eq0.false c.if-found-n.false).len, (got (goal.at.overflow_cast-result-2 c).After-active_segments-found c.if-n-eq0.false c.if-found-n.false).inside)
+overflow_cast-result-2 c =
+    let b = (goal.at.overflow_cast-result-2 c).After-first_task-first in
+    let a = (goal.at.overflow_cast-result-2 c).After-active_segments-found in
+    omega (arith, few b, (got a c.if-n-eq0.false c.if-found-n.false).len, (got a c.if-n-eq0.false c.if-found-n.false).inside)
 
 pub returns : goal.returns
-returns c = nth-records _ _ _ c.args.number _ (held (goal.at.returns c).After-active_segments-found) c.first_task-first.result (first-is (goal.at.returns c).After-first_task-first) c.if-n-eq0.false (le-ltb _ _ c.if-found-n.false)
+returns c =
+    let b = (goal.at.returns c).After-active_segments-found in
+    let a = (goal.at.returns c).After-first_task-first in
+    nth-records _ _ _ c.args.number _ (held b) c.first_task-first.result (first-is a) c.if-n-eq0.false (le-ltb _ _ c.if-found-n.false)
