@@ -1,6 +1,6 @@
 -- Why a cut is right: none of the first n kept combinations weighs less than the floor d, so where the room weighs too little for
 -- so many uses there are none. Assumes nothing.
-use Prim.Native.Nat.{ℕ, suc, ◌+◌, ◌-◌, ◌*◌, ◌/◌, ◌≤◌, ◌<◌}
+use Prim.Native.Nat.{ℕ, suc, ◌+◌, ◌-◌, ◌*◌, ◌/◌, ◌≤◌, ◌<◌, min}
 use mathlib.Core.Path.{◌≡◌, ap}
 use mathlib.Core.List.{List}
 use mathlib.Core.Logic.{⊎_elim}
@@ -53,15 +53,16 @@ module _ (kept shares : List ℕ) (n v d : ℕ) (f : Floor kept shares n v d) (r
       omega (arith, a, b)
 
 -- a lower ceiling: d uses for each use weigh no more than the room
-pub ceiling-low : {kept shares : List ℕ} {n v d r s all : ℕ} {room : ℕ → ℕ} → Floor kept shares n v d → all ≡ weight shares v room → 0 < d
-    → s ≡ all / d → s ≤ r → Lowers kept n room r s
-ceiling-low {kept} {shares} {n} {v} {d} {r} {s} {all} {room} f e some q l = record {
+pub ceiling-low : {kept shares : List ℕ} {n v d r all : ℕ} {room : ℕ → ℕ} → Floor kept shares n v d → all ≡ weight shares v room → 0 < d
+    → Lowers kept n room r (min r (all / d))
+ceiling-low {kept} {shares} {n} {v} {d} {r} {all} {room} f e some = record {
   lower = λ limit c. record {
     few = omega (arith, c.few);
     bound = λ k m h.
         let w = weighs_all kept shares n v d f room h.uses h.packed in
         let t : k * d ≤ all = omega (arith, ap (λ y. d * y) h.total) in
-        rw q ((le-div_iff_mul-le some).1 t);
+        let q : k ≤ all / d = (le-div_iff_mul-le some).1 t in
+        omega (arith, c.bound k m h);
   };
 }
 

@@ -25,7 +25,7 @@ ghost use Rattle.search.specs.Choice.{Tells};
 ghost use Rattle.table.specs.Limits.{max_overloads};
 
 pub use masks::has;
-use table::{Table, u32_from_u8};
+use table::Table;
 
 // The masks of as many bits as there may be active segments.
 pub const COMBINATIONS: usize = 1 << Table::OVERLOADS;
@@ -42,10 +42,8 @@ fn total(room: &[u8; Table::OVERLOADS]) -> u32
     ensures { (result ≡ sum_to max_overloads (capacity room.now)) × (result ≤ max_room) }
 {
     let mut all: u32 = 0;
-    let mut i: usize = 0;
-    while i < Table::OVERLOADS {
-        all += u32_from_u8(room[i]);
-        i += 1;
+    for r in room {
+        all += u32::from(*r);
     }
     all
 }
@@ -70,8 +68,7 @@ fn lower_ceiling(
     if d == 0 {
         return r;
     }
-    let most = all / d;
-    if most < r { most } else { r }
+    r.min(all / d)
 }
 
 // The linear bound: no packing of the kept combinations that has up to `limit` uses has more.
@@ -87,10 +84,8 @@ fn ceiling(
     ensures { Ceiling kept.now count (capacity room.now) limit result }
 {
     let mut r = limit;
-    let mut v: usize = 0;
-    while v < used {
+    for v in 0..used {
         r = lower_ceiling(kept, count, shares, v, room, r);
-        v += 1;
     }
     r
 }
@@ -140,8 +135,7 @@ fn lower_choices(
     if d == w {
         return x;
     }
-    let y = (all - need * d) / (w - d) + 1;
-    if y < x { y } else { x }
+    x.min((all - need * d) / (w - d) + 1)
 }
 
 // For what is wanted: one more than the most uses of the kept combination `last` that nothing rules out, 0 if there is no room for
@@ -158,10 +152,8 @@ fn choices(
 {
     let last = wanted.last;
     let mut x = masks::fitting(room, kept[last], wanted.need) + 1;
-    let mut v: usize = 0;
-    while v < used {
+    for v in 0..used {
         x = lower_choices(kept, shares, v, wanted, room, x);
-        v += 1;
     }
     x
 }
@@ -186,18 +178,8 @@ fn has_room(
         return false;
     }
     let last = n - 1;
-    let mut x = choices(
-        kept,
-        shares,
-        used,
-        Wanted {
-            last: last,
-            need: need,
-        },
-        &room,
-    );
-    while 0 < x {
-        let uses = x - 1;
+    let x = choices(kept, shares, used, Wanted { last, need }, &room);
+    for uses in (0..x).rev() {
         if has_room(
             kept,
             shares,
@@ -208,7 +190,6 @@ fn has_room(
         ) {
             return true;
         }
-        x -= 1;
     }
     false
 }
@@ -245,22 +226,13 @@ fn first_try(
 {
     let mut left = *room;
     let mut found: u32 = 0;
-    let mut n = count;
-    while 0 < n {
-        n -= 1;
+    for n in (0..count).rev() {
         let m = kept[n];
         let uses = masks::fitting(&left, m, limit - found);
         left = masks::spend(&left, m, uses);
         found += uses;
     }
     found
-}
-
-// The smaller of two numbers.
-fn smaller(a: u32, b: u32) -> u32
-    ensures { result ≡ min a b }
-{
-    if a < b { a } else { b }
 }
 
 // The most uses any packing has of the combinations that `bad` flags with 1, with the capacities `room`, but no more than `enough`. The
@@ -270,7 +242,7 @@ pub fn uses_up_to(bad: &[u8; COMBINATIONS], room: &[u8; Table::OVERLOADS], enoug
 {
     let mut kept = [0usize; COMBINATIONS];
     let count = masks::minimal(bad, &mut kept);
-    let limit = smaller(enough, total(room));
+    let limit = enough.min(total(room));
     if first_try(&kept, count, room, limit) == limit {
         return limit;
     }

@@ -6,7 +6,7 @@ ghost use Rattle.packing.specs.Code.Engine.{kept_part, Kept, Fitting, max_room};
 ghost use Rattle.table.specs.Limits.{max_overloads};
 
 use crate::COMBINATIONS;
-use table::{Table, u32_from_u8};
+use table::Table;
 
 // 1 if the active segment i is in the combination m, else 0.
 pub fn has(m: usize, i: usize) -> u8
@@ -21,10 +21,8 @@ pub(crate) fn bits(m: usize) -> [u8; Table::OVERLOADS]
     ensures { (i : ℕ) → i < max_overloads → get_or result i 0 ≡ bit i m }
 {
     let mut out = [0u8; Table::OVERLOADS];
-    let mut i: usize = 0;
-    while i < Table::OVERLOADS {
+    for i in 0..Table::OVERLOADS {
         out[i] = has(m, i);
-        i += 1;
     }
     out
 }
@@ -37,8 +35,7 @@ fn lesser(room: &[u8; Table::OVERLOADS], m: usize, i: usize, x: u32) -> u32
     if has(m, i) == 0 {
         return x;
     }
-    let most = u32_from_u8(room[i]);
-    if most < x { most } else { x }
+    x.min(u32::from(room[i]))
 }
 
 // How often m can be used at most, up to `need` times.
@@ -46,10 +43,8 @@ pub(crate) fn fitting(room: &[u8; Table::OVERLOADS], m: usize, need: u32) -> u32
     ensures { Fitting m (capacity room.now) need max_overloads result }
 {
     let mut x = need;
-    let mut i: usize = 0;
-    while i < Table::OVERLOADS {
+    for i in 0..Table::OVERLOADS {
         x = lesser(room, m, i, x);
-        i += 1;
     }
     x
 }
@@ -60,10 +55,8 @@ pub(crate) fn spend(room: &[u8; Table::OVERLOADS], m: usize, x: u32) -> [u8; Tab
     ensures { (i : ℕ) → i < max_overloads → capacity result i ≡ capacity room.now i - x * bit i m }
 {
     let mut out = [0u8; Table::OVERLOADS];
-    let mut i: usize = 0;
-    while i < Table::OVERLOADS {
-        out[i] = (u32_from_u8(room[i]) - x * u32_from_u8(has(m, i))) as u8;
-        i += 1;
+    for i in 0..Table::OVERLOADS {
+        out[i] = (u32::from(room[i]) - x * u32::from(has(m, i))) as u8;
     }
     out
 }
@@ -73,15 +66,13 @@ pub(crate) fn kept_part(kept: &[usize; COMBINATIONS], count: usize, m: usize) ->
     requires { count ≤ combinations }
     ensures { result ≡ kept_part kept.now count m }
 {
-    let mut j: usize = 0;
-    while j < count {
+    for j in 0..count {
         let s = kept[j];
         if s & m == s {
             return j;
         }
-        j += 1;
     }
-    j
+    count
 }
 
 // Keeps m too, if it is bad and no kept combination is a part of it, and says how many are kept.
@@ -105,10 +96,8 @@ pub(crate) fn minimal(bad: &[u8; COMBINATIONS], kept: &mut [usize; COMBINATIONS]
     ensures { Kept bad.now kept.new result combinations }
 {
     let mut count: usize = 0;
-    let mut m: usize = 1;
-    while m < COMBINATIONS {
+    for m in 1..COMBINATIONS {
         count = keep(bad, kept, count, m);
-        m += 1;
     }
     count
 }

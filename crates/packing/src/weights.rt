@@ -7,7 +7,7 @@ ghost use Rattle.packing.specs.Code.Engine.{weight, weightings, max_chosen, max_
 ghost use Rattle.table.specs.Limits.{max_overloads};
 
 use crate::{COMBINATIONS, masks};
-use table::{Table, u32_from_u8};
+use table::Table;
 
 // How many weightings there are: packing/weightings.py finds so many.
 const WEIGHTINGS: usize = 975;
@@ -98,10 +98,8 @@ fn together(kept: &[usize; COMBINATIONS], count: usize) -> usize
     requires { count ≤ combinations }
 {
     let mut all: usize = 0;
-    let mut j: usize = 0;
-    while j < count {
-        all |= kept[j];
-        j += 1;
+    for m in &kept[..count] {
+        all |= *m;
     }
     all
 }
@@ -121,12 +119,10 @@ fn holders(kept: &[usize; COMBINATIONS], count: usize, all: usize, i: usize) -> 
     requires { (count ≤ combinations) × (i < max_overloads) }
 {
     let mut held: u8 = 0;
-    let mut m: usize = 1;
-    while m < COMBINATIONS && m <= all {
+    for m in 1..=all.min(COMBINATIONS - 1) {
         if holds(kept, count, all, m) {
             held += masks::has(m, i);
         }
-        m += 1;
     }
     held
 }
@@ -136,10 +132,8 @@ fn all_holders(kept: &[usize; COMBINATIONS], count: usize, all: usize) -> [u8; T
     requires { count ≤ combinations }
 {
     let mut out = [0u8; Table::OVERLOADS];
-    let mut i: usize = 0;
-    while i < Table::OVERLOADS {
+    for i in 0..Table::OVERLOADS {
         out[i] = holders(kept, count, all, i);
-        i += 1;
     }
     out
 }
@@ -151,14 +145,10 @@ fn rank(held: &[u8; Table::OVERLOADS], i: usize) -> usize
 {
     let own = held[i];
     let mut before: usize = 0;
-    let mut step: usize = 1;
-    while step < Table::OVERLOADS {
-        let j = (i + step) % Table::OVERLOADS;
-        let other = held[j];
-        if own < other || own == other && j < i {
+    for (j, other) in held.iter().enumerate() {
+        if own < *other || own == *other && j < i {
             before += 1;
         }
-        step += 1;
     }
     before
 }
@@ -168,10 +158,8 @@ fn ranks(held: &[u8; Table::OVERLOADS]) -> [usize; Table::OVERLOADS]
     ensures { (i : ℕ) → i < max_overloads → get_or result i 0 < max_overloads }
 {
     let mut out = [0usize; Table::OVERLOADS];
-    let mut i: usize = 0;
-    while i < Table::OVERLOADS {
+    for i in 0..Table::OVERLOADS {
         out[i] = rank(held, i);
-        i += 1;
     }
     out
 }
@@ -204,10 +192,8 @@ fn share(
 {
     let row = v * Table::OVERLOADS;
     let base = place * Table::OVERLOADS;
-    let mut i: usize = 0;
-    while i < Table::OVERLOADS {
+    for i in 0..Table::OVERLOADS {
         shares[base + i] = table[row + rank[i]] & DIGIT;
-        i += 1;
     }
 }
 
@@ -216,15 +202,10 @@ fn digits(shares: &[u8; SHARES], v: usize) -> usize
     requires { v < max_chosen }
 {
     let base = v * Table::OVERLOADS;
-    let mut some: usize = 0;
-    let mut i: usize = 0;
-    while i < Table::OVERLOADS {
-        if 0 < shares[base + i] {
-            some += 1;
-        }
-        i += 1;
-    }
-    some
+    shares[base..base + Table::OVERLOADS]
+        .iter()
+        .filter(|share| 0 < **share)
+        .count()
 }
 
 // Whether the weighting v may be a corner for the first n kept combinations, for some n: as many of these weigh least as there are
@@ -235,9 +216,8 @@ fn worth(kept: &[usize; COMBINATIONS], count: usize, shares: &[u8; SHARES], v: u
     let some = digits(shares, v);
     let mut least = HEAVIEST;
     let mut equal: usize = 0;
-    let mut j: usize = 0;
-    while j < count {
-        let w = weigh(shares, v, &masks::bits(kept[j]));
+    for m in &kept[..count] {
+        let w = weigh(shares, v, &masks::bits(*m));
         if w == 0 {
             return false;
         }
@@ -250,7 +230,6 @@ fn worth(kept: &[usize; COMBINATIONS], count: usize, shares: &[u8; SHARES], v: u
         if some <= equal {
             return true;
         }
-        j += 1;
     }
     false
 }
@@ -265,13 +244,14 @@ pub(crate) fn choose(kept: &[usize; COMBINATIONS], count: usize, shares: &mut [u
     let rank = ranks(&all_holders(kept, count, all));
     let rows = first_rows(usize::count_ones(all));
     let mut used: usize = 0;
-    let mut v: usize = 0;
-    while v < rows && used < CHOSEN {
+    for v in 0..rows {
+        if used == CHOSEN {
+            break;
+        }
         share(&table, &rank, v, shares, used);
         if worth(kept, count, shares, used) {
             used += 1;
         }
-        v += 1;
     }
     used
 }
@@ -283,10 +263,8 @@ pub(crate) fn weigh(shares: &[u8; SHARES], v: usize, amount: &[u8; Table::OVERLO
 {
     let base = v * Table::OVERLOADS;
     let mut sum: u32 = 0;
-    let mut i: usize = 0;
-    while i < Table::OVERLOADS {
-        sum += u32_from_u8(shares[base + i]) * u32_from_u8(amount[i]);
-        i += 1;
+    for i in 0..Table::OVERLOADS {
+        sum += u32::from(shares[base + i]) * u32::from(amount[i]);
     }
     sum
 }
@@ -296,8 +274,7 @@ fn lower(shares: &[u8; SHARES], v: usize, m: usize, d: u32) -> u32
     requires { v < max_chosen }
     ensures { (result ≤ d) × (result ≤ weight shares.now v (λ i. bit i m)) }
 {
-    let w = weigh(shares, v, &masks::bits(m));
-    if w < d { w } else { d }
+    d.min(weigh(shares, v, &masks::bits(m)))
 }
 
 // What each of the first n kept combinations weighs at least by the weighting v, up to `most`; 0 once it is no more than `idle`.
@@ -313,13 +290,11 @@ pub(crate) fn floor(
     ensures { (Floor kept.now shares.now n v result) × (result ≤ most) }
 {
     let mut d = most;
-    let mut j: usize = 0;
-    while j < n {
+    for j in 0..n {
         if d <= idle {
             return 0;
         }
         d = lower(shares, v, kept[j], d);
-        j += 1;
     }
     d
 }

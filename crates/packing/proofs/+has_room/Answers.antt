@@ -15,17 +15,17 @@ returns-then-n-eq0 t c = tells-not (λ h. c.if-need-eq0.false (empty-fit c.if-n-
 
 pub returns-then-has_room : goal.returns-then-has_room
 returns-then-has_room t c =
-    let l = c.loop-x in
-    tells-so (choices_found (l.x - 1) _
+    let l = c.loop-uses in
+    tells-so (choices_found (l.uses - 1) _
     (omega (arith, c.if-n-eq0.false))
-    (omega (arith, l.invariant.few, c.loop-x-test.true))
-    (l.invariant.enough (l.x - 1) (omega (arith, c.loop-x-test.true)))
+    (omega (arith, l.invariant.few, c.loop-uses-test.true))
+    (l.invariant.enough (l.uses - 1) (omega (arith, c.loop-uses-test.true)))
     c.spend.ensures
     (c.has_room.ensures.so c.if-has_room.true))
 
-pub loop-x-preserved : goal.loop-x-preserved
-loop-x-preserved t c =
-    choices_tried _ (omega arith) (omega (arith, c.loop-x-test.true)) c.spend.ensures (c.has_room.ensures.not c.if-has_room.false) c.loop-x.invariant
+pub loop-uses-preserved : goal.loop-uses-preserved
+loop-uses-preserved t c =
+    choices_tried _ (omega arith) (omega (arith, c.loop-uses-test.true)) c.spend.ensures (c.has_room.ensures.not c.if-has_room.false) c.loop-uses.invariant
 
 pub returns : goal.returns
-returns t c = tells-not (choices_end (omega (arith, c.if-n-eq0.false)) c.loop-x-test.false c.loop-x.invariant)
+returns t c = tells-not (choices_end (omega (arith, c.if-n-eq0.false)) c.loop-uses-test.false c.loop-uses.invariant)

@@ -6,8 +6,5 @@ use Rattle.packing.proofs.+has_room.Given as goal
 abbrev pub decreases-has_room : goal.decreases-has_room
 decreases-has_room l = l.n
 
-abbrev pub invariant-loop-x : goal.invariant-loop-x
-invariant-loop-x l = Choices l.kept l.last (capacity l.room) l.need l.x
-
-abbrev pub decreases-loop-x : goal.decreases-loop-x
-decreases-loop-x l = l.x
+abbrev pub invariant-loop-uses : goal.invariant-loop-uses
+invariant-loop-uses l = Choices l.kept l.last (capacity l.room) l.need l.uses

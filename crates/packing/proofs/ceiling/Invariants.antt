@@ -1,11 +1,7 @@
 -- The weightings before v leave no more than r.
-use Prim.Native.Nat.{◌-◌, ◌≤◌}
 use Rattle.packing.specs.Most.{capacity}
 use Rattle.packing.specs.Code.Engine.{Ceiling}
 use Rattle.packing.proofs.ceiling.Given as goal
 
 abbrev pub invariant-loop-v : goal.invariant-loop-v
-invariant-loop-v l = (l.v ≤ l.used) × Ceiling l.kept l.count (capacity l.room) l.limit l.r
-
-abbrev pub decreases-loop-v : goal.decreases-loop-v
-decreases-loop-v l = l.used - l.v
+invariant-loop-v l = Ceiling l.kept l.count (capacity l.room) l.limit l.r

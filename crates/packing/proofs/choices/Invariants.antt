@@ -1,11 +1,7 @@
 -- The weightings before v leave no more choices than x.
-use Prim.Native.Nat.{◌-◌, ◌≤◌}
 use Rattle.packing.specs.Most.{capacity}
 use Rattle.packing.specs.Code.Engine.{Choices}
 use Rattle.packing.proofs.choices.Given as goal
 
 abbrev pub invariant-loop-v : goal.invariant-loop-v
-invariant-loop-v l = (l.v ≤ l.used) × Choices l.kept l.wanted.last (capacity l.room) l.wanted.need l.x
-
-abbrev pub decreases-loop-v : goal.decreases-loop-v
-decreases-loop-v l = l.used - l.v
+invariant-loop-v l = Choices l.kept l.wanted.last (capacity l.room) l.wanted.need l.x

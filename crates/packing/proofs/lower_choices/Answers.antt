@@ -1,5 +1,5 @@
 -- By the weights of the kept combination `last` and of those before it.
-use Prim.Native.Nat.{◌*◌, ◌-◌, ◌≤◌}
+use Prim.Native.Nat.{◌*◌, ◌-◌, ◌≤◌, ◌<◌}
 use mathlib.Core.Path.{◌≡◌, ◌∙◌}
 use native.Mathlib.Omega.{arith}
 use native.Mathlib.Nat.{mul-le-mul, div-le_self}
@@ -27,15 +27,17 @@ returns-then-all-need c = choices_less (omega arith)
     (λ u p t. absurd (cut-none c.floor-d.ensures.0 (weighs (goal.at.returns-then-all-need c).After-floor-d) c.weigh-all.ensures.0 u p t (omega (arith, c.floor-d.ensures.1)) (omega (arith, c.if-all-need.true))))
     c.requires.3
 
-pub overflow_mul-y : goal.overflow_mul-y
-overflow_mul-y c = omega (arith, few (goal.at.overflow_mul-y c).After-floor-d)
+pub overflow_mul-need-2 : goal.overflow_mul-need-2
+overflow_mul-need-2 c = omega (arith, few (goal.at.overflow_mul-need-2 c).After-floor-d)
 
-pub overflow_add-y : goal.overflow_add-y
-overflow_add-y c = let room = c.weigh-all in
+pub overflow_add-all : goal.overflow_add-all
+overflow_add-all c = let room = c.weigh-all in
     let q = div-le_self (room.result - c.args.wanted.need * c.floor-d.result) (c.weigh-w.result - c.floor-d.result) in
     omega (arith, q, room.ensures.1)
 
-pub returns-then-y-x : goal.returns-then-y-x
-returns-then-y-x c = choices_less (omega arith)
-    (λ u p t. cut-above c.floor-d.ensures.0 (weighs (goal.at.returns-then-y-x c).After-floor-d) c.weigh-all.ensures.0 u p t (omega (arith, c.floor-d.ensures.1, c.if-d-w.false)) c.if-all-need.false)
+pub returns : goal.returns
+returns c = choices_less (omega arith)
+    (λ u p t. let own : u c.args.wanted.last < c.args.x = c.requires.3.fewer u p t in
+    let above = cut-above c.floor-d.ensures.0 (weighs (goal.at.returns c).After-floor-d) c.weigh-all.ensures.0 u p t (omega (arith, c.floor-d.ensures.1, c.if-d-w.false)) c.if-all-need.false in
+    omega arith)
     c.requires.3

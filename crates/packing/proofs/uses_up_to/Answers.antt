@@ -8,24 +8,24 @@ use Rattle.packing.proofs.Tries.{ceiling-start}
 use Rattle.packing.proofs.Kept.{kept-few, kept-up-to}
 use Rattle.packing.proofs.Most.{most-room}
 use Rattle.packing.proofs.uses_up_to.Goals as goal
-use Rattle.packing.proofs.uses_up_to.Goals.{After-smaller-limit}
+use Rattle.packing.proofs.uses_up_to.Goals.{After-min-limit}
 
-near : (c : After-smaller-limit) → c.smaller-limit.result ≤ max_room
-near c = omega (arith, c.smaller-limit.ensures, c.total.ensures.1)
+near : (c : After-min-limit) → c.min-limit.result ≤ max_room
+near c = omega (arith, c.min-limit.ensures, c.total.ensures.1)
 
 -- the most of these are the most of all, up to `enough`
-counted : (c : After-smaller-limit) → {r : ℕ} → MostUpTo c.minimal-count.new.kept c.minimal-count.result (capacity c.args.room.now) c.smaller-limit.result r
+counted : (c : After-min-limit) → {r : ℕ} → MostUpTo c.minimal-count.new.kept c.minimal-count.result (capacity c.args.room.now) c.min-limit.result r
     → r ≡ min c.args.enough (most_uses (flagged c.args.bad.now) (capacity c.args.room.now))
-counted c m = omega (arith, kept-up-to c.minimal-count.ensures m, c.smaller-limit.ensures, c.total.ensures.0, most-room (flagged c.args.bad.now) (capacity c.args.room.now))
+counted c m = omega (arith, kept-up-to c.minimal-count.ensures m, c.min-limit.ensures, c.total.ensures.0, most-room (flagged c.args.bad.now) (capacity c.args.room.now))
 
 pub first_try-requires : goal.first_try-requires
-first_try-requires c = (kept-few c.minimal-count.ensures, near (goal.at.first_try-requires c).After-smaller-limit)
+first_try-requires c = (kept-few c.minimal-count.ensures, near (goal.at.first_try-requires c).After-min-limit)
 
 pub returns-then-first_try-limit : goal.returns-then-first_try-limit
-returns-then-first_try-limit c = counted (goal.at.returns-then-first_try-limit c).After-smaller-limit record { ceiling = ceiling-start; fits = rw c.if-first_try-limit.true at c.first_try.ensures }
+returns-then-first_try-limit c = counted (goal.at.returns-then-first_try-limit c).After-min-limit record { ceiling = ceiling-start; fits = rw c.if-first_try-limit.true at c.first_try.ensures }
 
 pub fullest-requires : goal.fullest-requires
-fullest-requires c = (kept-few c.minimal-count.ensures, near (goal.at.fullest-requires c).After-smaller-limit)
+fullest-requires c = (kept-few c.minimal-count.ensures, near (goal.at.fullest-requires c).After-min-limit)
 
 pub returns : goal.returns
-returns c = counted (goal.at.returns c).After-smaller-limit c.fullest.ensures
+returns c = counted (goal.at.returns c).After-min-limit c.fullest.ensures

@@ -1,5 +1,4 @@
 -- The places before i hold their bits.
-use Prim.Native.Nat.{◌-◌}
 use mathlib.Core.Path.{◌≡◌}
 use Rattle.packing.specs.Packing.{bit}
 use Rattle.packing.proofs.Loops.{Filled}
@@ -7,6 +6,3 @@ use Rattle.packing.proofs.masks.bits.Given as goal
 
 abbrev pub invariant-loop-i : goal.invariant-loop-i
 invariant-loop-i l = Filled (λ k x. x ≡ bit k l.m) 6 l.out l.i
-
-abbrev pub decreases-loop-i : goal.decreases-loop-i
-decreases-loop-i l = 6 - l.i

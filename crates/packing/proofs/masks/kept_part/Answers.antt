@@ -1,5 +1,6 @@
 -- No kept combination before j is a part of m.
 use Prim.Native.Nat.{ℕ}
+use mathlib.Core.Path.{◌≡◌, ◌∙◌}
 use native.Mathlib.Omega.{arith}
 use borrow.Author.Tests.{eq-eqb, ne_eqb}
 use lib.Bits.{bit_and}
@@ -22,4 +23,4 @@ loop-j-preserved c =
     passed_on c.loop-j.invariant (search rules) (ne_eqb (bit_and own c.args.m) own (λ e. omega (arith, e, c.if-s-m.false)))
 
 pub returns : goal.returns
-returns c = passed-end c.loop-j.invariant (search rules)
+returns c = let e : c.args.count ≡ c.loop-j.j = omega (arith, c.loop-j.invariant.to) in e ∙ passed-end c.loop-j.invariant (search rules)

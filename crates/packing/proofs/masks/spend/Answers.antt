@@ -4,25 +4,25 @@ use native.Mathlib.Omega.{arith}
 use Rattle.packing.proofs.Loops.{filled_on}
 use borrow.Author.Rules.{rules}
 use Rattle.packing.proofs.masks.spend.Goals as goal
-use Rattle.packing.proofs.masks.spend.Goals.{After-u32_from_u8-in-loop-i}
+use Rattle.packing.proofs.masks.spend.Goals.{After-from-in-loop-i}
 
 -- what is spent is there
-spent : (c : After-u32_from_u8-in-loop-i) → c.args.x * c.u32_from_u8-in-loop-i.result ≤ c.u32_from_u8.result
-spent c = rw (c.u32_from_u8-in-loop-i.ensures.0, c.has.ensures, c.u32_from_u8.ensures.0)
+spent : (c : After-from-in-loop-i) → c.args.x * c.from-in-loop-i.result ≤ c.from.result
+spent c = rw (c.from-in-loop-i.ensures, c.has.ensures, c.from.ensures)
     (c.requires.1 c.loop-i.i (search rules))
 
 pub overflow_mul-out : goal.overflow_mul-out
-overflow_mul-out c = omega (arith, spent c, c.u32_from_u8.ensures.1)
+overflow_mul-out c = omega (arith, spent c)
 
 pub overflow_sub-out : goal.overflow_sub-out
 overflow_sub-out c = spent c
 
 pub overflow_cast-out : goal.overflow_cast-out
-overflow_cast-out c = omega (arith, c.u32_from_u8.ensures.1)
+overflow_cast-out c = omega arith
 
 pub loop-i-preserved : goal.loop-i-preserved
 loop-i-preserved c = filled_on c.loop-i.invariant (search rules)
-    (rw (c.u32_from_u8-in-loop-i.ensures.0, c.has.ensures, c.u32_from_u8.ensures.0))
+    (rw (c.from-in-loop-i.ensures, c.has.ensures, c.from.ensures))
 
 pub returns : goal.returns
 returns c = λ i l. c.loop-i.invariant.done i (search rules)

@@ -8,6 +8,3 @@ use Rattle.packing.proofs.masks.spend.Given as goal
 
 abbrev pub invariant-loop-i : goal.invariant-loop-i
 invariant-loop-i l = Filled (λ k y. y ≡ capacity l.room k - l.x * bit k l.m) 6 l.out l.i
-
-abbrev pub decreases-loop-i : goal.decreases-loop-i
-decreases-loop-i l = 6 - l.i

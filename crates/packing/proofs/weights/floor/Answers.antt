@@ -6,16 +6,16 @@ use borrow.Author.Rules.{rules}
 use Rattle.packing.proofs.weights.floor.Goals as goal
 
 pub loop-j-init : goal.loop-j-init
-loop-j-init c = (search rules, search rules, floor_start _ _)
+loop-j-init c = (search rules, floor_start _ _)
 
 pub returns-then-d-idle : goal.returns-then-d-idle
 returns-then-d-idle c = (floor_none _ _, search rules)
 
 pub loop-j-preserved : goal.loop-j-preserved
 loop-j-preserved c = let i = c.loop-j.invariant in
-    (search rules, omega (arith, c.lower-d.ensures.0, i.1), floor_on i.2 c.lower-d.ensures.0 c.lower-d.ensures.1)
+    (omega (arith, c.lower-d.ensures.0, i.0), floor_on i.1 c.lower-d.ensures.0 c.lower-d.ensures.1)
 
 pub returns : goal.returns
 returns c = let i = c.loop-j.invariant in
-    let e : c.loop-j.j ≡ c.args.n = omega (arith, i.0) in
-    (rw e at i.2, i.1)
+    let e : c.loop-j.j ≡ c.args.n = omega arith in
+    (rw e at i.1, i.0)

@@ -1,9 +1,6 @@
--- Fewer active segments come before i than steps were taken.
-use Prim.Native.Nat.{◌-◌, ◌<◌, ◌≤◌}
+-- Those before j that come before i, which is none of them.
+use Prim.Native.Nat.{◌<◌, ◌≤◌}
 use Rattle.packing.proofs.weights.rank.Given as goal
 
-abbrev pub invariant-loop-step : goal.invariant-loop-step
-invariant-loop-step l = (l.before < l.step) × (l.step ≤ 6)
-
-abbrev pub decreases-loop-step : goal.decreases-loop-step
-decreases-loop-step l = 6 - l.step
+abbrev pub invariant-loop-j : goal.invariant-loop-j
+invariant-loop-j l = (l.before ≤ l.j) × (l.i < l.j → l.before < l.j)

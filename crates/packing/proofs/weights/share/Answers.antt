@@ -1,5 +1,4 @@
 -- Only places. Any weights are sound.
-use lib.ListN.{length-set}
 use native.Mathlib.Omega.{arith}
 use borrow.Author.Rules.{rules}
 use Rattle.packing.proofs.weights.share.Goals as goal
@@ -9,6 +8,3 @@ overflow_add-shares c = omega (arith, c.requires.2 c.loop-i.i (search rules))
 
 pub bounds-table-row : goal.bounds-table-row
 bounds-table-row c = omega (arith, c.requires.2 c.loop-i.i (search rules))
-
-pub loop-i-preserved : goal.loop-i-preserved
-loop-i-preserved c = (search rules, simp length-set (omega arith))

@@ -16,14 +16,14 @@ pub loop-i-init : goal.loop-i-init
 loop-i-init c = added-start _ (max_byte * max_byte) 6
 
 pub overflow_mul-sum : goal.overflow_mul-sum
-overflow_mul-sum c = let p : c.u32_from_u8.result * c.u32_from_u8-in-loop-i.result ≤ max_byte * max_byte = product (omega arith) (omega arith) in omega arith
+overflow_mul-sum c = let p : c.from.result * c.from-in-loop-i.result ≤ max_byte * max_byte = product (omega arith) (omega arith) in omega arith
 
 pub overflow_add-sum : goal.overflow_add-sum
-overflow_add-sum c = let p : c.u32_from_u8.result * c.u32_from_u8-in-loop-i.result ≤ max_byte * max_byte = product (omega arith) (omega arith) in omega arith
+overflow_add-sum c = let p : c.from.result * c.from-in-loop-i.result ≤ max_byte * max_byte = product (omega arith) (omega arith) in omega arith
 
 pub loop-i-preserved : goal.loop-i-preserved
 loop-i-preserved c = added-on c.loop-i.invariant (search rules)
-    (ap₂ ◌*◌ c.u32_from_u8.ensures.0 c.u32_from_u8-in-loop-i.ensures.0) (product (omega arith) (omega arith))
+    (ap₂ ◌*◌ c.from.ensures c.from-in-loop-i.ensures) (product (omega arith) (omega arith))
 
 pub returns : goal.returns
 unfolding weight

@@ -1,9 +1,6 @@
 -- As many weigh least as were weighed, at most. Any choice is sound.
-use Prim.Native.Nat.{◌-◌, ◌≤◌}
+use Prim.Native.Nat.{◌≤◌}
 use Rattle.packing.proofs.weights.worth.Given as goal
 
-abbrev pub invariant-loop-j : goal.invariant-loop-j
-invariant-loop-j l = (l.equal ≤ l.j) × (l.j ≤ l.count)
-
-abbrev pub decreases-loop-j : goal.decreases-loop-j
-decreases-loop-j l = l.count - l.j
+abbrev pub invariant-loop-m : goal.invariant-loop-m
+invariant-loop-m l = l.equal ≤ l.m-index
