@@ -13,7 +13,7 @@ ghost use Rattle.odometer.specs.Code.Gone.{Gone, Going, GoesOn, uses_of};
 ghost use Rattle.odometer.specs.Code.Steps.{Fits, Raisable, Resettable, Changed};
 
 use packing::COMBINATIONS;
-use table::{Table, u32_from_u8};
+use table::Table;
 
 // The packing it stands at, and what it found on the way there.
 #[derive(Clone, Copy)]
@@ -38,17 +38,7 @@ fn fits(bad: &[u8; COMBINATIONS], left: &[u8; Table::OVERLOADS], m: usize) -> bo
     requires { m < combinations }
     ensures { Tells result (Fits (flagged bad.now) (capacity left.now) m) }
 {
-    if bad[m] != 1 {
-        return false;
-    }
-    let mut i: usize = 0;
-    while i < Table::OVERLOADS {
-        if left[i] < has(m, i) {
-            return false;
-        }
-        i += 1;
-    }
-    true
+    bad[m] == 1 && (0..Table::OVERLOADS).all(|i| has(m, i) <= left[i])
 }
 
 // The room that one use of m leaves.
@@ -57,10 +47,8 @@ fn spend(left: [u8; Table::OVERLOADS], m: usize) -> [u8; Table::OVERLOADS]
     ensures { (i : ℕ) → i < max_overloads → capacity result i + bit i m ≡ capacity left i }
 {
     let mut out = [0u8; Table::OVERLOADS];
-    let mut i: usize = 0;
-    while i < Table::OVERLOADS {
+    for i in 0..Table::OVERLOADS {
         out[i] = left[i] - has(m, i);
-        i += 1;
     }
     out
 }
@@ -71,19 +59,10 @@ fn give_back(left: [u8; Table::OVERLOADS], m: usize, n: u8) -> [u8; Table::OVERL
     ensures { (i : ℕ) → i < max_overloads → capacity result i ≡ capacity left i + n * bit i m }
 {
     let mut out = [0u8; Table::OVERLOADS];
-    let mut i: usize = 0;
-    while i < Table::OVERLOADS {
+    for i in 0..Table::OVERLOADS {
         out[i] = left[i] + n * has(m, i);
-        i += 1;
     }
     out
-}
-
-// The larger of two numbers.
-fn larger(a: u32, b: u32) -> u32
-    ensures { result ≡ max a b }
-{
-    if a < b { b } else { a }
 }
 
 impl Odometer {
@@ -108,9 +87,9 @@ impl Odometer {
         let mut o = self;
         let left = o.left;
         o.left = spend(left, m);
-        o.uses[m] = o.uses[m] + 1;
-        o.total = o.total + 1;
-        o.most = larger(o.most, o.total);
+        o.uses[m] += 1;
+        o.total += 1;
+        o.most = o.most.max(o.total);
         o
     }
 
@@ -124,7 +103,7 @@ impl Odometer {
         let left = o.left;
         o.left = give_back(left, m, n);
         o.uses[m] = 0;
-        o.total = o.total - u32_from_u8(n);
+        o.total -= u32::from(n);
         o
     }
 
@@ -134,15 +113,13 @@ impl Odometer {
         ensures { GoesOn (flagged bad.now) 1 self result }
     {
         let mut o = self;
-        let mut m: usize = 1;
-        while m < COMBINATIONS {
+        for m in 1..COMBINATIONS {
             if fits(bad, &o.left, m) {
                 return o.raise(m);
             }
             if o.uses[m] != 0 {
                 o = o.reset(m);
             }
-            m += 1;
         }
         o.over = true;
         o
@@ -154,10 +131,11 @@ impl Odometer {
         ensures { GoesOn (flagged bad.now) packings self result }
     {
         let mut o = self;
-        let mut n: u32 = 0;
-        while n < packings && !o.over {
+        for _ in 0..packings {
+            if o.over {
+                break;
+            }
             o = o.next(bad);
-            n += 1;
         }
         o
     }

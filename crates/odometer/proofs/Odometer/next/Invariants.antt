@@ -1,5 +1,5 @@
 -- The digits below m went back to 0, those from m on are as they were (`Turning`).
-use Prim.Native.Nat.{ℕ, ◌-◌, ◌≤◌, ◌<◌}
+use Prim.Native.Nat.{ℕ, ◌≤◌, ◌<◌}
 use mathlib.Core.Path.{◌≡◌}
 use mathlib.Core.Bool.{false}
 use Rattle.packing.specs.Most.{flagged}
@@ -8,8 +8,5 @@ use Rattle.odometer.proofs.Turns.{Turning}
 use Rattle.odometer.proofs.Odometer.next.Given as goal
 
 abbrev pub invariant-loop-m : goal.invariant-loop-m
-invariant-loop-m l = (0 < l.m) × (l.m ≤ 64) × (l.o.over ≡ false) × ((x : ℕ) → l.m ≤ x → x < 64 → uses_of l.o x ≡ uses_of l.initial.o x)
+invariant-loop-m l = (l.o.over ≡ false) × ((x : ℕ) → l.m ≤ x → x < 64 → uses_of l.o x ≡ uses_of l.initial.o x)
     × ((room : ℕ → ℕ) → Gone (flagged l.bad) room l.initial.o → Turning (flagged l.bad) room l.m l.o)
-
-abbrev pub decreases-loop-m : goal.decreases-loop-m
-decreases-loop-m l = 64 - l.m

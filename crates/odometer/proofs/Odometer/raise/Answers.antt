@@ -15,5 +15,5 @@ returns c = let o = c.args.self in
         total = omega arith;
         over = refl;
       },
-      c.larger.ensures,
+      c.max.ensures,
     )

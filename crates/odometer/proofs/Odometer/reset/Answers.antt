@@ -12,7 +12,7 @@ returns c = let o = c.args.self in
         here = get_or-set_same o.uses m _ 0 (omega (arith, c.requires.there, places o _ c.well_formed.0));
         others = λ x l d. get_or-set_other o.uses m x _ 0 d;
         left = λ i l. omega (arith, c.give_back-o.ensures i l);
-        total = omega (arith, c.requires.counted, c.u32_from_u8.ensures.0);
+        total = omega (arith, c.requires.counted, c.from.ensures);
         over = refl;
       },
       refl,
