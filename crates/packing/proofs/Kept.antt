@@ -46,10 +46,6 @@ kept-start bad kept size = record {
   parts = λ x l u. absurd (omega (arith, usable-some (flagged bad) x u));
 }
 
--- they are no more than there are
-pub kept-few : {bad kept : List ℕ} {count m : ℕ} → Kept bad kept count m → count ≤ 64
-kept-few k = omega (arith, k.few, k.below)
-
 module _ {bad kept : List ℕ} {count m : ℕ} (k : Kept bad kept count m) (l : m < 64) where
   -- m is not kept: it is not bad, or it has a kept part
   kept_on : (usable (flagged bad) m ≡ true → kept_part kept count m < count) → Kept bad kept count (m + 1)

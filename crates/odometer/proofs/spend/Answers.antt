@@ -16,6 +16,3 @@ overflow_sub-out c = enough c
 
 pub loop-i-preserved : goal.loop-i-preserved
 loop-i-preserved c = filled_on c.loop-i.invariant (search rules) (omega (arith, enough c, c.has.ensures))
-
-pub returns : goal.returns
-returns c = λ i l. c.loop-i.invariant.done i (search rules)

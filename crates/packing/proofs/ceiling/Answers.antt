@@ -1,12 +1,5 @@
 -- The weightings before v leave no more than r.
-use Rattle.packing.proofs.Tries.{ceiling-start}
 use Rattle.packing.proofs.ceiling.Goals as goal
-
-pub loop-v-init : goal.loop-v-init
-loop-v-init c = ceiling-start
 
 pub loop-v-preserved : goal.loop-v-preserved
 loop-v-preserved c = c.lower_ceiling-r.ensures.lower _ c.loop-v.invariant
-
-pub returns : goal.returns
-returns c = c.loop-v.invariant

@@ -10,9 +10,6 @@ loop-n-init c = (search rules, tried_start)
 pub spend-left-requires : goal.spend-left-requires
 spend-left-requires c = let f = c.fitting-uses.ensures in (omega (arith, f.few, c.requires.1), f.enough)
 
-pub overflow_add-found : goal.overflow_add-found
-overflow_add-found c = omega (arith, c.fitting-uses.ensures.few, c.requires.1)
-
 pub loop-n-preserved : goal.loop-n-preserved
 loop-n-preserved c = let f = c.fitting-uses.ensures in
     (omega (arith, f.few, c.loop-n.invariant.0), tried_on (omega arith) f c.spend-left.ensures c.loop-n.invariant.1)

@@ -3,12 +3,6 @@ use native.Mathlib.Omega.{arith}
 use Rattle.packing.proofs.Tries.{some_fit, ceiling-fewer}
 use Rattle.packing.proofs.fullest.Goals as goal
 
-pub loop-shares-init : goal.loop-shares-init
-loop-shares-init c = c.ceiling-need.ensures
-
-pub has_room-requires : goal.has_room-requires
-has_room-requires c = (c.choose-used.ensures, c.requires.0, omega (arith, c.requires.1, c.loop-shares.invariant.few))
-
 pub overflow_sub-need : goal.overflow_sub-need
 overflow_sub-need c = some_fit _ (c.has_room.ensures.not c.loop-shares-test.true)
 

@@ -3,11 +3,5 @@ use native.Mathlib.Omega.{arith}
 use Rattle.packing.proofs.Cut.{ceiling-low}
 use Rattle.packing.proofs.lower_ceiling.Goals as goal
 
-pub returns-then-r-eq0 : goal.returns-then-r-eq0
-returns-then-r-eq0 c = record { lower = λ limit h. h }
-
-pub returns-then-d-eq0 : goal.returns-then-d-eq0
-returns-then-d-eq0 c = record { lower = λ limit h. h }
-
 pub returns : goal.returns
 returns c = rw c.min.ensures (ceiling-low c.floor-d.ensures.0 c.weigh-all.ensures.0 (omega (arith, c.if-d-eq0.false)))

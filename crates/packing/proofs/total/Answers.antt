@@ -1,6 +1,6 @@
 -- The room before the index is added up.
 use Rattle.packing.specs.Code.Engine.{max_byte}
-use Rattle.packing.proofs.Loops.{added-start, added-on, added-end}
+use Rattle.packing.proofs.Loops.{added-start, added-on}
 use borrow.Author.Rules.{rules}
 use Rattle.packing.proofs.total.Goals as goal
 
@@ -9,6 +9,3 @@ loop-r-init c = added-start _ max_byte 6
 
 pub loop-r-preserved : goal.loop-r-preserved
 loop-r-preserved c = added-on c.loop-r.invariant (search rules) c.from-all.ensures (search rules)
-
-pub returns : goal.returns
-returns c = added-end c.loop-r.invariant (search rules)

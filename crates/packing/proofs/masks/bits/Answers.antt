@@ -5,6 +5,3 @@ use Rattle.packing.proofs.masks.bits.Goals as goal
 
 pub loop-i-preserved : goal.loop-i-preserved
 loop-i-preserved c = filled_on c.loop-i.invariant (search rules) c.has.ensures
-
-pub returns : goal.returns
-returns c = λ i l. c.loop-i.invariant.done i (search rules)

@@ -1,6 +1,5 @@
 -- The places before i hold the room that is left.
 use Prim.Native.Nat.{◌*◌, ◌≤◌}
-use native.Mathlib.Omega.{arith}
 use Rattle.packing.proofs.Loops.{filled_on}
 use borrow.Author.Rules.{rules}
 use Rattle.packing.proofs.masks.spend.Goals as goal
@@ -11,18 +10,6 @@ spent : (c : After-from-in-loop-i) → c.args.x * c.from-in-loop-i.result ≤ c.
 spent c = rw (c.from-in-loop-i.ensures, c.has.ensures, c.from.ensures)
     (c.requires.1 c.loop-i.i (search rules))
 
-pub overflow_mul-out : goal.overflow_mul-out
-overflow_mul-out c = omega (arith, spent c)
-
-pub overflow_sub-out : goal.overflow_sub-out
-overflow_sub-out c = spent c
-
-pub overflow_cast-out : goal.overflow_cast-out
-overflow_cast-out c = omega arith
-
 pub loop-i-preserved : goal.loop-i-preserved
 loop-i-preserved c = filled_on c.loop-i.invariant (search rules)
     (rw (c.from-in-loop-i.ensures, c.has.ensures, c.from.ensures))
-
-pub returns : goal.returns
-returns c = λ i l. c.loop-i.invariant.done i (search rules)

@@ -1,15 +1,12 @@
 -- None of the kept combinations before j weighs less than d.
 use mathlib.Core.Path.{◌≡◌}
 use native.Mathlib.Omega.{arith}
-use Rattle.packing.proofs.Cut.{floor_start, floor_none, floor_on}
+use Rattle.packing.proofs.Cut.{floor_start, floor_on}
 use borrow.Author.Rules.{rules}
 use Rattle.packing.proofs.weights.floor.Goals as goal
 
 pub loop-j-init : goal.loop-j-init
 loop-j-init c = (search rules, floor_start _ _)
-
-pub returns-then-d-idle : goal.returns-then-d-idle
-returns-then-d-idle c = (floor_none _ _, search rules)
 
 pub loop-j-preserved : goal.loop-j-preserved
 loop-j-preserved c = let i = c.loop-j.invariant in

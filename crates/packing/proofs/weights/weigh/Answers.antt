@@ -15,12 +15,6 @@ product h k = mul-le-mul h k
 pub loop-i-init : goal.loop-i-init
 loop-i-init c = added-start _ (max_byte * max_byte) 6
 
-pub overflow_mul-sum : goal.overflow_mul-sum
-overflow_mul-sum c = let p : c.from.result * c.from-in-loop-i.result ≤ max_byte * max_byte = product (omega arith) (omega arith) in omega arith
-
-pub overflow_add-sum : goal.overflow_add-sum
-overflow_add-sum c = let p : c.from.result * c.from-in-loop-i.result ≤ max_byte * max_byte = product (omega arith) (omega arith) in omega arith
-
 pub loop-i-preserved : goal.loop-i-preserved
 loop-i-preserved c = added-on c.loop-i.invariant (search rules)
     (ap₂ ◌*◌ c.from.ensures c.from-in-loop-i.ensures) (product (omega arith) (omega arith))
