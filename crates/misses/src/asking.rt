@@ -18,9 +18,7 @@ ghost use Rattle.misses.specs.Code.Packings.{test_of, Ready, LeadsTo};
 use crate::testing::{by_each, by_lowest, by_sieve};
 use crate::{Answer, Figures, How, Packings, Pieces};
 use arrivals::{eta_up_to, largest, unknown};
-use table::{
-    Table, Verdict, count, find, judge, list_place, overload_at, place, record_length, u64_from_u8,
-};
+use table::{Table, Verdict, count, find, judge, list_place, overload_at, place, record_length};
 use windows::{Answer as Bound, Windows, bound};
 
 // 13, 14 or 15, what is refused of the chain at `b` before any window; 0 for none of them.
@@ -58,13 +56,11 @@ fn any_again(s: &[u8], t: u64) -> bool
 {
     let chains = count(s);
     let mut at: usize = 0;
-    let mut chain: usize = 0;
-    while chain < chains {
+    for _ in 0..chains {
         if again(s, at, t) {
             return true;
         }
-        at = at + record_length(s, at);
-        chain += 1;
+        at += record_length(s, at);
     }
     false
 }
@@ -74,12 +70,10 @@ fn above(capacity: &[u8; Table::OVERLOADS]) -> bool
     requires { length capacity.now ≡ max_overloads }
     ensures { result ≡ some (ltb max_capacity) capacity.now }
 {
-    let mut i: usize = 0;
-    while i < Table::OVERLOADS {
-        if Table::CAPACITY < u64_from_u8(capacity[i]) {
+    for i in 0..Table::OVERLOADS {
+        if Table::CAPACITY < u64::from(capacity[i]) {
             return true;
         }
-        i += 1;
     }
     false
 }

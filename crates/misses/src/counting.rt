@@ -20,7 +20,7 @@ pub fn figure(k: u32, late: u32, uses: u32) -> u32
     ensures { result ≡ min k (late * uses) }
 {
     let all = late as u64 * uses as u64;
-    if (k as u64) < all { k } else { all as u32 }
+    all.min(k as u64) as u32
 }
 
 // The answer by the ordinary engine. No more uses are looked for than the fewest that reach k.

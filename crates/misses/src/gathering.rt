@@ -15,7 +15,7 @@ ghost use Rattle.misses.specs.Code.Held.{held_as, gathered};
 use crate::Pieces;
 use arrivals::eta_up_to;
 use segments::{active_segments, floor_of, tail_of};
-use table::{Table, count, list_place, overload_at, record_length, u64_from_u32};
+use table::{Table, count, list_place, overload_at, record_length};
 
 // The capacity in t of the active segments of the chain at `a`, or one past the limit where it is larger.
 fn capacity(s: &[u8], a: usize, t: u64) -> u8
@@ -49,20 +49,17 @@ impl Pieces {
         let found = active_segments(s, a, floor, tail);
         let most = capacity(s, a, t);
         let mut p = self;
-        let mut i: usize = 0;
-        while i < found.count {
-            let from = i;
+        for i in 0..found.count {
             let to = p.count;
-            i += 1;
             p.count = to + 1;
             if to < Table::OVERLOADS {
                 p.chain[to] = p.chains;
-                p.segment[to] = found.segment[from];
-                p.cost[to] = u64_from_u32(found.cost[from]);
+                p.segment[to] = found.segment[i];
+                p.cost[to] = u64::from(found.cost[i]);
                 p.capacity[to] = most;
             }
         }
-        p.chains = p.chains + 1;
+        p.chains += 1;
         p
     }
 
@@ -76,11 +73,9 @@ impl Pieces {
         let chains = count(s);
         let mut p = Pieces::none();
         let mut at: usize = 0;
-        let mut j: usize = 0;
-        while j < chains {
+        for _ in 0..chains {
             let a = at;
-            at = at + record_length(s, at);
-            j += 1;
+            at += record_length(s, at);
             if overload_at(s, a) != 0 {
                 p = p.beside(s, a, floor, tail, t);
             }

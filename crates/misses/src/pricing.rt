@@ -21,13 +21,7 @@ fn agrees(
     requires { (i < max_overloads) × (j < max_overloads) }
     ensures { result ≡ agrees_at chain.now segment.now m i j }
 {
-    if has(m, j) == 0 {
-        return true;
-    }
-    if chain[i] != chain[j] {
-        return true;
-    }
-    segment[i] == segment[j]
+    has(m, j) == 0 || chain[i] != chain[j] || segment[i] == segment[j]
 }
 
 // Whether the active segment i may stand with those of the set m that come after it.
@@ -41,12 +35,10 @@ fn agrees_with_all(
     requires { (i < n) × (n ≤ max_overloads) }
     ensures { (costs : List ℕ) → result ≡ agrees_after chain.now segment.now costs n m i }
 {
-    let mut j = i + 1;
-    while j < n {
+    for j in i + 1..n {
         if !agrees(chain, segment, m, i, j) {
             return false;
         }
-        j += 1;
     }
     true
 }
@@ -63,15 +55,12 @@ fn price(
     ensures { result ≡ price_of (pieces_at chain.now segment.now cost.now n 0) m }
 {
     let mut sum: u64 = 0;
-    let mut i: usize = 0;
-    while i < n {
-        let here = i;
-        i += 1;
-        if has(m, here) == 1 {
-            if !agrees_with_all(chain, segment, n, m, here) {
+    for i in 0..n {
+        if has(m, i) == 1 {
+            if !agrees_with_all(chain, segment, n, m, i) {
                 return 0;
             }
-            sum = sum + cost[here];
+            sum += cost[i];
         }
     }
     sum
@@ -96,10 +85,8 @@ pub fn prices(p: Pieces) -> [u64; COMBINATIONS]
     let n = p.count;
     let sets = sets_of(n);
     let mut out = [0u64; COMBINATIONS];
-    let mut m: usize = 0;
-    while m < sets {
+    for m in 0..sets {
         out[m] = price(&chain, &segment, &cost, n, m);
-        m += 1;
     }
     out
 }

@@ -6,7 +6,7 @@ ghost use Rattle.misses.specs.Code.Settling.{over_with, beyond, Costs, Tries, Se
 
 use crate::Settled;
 use packing::COMBINATIONS;
-use windows::{Own, any_over, smaller};
+use windows::{Own, any_over};
 
 // Whether a set that costs so much is bad.
 pub fn over(s: &[u8], own: Own, held: &[u64; Own::HELD], close: u32, cost: u64) -> bool
@@ -14,7 +14,7 @@ pub fn over(s: &[u8], own: Own, held: &[u64; Own::HELD], close: u32, cost: u64) 
     ensures { result ≡ over_with (load_of s.now own held.now) close cost }
 {
     let mut dearer = own;
-    dearer.once = dearer.once + cost;
+    dearer.once += cost;
     any_over(s, dearer, held, close)
 }
 
@@ -40,13 +40,7 @@ fn round(s: &[u8], own: Own, held: &[u64; Own::HELD], close: u32, ends: Settled,
 fn inside(ends: Settled, c: u64) -> u64
     ensures { Inside ends c result }
 {
-    if c <= ends.good {
-        return 0;
-    }
-    if ends.bad <= c {
-        return 0;
-    }
-    smaller(c - ends.good, ends.bad - c)
+    c.saturating_sub(ends.good).min(ends.bad.saturating_sub(c))
 }
 
 // The open cost that is farthest inside, 0 if none is open. Past the sets that there are costs are 0, which is never open.
@@ -56,11 +50,9 @@ fn pick(costs: &[u64; COMBINATIONS], sets: usize, ends: Settled) -> u64
 {
     let mut best: u64 = 0;
     let mut most: u64 = 0;
-    let mut m: usize = 0;
-    while m < sets {
+    for m in 0..sets {
         let c = costs[m];
         let n = inside(ends, c);
-        m += 1;
         if most < n {
             best = c;
             most = n;

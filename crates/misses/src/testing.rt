@@ -19,23 +19,14 @@ use packing::COMBINATIONS;
 use table::Table;
 use windows::{Others, Own, least_called, load};
 
-// 1 for a set that is bad.
-fn flag(bad: bool) -> u8
-    ensures { result ≡ (1 when bad else 0) }
-{
-    if bad { 1 } else { 0 }
-}
-
 // The flags of all sets, by what they cost. The lowest bad cost is above 0, so a set that is no combination, whose price is 0, has
 // no flag; nor has the empty set, which the packing never looks at.
 fn flags(costs: &[u64; COMBINATIONS], lowest: u64) -> [u8; COMBINATIONS]
     ensures { (m : ℕ) → m < combinations → get_or result m 0 ≡ (1 when leb lowest (get_or costs.now m 0) else 0) }
 {
     let mut out = [0u8; COMBINATIONS];
-    let mut m: usize = 0;
-    while m < COMBINATIONS {
-        out[m] = flag(lowest <= costs[m]);
-        m += 1;
+    for m in 0..COMBINATIONS {
+        out[m] = u8::from(lowest <= costs[m]);
     }
     out
 }
@@ -54,10 +45,8 @@ fn flags_by_windows(
     ensures { (m : ℕ) → m < combinations → get_or result m 0 ≡ (1 when over_with (load_of s.now own held.now) close (get_or costs.now m 0) else 0) }
 {
     let mut out = [0u8; COMBINATIONS];
-    let mut m: usize = 0;
-    while m < sets {
-        out[m] = flag(over(s, own, held, close, costs[m]));
-        m += 1;
+    for m in 0..sets {
+        out[m] = u8::from(over(s, own, held, close, costs[m]));
     }
     out
 }

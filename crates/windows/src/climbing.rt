@@ -11,13 +11,6 @@ use crate::{Own, Window};
 use arrivals::eta_from;
 use table::Table;
 
-// How far a is past b, 0 if it is not.
-pub fn past(a: u64, b: u64) -> u64
-    ensures { result ≡ a - b }
-{
-    if a < b { 0 } else { a - b }
-}
-
 // η(t) by the chain's list, which is no less than `before`; not counted where its first part counts nothing.
 fn own_count(s: &[u8], list: usize, part: u64, t: u64, before: u64) -> u64
     requires { Lists s.now list × (t ≤ horizon) × (before ≤ η (distances_from s.now list) t) }
@@ -41,12 +34,10 @@ fn held_sum(
     ensures { (result ≡ held_of s.now held.now n t) × CountsHeld s.now held.now n t counts.old counts.new }
 {
     let mut sum: u64 = 0;
-    let mut i: usize = 0;
-    while i < n {
+    for i in 0..n {
         let count = eta_from(s, held[Table::CHAINS + i] as usize, t, counts[i]);
         counts[i] = count;
-        sum = sum + count * held[i];
-        i += 1;
+        sum += count * held[i];
     }
     sum
 }
@@ -69,7 +60,7 @@ pub fn climb(
     while t <= Table::HORIZON {
         let mine = own_count(s, own.list, own.part, t, counts[Table::CHAINS]);
         counts[Table::CHAINS] = mine;
-        let more = past(mine, q) * own.part;
+        let more = mine.saturating_sub(q) * own.part;
         let d = fixed + more + held_sum(s, held, own.count, t, counts);
         if d == t {
             return Window::At(t);

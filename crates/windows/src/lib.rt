@@ -10,7 +10,7 @@ mod walking;
 
 pub use loading::load;
 pub use query::{bound, latency};
-pub use sieving::{least_called, smaller};
+pub use sieving::least_called;
 pub use sweeping::any_over;
 use table::Table;
 

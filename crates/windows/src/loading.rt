@@ -88,17 +88,14 @@ fn join(
     requires { Joins s.now span floor own held.old }
     ensures { Joined (load_of s.now own held.old) (views_from others s.now own.at span) (load_of s.now result held.new) }
 {
-    let to = span.to;
     let mut l = own;
     let mut at = span.at;
-    let mut chain = span.from;
-    while chain < to {
+    for _ in span.from..span.to {
         let here = at;
-        at = at + record_length(s, at);
-        chain += 1;
+        at += record_length(s, at);
         if adds(others, overload_at(s, here)) {
             let x = term(s, here, floor);
-            l.once = l.once + x.once;
+            l.once += x.once;
             if x.rate != 0 {
                 let i = l.count;
                 held[i] = x.rate;

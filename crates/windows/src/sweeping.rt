@@ -16,8 +16,7 @@ pub fn any_over(s: &[u8], own: Own, held: &[u64; Own::HELD], close: u32) -> bool
     let deadline = deadline_at(s, own.at);
     let mut counts = [0u64; Own::COUNTS];
     let mut start: u64 = 1;
-    let mut done: u32 = 0;
-    while done < close {
+    for done in 0..close {
         let q = done as u64 + 1;
         let w = climb(s, own, held, q, start, &mut counts);
         let Window::At(t) = w else {
@@ -27,7 +26,6 @@ pub fn any_over(s: &[u8], own: Own, held: &[u64; Own::HELD], close: u32) -> bool
             return true;
         }
         start = t;
-        done += 1;
     }
     false
 }

@@ -1,5 +1,5 @@
 // K, latency, late, margin and the last window, activation by activation.
-ghost use Rattle.std.specs.Prelude.{◌≡◌, max, ◌≤◌};
+ghost use Rattle.std.specs.Prelude.{◌≡◌, ◌≤◌};
 ghost use Rattle.table.specs.Limits.{horizon, max_deadline};
 ghost use Rattle.windows.specs.Latency.{over_of, margin_of, unbounded};
 ghost use Rattle.windows.specs.Code.Load.{load_of, Sound, windows_in};
@@ -9,17 +9,11 @@ use crate::{Answer, Own, Window, Windows};
 use arrivals::delta;
 use table::{Table, deadline_at};
 
-fn larger(a: u64, b: u64) -> u64
-    ensures { result ≡ max a b }
-{
-    if a < b { b } else { a }
-}
-
 // 1 where x exceeds the deadline.
 fn over(x: u64, deadline: u64) -> u32
     ensures { result ≡ over_of x deadline }
 {
-    if deadline < x { 1 } else { 0 }
+    u32::from(deadline < x)
 }
 
 // Deadline minus latency, signed.
@@ -47,12 +41,11 @@ pub fn walk(s: &[u8], own: Own, held: &[u64; Own::HELD]) -> Windows
 {
     let deadline = deadline_at(s, own.at);
     let mut counts = [0u64; Own::COUNTS];
-    let mut done: u32 = 0;
     let mut start: u64 = 1;
     let mut behind: u64 = 0;
     let mut latency: u64 = 0;
     let mut late: u32 = 0;
-    while done < Table::ACTIVATIONS {
+    for done in 0..Table::ACTIVATIONS {
         let q = done + 1;
         let w = climb(s, own, held, q as u64, start, &mut counts);
         let Window::At(t) = w else {
@@ -60,8 +53,8 @@ pub fn walk(s: &[u8], own: Own, held: &[u64; Own::HELD]) -> Windows
         };
         let span = t - behind;
         let next = delta(s, own.list, q as u64 + 1);
-        latency = larger(latency, span);
-        late = late + over(span, deadline as u64);
+        latency = latency.max(span);
+        late += over(span, deadline as u64);
         if t <= next {
             let greatest = latency as u32;
             return Windows {
@@ -76,7 +69,6 @@ pub fn walk(s: &[u8], own: Own, held: &[u64; Own::HELD]) -> Windows
         }
         start = t;
         behind = next;
-        done = q;
     }
     refused(17)
 }

@@ -11,7 +11,7 @@ use Rattle.segments.specs.Code.Held.{arrays_of}
 use Rattle.segments.proofs.Bounds.{actives-few}
 use Rattle.misses.proofs.Gathers.{adds_none, adds_on, adds-past, adds-chain}
 use Rattle.misses.proofs.Pieces.beside.Goals as goal
-use Rattle.misses.proofs.Pieces.beside.Goals.{After-capacity-most, Start}
+use Rattle.misses.proofs.Pieces.beside.Goals.{After-capacity-most, Start, then-to-lt-OVERLOADS, else-to-lt-OVERLOADS}
 
 -- the chain
 abbrev chain : (c : Start) → Row
@@ -30,31 +30,27 @@ capacity-most-requires c = let p = c.requires in (p.0, p.2)
 pub loop-i-init : goal.loop-i-init
 loop-i-init c = (omega arith, refl, omega arith, adds_none _ _ _)
 
-pub overflow_add-i : goal.overflow_add-i
-overflow_add-i c = omega (arith, few (goal.at.overflow_add-i c).After-capacity-most)
-
 pub overflow_add-p : goal.overflow_add-p
 overflow_add-p c = omega (arith, few (goal.at.overflow_add-p c).After-capacity-most, c.requires.4)
 
-pub offset_bounds-found-from : goal.offset_bounds-found-from
-offset_bounds-found-from c = omega (arith, few (goal.at.offset_bounds-found-from c).After-capacity-most)
+pub offset_bounds-found-i : goal.offset_bounds-found-i
+offset_bounds-found-i c = omega (arith, few (goal.at.offset_bounds-found-i c).After-capacity-most)
 
-pub bounds-found-from : goal.bounds-found-from
-bounds-found-from c = omega (arith, few (goal.at.bounds-found-from c).After-capacity-most)
+pub bounds-found-i : goal.bounds-found-i
+bounds-found-i c = omega (arith, few (goal.at.bounds-found-i c).After-capacity-most)
 
-pub offset_bounds-found-from-then-to-lt-OVERLOADS : goal.offset_bounds-found-from-then-to-lt-OVERLOADS
-offset_bounds-found-from-then-to-lt-OVERLOADS c = omega (arith, few (goal.at.offset_bounds-found-from-then-to-lt-OVERLOADS c).After-capacity-most)
+pub offset_bounds-found-i-then-to-lt-OVERLOADS : goal.offset_bounds-found-i-then-to-lt-OVERLOADS
+offset_bounds-found-i-then-to-lt-OVERLOADS c = omega (arith, few (goal.at.offset_bounds-found-i-then-to-lt-OVERLOADS c).After-capacity-most)
 
-pub bounds-found-from-then-to-lt-OVERLOADS : goal.bounds-found-from-then-to-lt-OVERLOADS
-bounds-found-from-then-to-lt-OVERLOADS c = omega (arith, few (goal.at.bounds-found-from-then-to-lt-OVERLOADS c).After-capacity-most)
-
-pub loop-i-preserved-then-to-lt-OVERLOADS : goal.loop-i-preserved-then-to-lt-OVERLOADS
-loop-i-preserved-then-to-lt-OVERLOADS c = let l = c.loop-i in
-    (omega arith, l.invariant.1, omega arith, rw c.u64_from_u32.ensures.0 (adds_on _ _ _ l.p l.i l.invariant.3 c.loop-i-test.true))
+pub bounds-found-i-then-to-lt-OVERLOADS : goal.bounds-found-i-then-to-lt-OVERLOADS
+bounds-found-i-then-to-lt-OVERLOADS c = omega (arith, few (goal.at.bounds-found-i-then-to-lt-OVERLOADS c).After-capacity-most)
 
 pub loop-i-preserved : goal.loop-i-preserved
 loop-i-preserved c = let l = c.loop-i in
-    (omega arith, l.invariant.1, omega arith, adds-past _ _ _ l.p l.i l.invariant.3 c.loop-i-test.true c.if-to-lt-OVERLOADS.false)
+    elim c.if-to-lt-OVERLOADS.branch [
+      | then-to-lt-OVERLOADS w ↦ rw (w.p-is, w.from.ensures) (omega arith, l.invariant.1, omega arith, adds_on _ _ _ l.p l.i l.invariant.3 c.loop-i-test.true)
+      | else-to-lt-OVERLOADS w ↦ rw w.p-is (omega arith, l.invariant.1, omega arith, adds-past _ _ _ l.p l.i l.invariant.3 c.loop-i-test.true w.if-to-lt-OVERLOADS.false)
+    ]
 
 pub overflow_add-p-2 : goal.overflow_add-p-2
 overflow_add-p-2 c = omega (arith, c.loop-i.invariant.1, c.requires.3)

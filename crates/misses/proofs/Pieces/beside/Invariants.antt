@@ -6,6 +6,3 @@ use Rattle.misses.proofs.Pieces.beside.Given as goal
 
 abbrev pub invariant-loop-i : goal.invariant-loop-i
 invariant-loop-i l = (l.i ≤ l.found.count) × (l.p.chains ≡ l.initial.p.chains) × (l.p.count ≡ l.initial.p.count + l.i) × Adds l.found l.most l.initial.p l.p l.i
-
-abbrev pub decreases-loop-i : goal.decreases-loop-i
-decreases-loop-i l = l.found.count - l.i

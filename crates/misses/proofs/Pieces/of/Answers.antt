@@ -17,7 +17,7 @@ use Rattle.misses.specs.Overloads.{overload}
 use Rattle.misses.specs.Code.Held.{gathered}
 use Rattle.misses.proofs.Gathers.{gone-none, gone-typical, gone-overload, gone-all}
 use Rattle.misses.proofs.Pieces.of.Goals as goal
-use Rattle.misses.proofs.Pieces.of.Goals.{After-overload_at, After-record_length-at, In-loop-j, Start}
+use Rattle.misses.proofs.Pieces.of.Goals.{After-overload_at, After-record_length-at, In-loop, Start, then-overload_at-ne0, else-overload_at-ne0}
 
 -- the table, and the chain b
 abbrev table : (c : Start) → Table
@@ -27,22 +27,22 @@ abbrev b : (c : Start) → Row
 b c = row_at c.args.s.now c.args.b
 
 -- the chain j is there, its record stands, and so does the next one's after it
-within : (c : In-loop-j) → c.loop-j.j < ((table_of c.args.s.now)).count
-within c = omega (arith, c.count-chains.ensures, c.loop-j-test.true)
+within : (c : In-loop) → c.loop.counter < ((table_of c.args.s.now)).count
+within c = omega (arith, c.count-chains.ensures, c.loop-test.true)
 
-here : (c : In-loop-j) → Stands c.args.s.now c.loop-j.at
-here c = stands c.requires.0 c.loop-j.invariant.0 (within c)
+here : (c : In-loop) → Stands c.args.s.now c.loop.at
+here c = stands c.requires.0 c.loop.invariant.0 (within c)
 
-next : (c : After-record_length-at) → c.loop-j.at + c.record_length-at.result ≡ place_of ((table_of c.args.s.now)) (c.loop-j.j + 1)
-next c = ap (λ n. c.loop-j.at + n) c.record_length-at.ensures ∙ place-next c.requires.0 c.loop-j.invariant.0 ((let it : c.loop-j.j < ((table_of c.args.s.now)).count = omega (arith, c.count-chains.ensures, c.loop-j-test.true) in it))
+next : (c : After-record_length-at) → c.loop.at + c.record_length-at.result ≡ place_of ((table_of c.args.s.now)) (c.loop.counter + 1)
+next c = ap (λ n. c.loop.at + n) c.record_length-at.ensures ∙ place-next c.requires.0 c.loop.invariant.0 ((let it : c.loop.counter < ((table_of c.args.s.now)).count = omega (arith, c.count-chains.ensures, c.loop-test.true) in it))
 
 -- its row, and its overload mark
-row : (c : In-loop-j) → row_at c.args.s.now c.loop-j.at ≡ row_of ((table_of c.args.s.now)) c.loop-j.j
-row c = row-there c.requires.0 c.loop-j.invariant.0 (within c)
+row : (c : In-loop) → row_at c.args.s.now c.loop.at ≡ row_of ((table_of c.args.s.now)) c.loop.counter
+row c = row-there c.requires.0 c.loop.invariant.0 (within c)
 
-mark : (c : After-overload_at) → c.overload_at.result ≡ (row_of ((table_of c.args.s.now)) c.loop-j.j).overload
+mark : (c : After-overload_at) → c.overload_at.result ≡ (row_of ((table_of c.args.s.now)) c.loop.counter).overload
 unfolding row_at
-mark c = c.overload_at.ensures ∙ ap (λ (r : Row). r.overload) ((let it : row_at c.args.s.now c.loop-j.at ≡ row_of ((table_of c.args.s.now)) c.loop-j.j = row-there c.requires.0 c.loop-j.invariant.0 ((let it : c.loop-j.j < ((table_of c.args.s.now)).count = omega (arith, c.count-chains.ensures, c.loop-j-test.true) in it)) in it))
+mark c = c.overload_at.ensures ∙ ap (λ (r : Row). r.overload) ((let it : row_at c.args.s.now c.loop.at ≡ row_of ((table_of c.args.s.now)) c.loop.counter = row-there c.requires.0 c.loop.invariant.0 ((let it : c.loop.counter < ((table_of c.args.s.now)).count = omega (arith, c.count-chains.ensures, c.loop-test.true) in it)) in it))
 
 pub floor_of-floor-requires : goal.floor_of-floor-requires
 floor_of-floor-requires c = c.requires.1
@@ -53,50 +53,44 @@ tail_of-tail-requires c = c.requires.1
 pub count-chains-requires : goal.count-chains-requires
 count-chains-requires c = c.requires.0
 
-pub loop-j-init : goal.loop-j-init
-loop-j-init c = (place_none (table (goal.at.loop-j-init c).Start), gone-none _ _ _ _ c.none-p.ensures)
+pub loop-init : goal.loop-init
+loop-init c = (place_none (table (goal.at.loop-init c).Start), gone-none _ _ _ _ c.none-p.ensures)
 
 pub record_length-at-requires : goal.record_length-at-requires
 record_length-at-requires c = omega (arith, (here c).there)
 
 pub overflow_add-at : goal.overflow_add-at
-overflow_add-at c = omega (arith, c.record_length-at.ensures, (here (goal.at.overflow_add-at c).In-loop-j).there)
-
-pub overflow_add-j : goal.overflow_add-j
-overflow_add-j c = omega (arith, c.requires.0.good.few, within (goal.at.overflow_add-j c).In-loop-j)
+overflow_add-at c = omega (arith, c.record_length-at.ensures, (here (goal.at.overflow_add-at c).In-loop).there)
 
 pub overload_at-requires : goal.overload_at-requires
-overload_at-requires c = omega (arith, (here (goal.at.overload_at-requires c).In-loop-j).there)
+overload_at-requires c = omega (arith, (here (goal.at.overload_at-requires c).In-loop).there)
 
 pub beside-p-requires : goal.beside-p-requires
-beside-p-requires c = let gone = c.loop-j.invariant.1 in
-    let h = within (goal.at.beside-p-requires c).In-loop-j in (
-      here (goal.at.beside-p-requires c).In-loop-j,
+beside-p-requires c = let gone = c.loop.invariant.1 in
+    let h = within (goal.at.beside-p-requires c).In-loop in (
+      here (goal.at.beside-p-requires c).In-loop,
       omega (arith, c.floor_of-floor.ensures, c.tail_of-tail.ensures, floor_tail (b (goal.at.beside-p-requires c).Start)),
       c.requires.2,
       omega (arith, gone.chains, h, c.requires.0.good.few),
       omega (arith, gone.few, h, c.requires.0.good.few),
     )
 
-pub loop-j-smaller-then-overload_at-ne0 : goal.loop-j-smaller-then-overload_at-ne0
-loop-j-smaller-then-overload_at-ne0 c = omega (arith, within (goal.at.loop-j-smaller-then-overload_at-ne0 c).In-loop-j)
-
-pub loop-j-preserved-then-overload_at-ne0 : goal.loop-j-preserved-then-overload_at-ne0
-loop-j-preserved-then-overload_at-ne0 c = let l = c.loop-j in (
-  next (goal.at.loop-j-preserved-then-overload_at-ne0 c).After-record_length-at,
-  gone-overload (table (goal.at.loop-j-preserved-then-overload_at-ne0 c).Start) (b (goal.at.loop-j-preserved-then-overload_at-ne0 c).Start) c.args.t c.requires.0.good l.p l.j l.invariant.1 (within (goal.at.loop-j-preserved-then-overload_at-ne0 c).In-loop-j) (λ e. c.if-overload_at-ne0.true (mark (goal.at.loop-j-preserved-then-overload_at-ne0 c).After-overload_at ∙ e)) c.beside-p.result
-      (λ os e. c.beside-p.ensures (b (goal.at.loop-j-preserved-then-overload_at-ne0 c).Start) os (sym c.floor_of-floor.ensures) (sym c.tail_of-tail.ensures) e
-      ∙ ap (λ r. gathered c.args.t (os ++ (overload r (b (goal.at.loop-j-preserved-then-overload_at-ne0 c).Start) ∷ []))) (row (goal.at.loop-j-preserved-then-overload_at-ne0 c).In-loop-j)),
-)
-
-pub loop-j-smaller : goal.loop-j-smaller
-loop-j-smaller c = omega (arith, within (goal.at.loop-j-smaller c).In-loop-j)
-
-pub loop-j-preserved : goal.loop-j-preserved
-loop-j-preserved c = let l = c.loop-j in (
-  next (goal.at.loop-j-preserved c).After-record_length-at,
-  gone-typical (table (goal.at.loop-j-preserved c).Start) (b (goal.at.loop-j-preserved c).Start) c.args.t c.requires.0.good l.p l.j l.invariant.1 (within (goal.at.loop-j-preserved c).In-loop-j) (sym (mark (goal.at.loop-j-preserved c).After-overload_at) ∙ c.if-overload_at-ne0.false),
-)
+pub loop-preserved : goal.loop-preserved
+loop-preserved c = let l = c.loop in
+    let table = table (goal.at.loop-preserved c).Start in
+    let b = b (goal.at.loop-preserved c).Start in
+    let good = c.requires.0.good in
+    let there = within (goal.at.loop-preserved c).In-loop in
+    let mark = mark (goal.at.loop-preserved c).After-overload_at in (
+      next (goal.at.loop-preserved c).After-record_length-at,
+      elim c.if-overload_at-ne0.branch [
+        | then-overload_at-ne0 w ↦ rw w.p-is
+            (gone-overload table b c.args.t good l.p l.counter l.invariant.1 there (λ e. w.if-overload_at-ne0.true (mark ∙ e)) w.beside-p.result
+            (λ os e. w.beside-p.ensures b os (sym c.floor_of-floor.ensures) (sym c.tail_of-tail.ensures) e
+            ∙ ap (λ r. gathered c.args.t (os ++ (overload r b ∷ []))) (row (goal.at.loop-preserved c).In-loop)))
+        | else-overload_at-ne0 w ↦ rw w.p-is (gone-typical table b c.args.t good l.p l.counter l.invariant.1 there (sym mark ∙ w.if-overload_at-ne0.false))
+      ],
+    )
 
 pub returns : goal.returns
-returns c = gone-all (table (goal.at.returns c).Start) (b (goal.at.returns c).Start) c.args.t _ _ c.loop-j.invariant.1 (omega (arith, c.count-chains.ensures, c.loop-j-test.false))
+returns c = gone-all (table (goal.at.returns c).Start) (b (goal.at.returns c).Start) c.args.t _ _ c.loop.invariant.1 (omega (arith, c.count-chains.ensures, c.loop-test.false))

@@ -12,13 +12,13 @@ use Rattle.misses.proofs.asking.above.Goals as goal
 pub loop-i-init : goal.loop-i-init
 loop-i-init c = (omega arith, refl)
 
-pub returns-then-u64_from_u8-gt-CAPACITY : goal.returns-then-u64_from_u8-gt-CAPACITY
-returns-then-u64_from_u8-gt-CAPACITY c = let h : max_capacity < get_or c.args.capacity.now c.loop-i.i 0 = omega (arith, c.u64_from_u8.ensures.0, c.if-u64_from_u8-gt-CAPACITY.true) in
+pub returns-then-from-gt-CAPACITY : goal.returns-then-from-gt-CAPACITY
+returns-then-from-gt-CAPACITY c = let h : max_capacity < get_or c.args.capacity.now c.loop-i.i 0 = omega (arith, c.from.ensures, c.if-from-gt-CAPACITY.true) in
     sym (some-here (ltb max_capacity) c.args.capacity.now c.loop-i.i 0 (omega (arith, c.requires)) (lt-ltb _ _ h))
     ∙ c.loop-i.invariant.1
 
 pub loop-i-preserved : goal.loop-i-preserved
-loop-i-preserved c = let h : get_or c.args.capacity.now c.loop-i.i 0 ≤ max_capacity = omega (arith, c.u64_from_u8.ensures.0, c.if-u64_from_u8-gt-CAPACITY.false) in (
+loop-i-preserved c = let h : get_or c.args.capacity.now c.loop-i.i 0 ≤ max_capacity = omega (arith, c.from.ensures, c.if-from-gt-CAPACITY.false) in (
   omega arith,
   sym (some-later (ltb max_capacity) c.args.capacity.now c.loop-i.i 0 (omega (arith, c.requires)) (le-ltb _ _ h))
       ∙ c.loop-i.invariant.1,

@@ -9,6 +9,3 @@ use Rattle.misses.proofs.asking.above.Given as goal
 
 abbrev pub invariant-loop-i : goal.invariant-loop-i
 invariant-loop-i l = (l.i ≤ 6) × (some (ltb max_capacity) (drop l.i l.capacity) ≡ some (ltb max_capacity) l.capacity)
-
-abbrev pub decreases-loop-i : goal.decreases-loop-i
-decreases-loop-i l = 6 - l.i

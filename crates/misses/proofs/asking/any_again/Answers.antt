@@ -12,52 +12,46 @@ use Rattle.search.specs.Lists.{some}
 use Rattle.misses.specs.Overloads.{overloads}
 use Rattle.misses.proofs.Starts.{starts, again-here, again-later, again-past}
 use Rattle.misses.proofs.asking.any_again.Goals as goal
-use Rattle.misses.proofs.asking.any_again.Goals.{After-again, In-loop-chain}
+use Rattle.misses.proofs.asking.any_again.Goals.{After-again, In-loop}
 
 -- the chain is there
-within : (c : In-loop-chain) → c.loop-chain.chain < (table_of c.args.s.now).count
-within c = omega (arith, c.count-chains.ensures, c.loop-chain-test.true)
+within : (c : In-loop) → c.loop.counter < (table_of c.args.s.now).count
+within c = omega (arith, c.count-chains.ensures, c.loop-test.true)
 
-asked : (c : After-again) → (b : Row) → c.again.result ≡ some (starts c.args.t) (overloads b (row_of (table_of c.args.s.now) c.loop-chain.chain ∷ []))
+asked : (c : After-again) → (b : Row) → c.again.result ≡ some (starts c.args.t) (overloads b (row_of (table_of c.args.s.now) c.loop.counter ∷ []))
 asked c b = c.again.ensures b
-    ∙ ap (λ r. some (starts c.args.t) (overloads b (r ∷ []))) (row-there c.requires.0 c.loop-chain.invariant.1 ((let it : c.loop-chain.chain < (table_of c.args.s.now).count = omega (arith, c.count-chains.ensures, c.loop-chain-test.true) in it)))
+    ∙ ap (λ r. some (starts c.args.t) (overloads b (r ∷ []))) (row-there c.requires.0 c.loop.invariant.1 ((let it : c.loop.counter < (table_of c.args.s.now).count = omega (arith, c.count-chains.ensures, c.loop-test.true) in it)))
 
 pub count-chains-requires : goal.count-chains-requires
 count-chains-requires c = c.requires.0
 
-pub loop-chain-init : goal.loop-chain-init
-loop-chain-init c = (omega arith, place_none (table_of c.args.s.now), λ b. refl)
+pub loop-init : goal.loop-init
+loop-init c = (omega arith, place_none (table_of c.args.s.now), λ b. refl)
 
 pub again-requires : goal.again-requires
-again-requires c = (stands c.requires.0 c.loop-chain.invariant.1 (within c), c.requires.1)
+again-requires c = (stands c.requires.0 c.loop.invariant.1 (within c), c.requires.1)
 
 pub returns-then-again : goal.returns-then-again
-returns-then-again c b = let l = c.loop-chain in
-    sym (again-here b (table_of c.args.s.now) c.requires.0.good c.args.t l.chain (within (goal.at.returns-then-again c).In-loop-chain) (sym (asked (goal.at.returns-then-again c).After-again b) ∙ c.if-again.true))
+returns-then-again c b = let l = c.loop in
+    sym (again-here b (table_of c.args.s.now) c.requires.0.good c.args.t l.counter (within (goal.at.returns-then-again c).In-loop) (sym (asked (goal.at.returns-then-again c).After-again b) ∙ c.if-again.true))
     ∙ l.invariant.2 b
 
 pub record_length-at-requires : goal.record_length-at-requires
-record_length-at-requires c = omega (arith, (stands c.requires.0 c.loop-chain.invariant.1 (within (goal.at.record_length-at-requires c).In-loop-chain)).there)
+record_length-at-requires c = omega (arith, (stands c.requires.0 c.loop.invariant.1 (within (goal.at.record_length-at-requires c).In-loop)).there)
 
 pub overflow_add-at : goal.overflow_add-at
-overflow_add-at c = omega (arith, c.record_length-at.ensures, (stands c.requires.0 c.loop-chain.invariant.1 (within (goal.at.overflow_add-at c).In-loop-chain)).there)
+overflow_add-at c = omega (arith, c.record_length-at.ensures, (stands c.requires.0 c.loop.invariant.1 (within (goal.at.overflow_add-at c).In-loop)).there)
 
-pub overflow_add-chain : goal.overflow_add-chain
-overflow_add-chain c = omega (arith, c.requires.0.good.few, within (goal.at.overflow_add-chain c).In-loop-chain)
-
-pub loop-chain-smaller : goal.loop-chain-smaller
-loop-chain-smaller c = omega (arith, within (goal.at.loop-chain-smaller c).In-loop-chain)
-
-pub loop-chain-preserved : goal.loop-chain-preserved
-loop-chain-preserved c = let l = c.loop-chain in
-    let h = within (goal.at.loop-chain-preserved c).In-loop-chain in (
+pub loop-preserved : goal.loop-preserved
+loop-preserved c = let l = c.loop in
+    let h = within (goal.at.loop-preserved c).In-loop in (
       omega (arith, h),
       ap (λ n. l.at + n) c.record_length-at.ensures ∙ place-next c.requires.0 l.invariant.1 h,
-      λ b. sym (again-later b (table_of c.args.s.now) c.requires.0.good c.args.t l.chain h (sym (asked (goal.at.loop-chain-preserved c).After-again b) ∙ c.if-again.false))
+      λ b. sym (again-later b (table_of c.args.s.now) c.requires.0.good c.args.t l.counter h (sym (asked (goal.at.loop-preserved c).After-again b) ∙ c.if-again.false))
           ∙ l.invariant.2 b,
     )
 
 pub returns : goal.returns
-returns c b = let l = c.loop-chain in
-    sym (again-past b (table_of c.args.s.now) c.requires.0.good c.args.t l.chain (omega (arith, c.count-chains.ensures, c.loop-chain-test.false)))
+returns c b = let l = c.loop in
+    sym (again-past b (table_of c.args.s.now) c.requires.0.good c.args.t l.counter (omega (arith, c.count-chains.ensures, c.loop-test.false)))
     ∙ l.invariant.2 b

@@ -11,9 +11,6 @@ use Rattle.misses.specs.Overloads.{overloads}
 use Rattle.misses.proofs.Starts.{starts}
 use Rattle.misses.proofs.asking.any_again.Given as goal
 
-abbrev pub invariant-loop-chain : goal.invariant-loop-chain
-invariant-loop-chain l = (l.chain ≤ (table_of l.s).count) × (l.at ≡ place_of (table_of l.s) l.chain)
-    × ((b : Row) → some (starts l.t) (overloads b (drop l.chain (rows (table_of l.s)))) ≡ some (starts l.t) (overloads b (rows (table_of l.s))))
-
-abbrev pub decreases-loop-chain : goal.decreases-loop-chain
-decreases-loop-chain l = (table_of l.s).count - l.chain
+abbrev pub invariant-loop : goal.invariant-loop
+invariant-loop l = (l.counter ≤ (table_of l.s).count) × (l.at ≡ place_of (table_of l.s) l.counter)
+    × ((b : Row) → some (starts l.t) (overloads b (drop l.counter (rows (table_of l.s)))) ≡ some (starts l.t) (overloads b (rows (table_of l.s))))

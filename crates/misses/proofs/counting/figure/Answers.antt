@@ -8,9 +8,3 @@ pub overflow_mul-all : goal.overflow_mul-all
 overflow_mul-all c = let l : c.args.late ≤ 4294967295 = omega arith in
     let u : c.args.uses ≤ 4294967295 = omega arith in
     omega (arith, mul-le-mul l u)
-
-pub returns-then-k-all : goal.returns-then-k-all
-returns-then-k-all c = omega (arith, c.if-k-all.true)
-
-pub returns-else-k-all : goal.returns-else-k-all
-returns-else-k-all c = omega (arith, c.if-k-all.false)

@@ -10,6 +10,3 @@ use Rattle.misses.proofs.pricing.agrees_with_all.Given as goal
 abbrev pub invariant-loop-j : goal.invariant-loop-j
 invariant-loop-j l = (l.j ≤ l.n)
     × ((costs : List ℕ) → every (agree (piece_at l.chain l.segment costs l.i)) (members_at l.chain l.segment costs l.n l.m (l.i + 1)) ≡ every (agree (piece_at l.chain l.segment costs l.i)) (members_at l.chain l.segment costs l.n l.m l.j))
-
-abbrev pub decreases-loop-j : goal.decreases-loop-j
-decreases-loop-j l = l.n - l.j

@@ -5,6 +5,3 @@ use Rattle.misses.proofs.pricing.price.Given as goal
 
 abbrev pub invariant-loop-i : goal.invariant-loop-i
 invariant-loop-i l = Priced l.chain l.segment l.cost l.n l.m l.sum l.i
-
-abbrev pub decreases-loop-i : goal.decreases-loop-i
-decreases-loop-i l = l.n - l.i

@@ -7,6 +7,3 @@ use Rattle.misses.proofs.pricing.prices.Given as goal
 
 abbrev pub invariant-loop-m : goal.invariant-loop-m
 invariant-loop-m l = Filled (λ k x. x ≡ price_of (pieces_at l.chain l.segment l.cost l.n 0) k) 64 l.out l.m
-
-abbrev pub decreases-loop-m : goal.decreases-loop-m
-decreases-loop-m l = l.sets - l.m

@@ -2,17 +2,20 @@
 use native.Mathlib.Omega.{arith}
 use Rattle.misses.proofs.Settles.{picking_none, picking_better, picking_worse, picking_done}
 use Rattle.misses.proofs.settling.pick.Goals as goal
+use Rattle.misses.proofs.settling.pick.Goals.{then-most-n, else-most-n}
 
 pub loop-m-init : goal.loop-m-init
 loop-m-init c = picking_none _ _ _
 
-pub loop-m-preserved-then-most-n : goal.loop-m-preserved-then-most-n
-loop-m-preserved-then-most-n c = let a = c.args in
-    picking_better a.ends a.costs.now a.sets c.loop-m.best c.loop-m.most c.loop-m.m c.inside-n.result c.loop-m.invariant c.loop-m-test.true c.inside-n.ensures c.if-most-n.true
-
 pub loop-m-preserved : goal.loop-m-preserved
 loop-m-preserved c = let a = c.args in
-    picking_worse a.ends a.costs.now a.sets c.loop-m.best c.loop-m.most c.loop-m.m c.inside-n.result c.loop-m.invariant c.loop-m-test.true c.inside-n.ensures c.if-most-n.false
+    let l = c.loop-m in
+    let n = c.inside-n in
+    let more = c.loop-m-test.true in
+    elim c.if-most-n.branch [
+      | then-most-n w ↦ rw (w.best-is, w.most-is) (picking_better a.ends a.costs.now a.sets l.best l.most l.m n.result l.invariant more n.ensures w.if-most-n.true)
+      | else-most-n w ↦ rw (w.best-is, w.most-is) (picking_worse a.ends a.costs.now a.sets l.best l.most l.m n.result l.invariant more n.ensures w.if-most-n.false)
+    ]
 
 pub returns : goal.returns
 returns c = let l = c.loop-m in

@@ -5,6 +5,3 @@ use Rattle.misses.proofs.settling.pick.Given as goal
 
 abbrev pub invariant-loop-m : goal.invariant-loop-m
 invariant-loop-m l = Picking l.ends l.costs l.sets l.best l.most l.m
-
-abbrev pub decreases-loop-m : goal.decreases-loop-m
-decreases-loop-m l = l.sets - l.m

@@ -9,6 +9,3 @@ use Rattle.misses.proofs.testing.flags.Given as goal
 
 abbrev pub invariant-loop-m : goal.invariant-loop-m
 invariant-loop-m l = Filled (λ k x. x ≡ (1 when leb l.lowest (get_or l.costs k 0) else 0)) 64 l.out l.m
-
-abbrev pub decreases-loop-m : goal.decreases-loop-m
-decreases-loop-m l = 64 - l.m

@@ -7,6 +7,7 @@ use native.Mathlib.Omega.{arith}
 use Rattle.search.specs.Choice.{◌when◌else◌}
 use Rattle.search.proofs.Choice.{when_no, lt_or_le}
 use Rattle.windows.specs.Code.Load.{load_of}
+use Rattle.windows.proofs.Flags.{byte_when}
 use Rattle.misses.specs.Code.Settling.{over_with}
 use Rattle.misses.proofs.Fills.{filled_none, filled_on}
 use Rattle.misses.proofs.testing.flags_by_windows.Goals as goal
@@ -31,17 +32,11 @@ over-requires c = (c.requires.0, c.requires.2.within c.loop-m.m (there (goal.at.
 pub bounds-out-m : goal.bounds-out-m
 bounds-out-m c = omega (arith, there (goal.at.bounds-out-m c).In-loop-m)
 
-pub overflow_add-m : goal.overflow_add-m
-overflow_add-m c = omega (arith, there (goal.at.overflow_add-m c).In-loop-m)
-
-pub loop-m-smaller : goal.loop-m-smaller
-loop-m-smaller c = omega (arith, c.loop-m-test.true)
-
 pub loop-m-preserved : goal.loop-m-preserved
 loop-m-preserved c = let l = c.loop-m in (
   omega (arith, c.loop-m-test.true),
-  filled_on _ _ l.out l.m c.flag.result l.invariant.1 (there (goal.at.loop-m-preserved c).In-loop-m)
-      (c.flag.ensures ∙ ap (λ (t : Bool). 1 when t else 0) c.over.ensures),
+  filled_on _ _ l.out l.m c.from.result l.invariant.1 (there (goal.at.loop-m-preserved c).In-loop-m)
+      (c.from.ensures ∙ byte_when _ ∙ ap (λ (t : Bool). 1 when t else 0) c.over.ensures),
 )
 
 pub returns : goal.returns

@@ -10,6 +10,3 @@ use Rattle.misses.proofs.testing.flags_by_windows.Given as goal
 
 abbrev pub invariant-loop-m : goal.invariant-loop-m
 invariant-loop-m l = (l.m ≤ l.sets) × Filled (λ k x. x ≡ (1 when over_with (load_of l.s l.own l.held) l.close (get_or l.costs k 0) else 0)) 64 l.out l.m
-
-abbrev pub decreases-loop-m : goal.decreases-loop-m
-decreases-loop-m l = l.sets - l.m

@@ -72,17 +72,17 @@ more : (c : After-own_count-mine) → (c.own_count-mine.result - (q c)) * c.args
 more c = more_le ((load_of c.args.s.now c.args.own c.args.held.now)) c.requires.sound (q c) (t c) c.requires.few (near c) c.loop-t.invariant.1.own (told c)
 
 pub overflow_mul-more : goal.overflow_mul-more
-overflow_mul-more c = rw c.past.ensures (omega (arith, more (goal.at.overflow_mul-more c).After-own_count-mine))
+overflow_mul-more c = rw c.saturating_sub.ensures (omega (arith, more (goal.at.overflow_mul-more c).After-own_count-mine))
 
 pub overflow_add-d : goal.overflow_add-d
-overflow_add-d c = rw c.past.ensures (omega (arith, more (goal.at.overflow_add-d c).After-own_count-mine, fixed (goal.at.overflow_add-d c).Start))
+overflow_add-d c = rw c.saturating_sub.ensures (omega (arith, more (goal.at.overflow_add-d c).After-own_count-mine, fixed (goal.at.overflow_add-d c).Start))
 
 pub held_sum-requires : goal.held_sum-requires
 held_sum-requires c = let ok = c.requires.sound in
     (ok.held, c.loop-t-test.true, behind-own c.loop-t.invariant.1.held ok.held.few _)
 
 abbrev past : (c : After-held_sum) → ℕ
-past c = c.past.result
+past c = c.saturating_sub.result
 
 sums : (c : After-held_sum) → c.held_sum.result ≤ max_chains * busiest
 sums c = sum_le ((load_of c.args.s.now c.args.own c.args.held.now)) c.requires.sound (c.args.q) (c.loop-t.t) c.requires.few ((let it : (c.loop-t.t) ≤ latest = omega (arith, c.loop-t-test.true) in it)) c.held_sum.ensures.0
@@ -90,10 +90,10 @@ sums c = sum_le ((load_of c.args.s.now c.args.own c.args.held.now)) c.requires.s
 -- what the loop makes is the demand in t
 made : (c : After-held_sum) → c.args.q * c.args.own.cost + c.args.own.once + (past c) * c.args.own.part + c.held_sum.result ≡ (demand_in ((load_of c.args.s.now c.args.own c.args.held.now)) c.args.q) (c.loop-t.t)
 made c = demand-is ((load_of c.args.s.now c.args.own c.args.held.now)) c.requires.sound (c.args.q) (c.loop-t.t) c.requires.few ((let it : (c.loop-t.t) ≤ latest = omega (arith, c.loop-t-test.true) in it)) c.loop-t.invariant.1.own ((let it : c.own_count-mine.result ≡ (get_or c.loop-t.counts max_chains 0 when eqb c.args.own.part 0 else η (own_of ((load_of c.args.s.now c.args.own c.args.held.now))) (c.loop-t.t)) = c.own_count-mine.ensures ∙ ap (λ ds. get_or c.loop-t.counts max_chains 0 when eqb c.args.own.part 0 else η ds (c.loop-t.t)) (sym (own-list ((load_of c.args.s.now c.args.own c.args.held.now)) c.requires.sound)) in it))
-    c.past.ensures c.held_sum.ensures.0
+    c.saturating_sub.ensures c.held_sum.ensures.0
 
 pub overflow_add-d-in-loop-t : goal.overflow_add-d-in-loop-t
-overflow_add-d-in-loop-t c = rw c.past.ensures (omega (arith, more (goal.at.overflow_add-d-in-loop-t c).After-own_count-mine, fixed (goal.at.overflow_add-d-in-loop-t c).Start, sums c))
+overflow_add-d-in-loop-t c = rw c.saturating_sub.ensures (omega (arith, more (goal.at.overflow_add-d-in-loop-t c).After-own_count-mine, fixed (goal.at.overflow_add-d-in-loop-t c).Start, sums c))
 
 -- t grows
 climbs : (c : After-held_sum) → c.loop-t.t ≤ (demand_in ((load_of c.args.s.now c.args.own c.args.held.now)) c.args.q) c.loop-t.t

@@ -1,5 +1,4 @@
--- `held_sum` meets its contract. The loop's invariant: the sum is what the first i chains add, and fits, and these are counted. The measure
--- is how many are left.
+-- `held_sum` meets its contract. The loop's invariant: the sum is what the first i chains add, and fits, and these are counted.
 use Prim.Native.Nat.{◌≤◌, ◌+◌, ◌*◌}
 use mathlib.Core.Path.{◌≡◌, refl, ap, ap₂, sym, subst, ◌∙◌}
 use native.Mathlib.Omega.{arith}
@@ -14,9 +13,6 @@ use Rattle.windows.proofs.climbing.held_sum.Goals.{After-eta_from-count}
 pub loop-i-init : goal.loop-i-init
 unfolding held_of
 loop-i-init c = (omega arith, refl, omega arith, c.requires.2, refl)
-
-pub overflow_add-i : goal.overflow_add-i
-overflow_add-i c = omega (arith, c.requires.0.few)
 
 pub offset_bounds-held-i : goal.offset_bounds-held-i
 offset_bounds-held-i c = omega (arith, c.requires.0.few)

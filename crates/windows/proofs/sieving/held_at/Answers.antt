@@ -1,4 +1,4 @@
--- `held_at` meets its contract. The loop's invariant: the sum is what the first i chains add, and fits. The measure is how many are left.
+-- `held_at` meets its contract. The loop's invariant: the sum is what the first i chains add, and fits.
 use Prim.Native.Nat.{◌≤◌, ◌+◌, ◌*◌}
 use mathlib.Core.Path.{◌≡◌, refl, ap, ap₂, sym, ◌∙◌}
 use native.Mathlib.Omega.{arith}
@@ -11,9 +11,6 @@ use Rattle.windows.proofs.sieving.held_at.Goals.{After-eta_from}
 pub loop-i-init : goal.loop-i-init
 unfolding held_of
 loop-i-init c = (omega arith, refl, omega arith)
-
-pub overflow_add-i : goal.overflow_add-i
-overflow_add-i c = omega (arith, c.requires.0.few)
 
 pub offset_bounds-held-i : goal.offset_bounds-held-i
 offset_bounds-held-i c = omega (arith, c.requires.0.few)

@@ -54,18 +54,12 @@ overflow_add-t-in-loop-done c = omega (arith, near c)
 pub demand-requires : goal.demand-requires
 demand-requires c = (c.requires.sound, omega (arith, c.requires.few, c.loop-done-test.true), omega (arith, near c))
 
-pub overflow_add-done : goal.overflow_add-done
-overflow_add-done c = omega (arith, c.loop-done-test.true)
-
-pub loop-done-smaller : goal.loop-done-smaller
-loop-done-smaller c = omega (arith, c.loop-done-test.true)
-
 pub loop-done-preserved : goal.loop-done-preserved
 loop-done-preserved c = (
   omega (arith, c.loop-done-test.true),
-  subst (CalledFrom (load (goal.at.loop-done-preserved c).Start) (c.loop-done.done + 1) c.args.most) (sym c.smaller-least.ensures)
-      (called_on (load (goal.at.loop-done-preserved c).Start) c.args.most c.loop-done.invariant.1 (t (goal.at.loop-done-preserved c).After-delta-start) c.past.result (due-is (goal.at.loop-done-preserved c).After-delta-start)
-      (omega (arith, c.past.ensures, c.demand.ensures))),
+  subst (CalledFrom (load (goal.at.loop-done-preserved c).Start) (c.loop-done.done + 1) c.args.most) (sym c.min-least.ensures)
+      (called_on (load (goal.at.loop-done-preserved c).Start) c.args.most c.loop-done.invariant.1 (t (goal.at.loop-done-preserved c).After-delta-start) c.saturating_sub.result (due-is (goal.at.loop-done-preserved c).After-delta-start)
+      (omega (arith, c.saturating_sub.ensures, c.demand.ensures))),
 )
 
 pub returns : goal.returns

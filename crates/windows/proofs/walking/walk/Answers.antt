@@ -1,4 +1,4 @@
--- `walk` meets its contract. The loop's invariant is where the walk stands (`Walk`) and what is counted. The measure is how many activations are left.
+-- `walk` meets its contract. The loop's invariant is where the walk stands (`Walk`) and what is counted.
 use Prim.Native.Nat.{ℕ, ◌+◌, ◌≤◌, ◌<◌}
 use mathlib.Core.Path.{◌≡◌, ap, sym, ◌∙◌}
 use native.Mathlib.Omega.{arith}
@@ -39,7 +39,7 @@ size c = c.in-At.t
 
 -- an activation is taken
 turn : (c : In-At) → c.loop-done.done < max_activations
-turn c = c.loop-done-test.true
+turn c = omega (arith, c.loop-done-test.true)
 
 -- the deadline is the chain's
 deadline-is : (c : After-deadline_at-deadline) → c.deadline_at-deadline.result ≡ (row_at c.args.s.now c.args.own.at).deadline
@@ -79,14 +79,14 @@ starts : (c : After-delta-next) → c.delta-next.result ≡ (δ (own_of ((load_o
 starts c = c.delta-next.ensures ∙ ap (λ ds. δ ds (c.loop-done.done + 1 + 1)) (sym (own-list ((load_of c.args.s.now c.args.own c.args.held.now)) c.requires))
 
 -- the latency so far is within the horizon
-near : (c : After-over-late) → c.larger-latency.result ≤ horizon
-near c = walk-near ((demand_in ((load_of c.args.s.now c.args.own c.args.held.now)))) ((δ (own_of ((load_of c.args.s.now c.args.own c.args.held.now))))) c.deadline_at-deadline.result ((let it : Growing ((demand_in ((load_of c.args.s.now c.args.own c.args.held.now)))) = load-growing ((load_of c.args.s.now c.args.own c.args.held.now)) c.requires in it)) c.loop-done.invariant.0 (c.loop-done-test.true) ((let it : window_of ((demand_in ((load_of c.args.s.now c.args.own c.args.held.now))) (c.loop-done.done + 1)) ≡ At (c.in-At.t) = sym c.climb-w.ensures.window ∙ c.in-At.is in it)) c.larger-latency.ensures c.over-late.ensures
+near : (c : After-over-late) → c.max-latency.result ≤ horizon
+near c = walk-near ((demand_in ((load_of c.args.s.now c.args.own c.args.held.now)))) ((δ (own_of ((load_of c.args.s.now c.args.own c.args.held.now))))) c.deadline_at-deadline.result ((let it : Growing ((demand_in ((load_of c.args.s.now c.args.own c.args.held.now)))) = load-growing ((load_of c.args.s.now c.args.own c.args.held.now)) c.requires in it)) c.loop-done.invariant.0 (c.loop-done-test.true) ((let it : window_of ((demand_in ((load_of c.args.s.now c.args.own c.args.held.now))) (c.loop-done.done + 1)) ≡ At (c.in-At.t) = sym c.climb-w.ensures.window ∙ c.in-At.is in it)) c.max-latency.ensures c.over-late.ensures
 
 pub overflow_add-late : goal.overflow_add-late
 overflow_add-late c = omega (
   arith,
   c.loop-done.invariant.0.some,
-  walk-few (demand (goal.at.overflow_add-late c).Start) (own (goal.at.overflow_add-late c).Start) c.deadline_at-deadline.result (growing (goal.at.overflow_add-late c).Start) c.loop-done.invariant.0 (turn (goal.at.overflow_add-late c).In-At) (at (goal.at.overflow_add-late c).In-At) c.larger-latency.ensures c.over-late.ensures,
+  walk-few (demand (goal.at.overflow_add-late c).Start) (own (goal.at.overflow_add-late c).Start) c.deadline_at-deadline.result (growing (goal.at.overflow_add-late c).Start) c.loop-done.invariant.0 (turn (goal.at.overflow_add-late c).In-At) (at (goal.at.overflow_add-late c).In-At) c.max-latency.ensures c.over-late.ensures,
 )
 
 pub overflow_cast-greatest : goal.overflow_cast-greatest
@@ -98,17 +98,17 @@ margin-requires c = (deadline-le (goal.at.margin-requires c).After-deadline_at-d
 pub returns-then-t-next : goal.returns-then-t-next
 returns-then-t-next c = let l = c.loop-done in
     let deadline = c.deadline_at-deadline.result in
-    let best = c.larger-latency.result in
+    let best = c.max-latency.result in
     let m : to_z w32 (of_z w32 c.margin.result) ≡ margin_of deadline best =
     ap (λ z. to_z w32 (of_z w32 z)) c.margin.ensures ∙ to_z-of_z (margin-fits deadline best (deadline-le (goal.at.returns-then-t-next c).After-deadline_at-deadline) (near (goal.at.returns-then-t-next c).After-over-late)) in
     ap (λ z. record { answer = Figures (l.done + 1) best (l.late + c.over-late.result) z; last = size (goal.at.returns-then-t-next c).In-At }) m
-    ∙ walk-close (demand (goal.at.returns-then-t-next c).Start) (own (goal.at.returns-then-t-next c).Start) deadline (growing (goal.at.returns-then-t-next c).Start) l.invariant.0 (turn (goal.at.returns-then-t-next c).In-At) (at (goal.at.returns-then-t-next c).In-At) c.larger-latency.ensures c.over-late.ensures
+    ∙ walk-close (demand (goal.at.returns-then-t-next c).Start) (own (goal.at.returns-then-t-next c).Start) deadline (growing (goal.at.returns-then-t-next c).Start) l.invariant.0 (turn (goal.at.returns-then-t-next c).In-At) (at (goal.at.returns-then-t-next c).In-At) c.max-latency.ensures c.over-late.ensures
     (starts (goal.at.returns-then-t-next c).After-delta-next) c.if-t-next.true
     ∙ ap (windows_of (demand (goal.at.returns-then-t-next c).Start) (own (goal.at.returns-then-t-next c).Start)) (deadline-is (goal.at.returns-then-t-next c).After-deadline_at-deadline)
 
 pub loop-done-preserved : goal.loop-done-preserved
 loop-done-preserved c = (
-  walk-on (demand (goal.at.loop-done-preserved c).Start) (own (goal.at.loop-done-preserved c).Start) c.deadline_at-deadline.result (growing (goal.at.loop-done-preserved c).Start) c.loop-done.invariant.0 (turn (goal.at.loop-done-preserved c).In-At) (at (goal.at.loop-done-preserved c).In-At) c.larger-latency.ensures c.over-late.ensures
+  walk-on (demand (goal.at.loop-done-preserved c).Start) (own (goal.at.loop-done-preserved c).Start) c.deadline_at-deadline.result (growing (goal.at.loop-done-preserved c).Start) c.loop-done.invariant.0 (turn (goal.at.loop-done-preserved c).In-At) (at (goal.at.loop-done-preserved c).In-At) c.max-latency.ensures c.over-late.ensures
       (starts (goal.at.loop-done-preserved c).After-delta-next) c.if-t-next.false,
   c.climb-w.ensures.counted (size (goal.at.loop-done-preserved c).In-At) c.in-At.is,
 )
