@@ -1,6 +1,7 @@
 -- What is to be packed leads to the answer. Assumes nothing.
 use Prim.Native.Nat.{ℕ, ◌*◌, min}
-use mathlib.Core.Path.{◌≡◌, ◌∙◌}
+use mathlib.Core.Path.{◌≡◌, ap, ◌∙◌}
+use mathlib.Core.List.{List}
 use mathlib.Core.Bool.{true, false}
 use Rattle.search.proofs.Choice.{when_yes, when_no, true-not-false}
 use Rattle.packing.specs.Most.{most_uses, flagged, capacity}
@@ -14,9 +15,12 @@ pub leads_answered : {k : ℕ} {answer a : Answer} {p : Packings} → (p.pending
 leads_answered e f = record { is = when_no _ _ e.0 ∙ e.1 ∙ f; sized = λ o. absurd (true-not-false o e.0) }
 
 -- something is
-pub leads_pending : {k : ℕ} {answer : Answer} {p : Packings} → p.pending ≡ true → Sized k p.late
-    → Misses (min k (p.late * most_uses (flagged p.bad) (capacity p.capacity))) ≡ answer → LeadsTo k answer p
-leads_pending o sized e = record { is = when_yes _ _ o ∙ e; sized = λ o. sized }
+pub leads_flagged : {k late n : ℕ} {bad room : List ℕ} {p : Packings} → (p.pending ≡ true) × (p.late ≡ late) × (p.bad ≡ bad) × (p.capacity ≡ room) → Sized k late
+    → min k (late * most_uses (flagged bad) (capacity room)) ≡ n → LeadsTo k (Misses n) p
+leads_flagged f sized e = record {
+  is = when_yes _ _ f.0 ∙ ap Misses (rw (f.1, f.2, f.3) e);
+  sized = λ o. rw f.1 sized;
+}
 
 -- to the same answer by another name
 pub leads_same : {k : ℕ} {answer other : Answer} {p : Packings} → LeadsTo k answer p → answer ≡ other → LeadsTo k other p

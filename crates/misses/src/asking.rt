@@ -15,7 +15,7 @@ ghost use Rattle.misses.specs.declared.Answer.TheVariants.{Misses};
 ghost use Rattle.misses.specs.Code.Held.{Asked, figures_at, missed_at};
 ghost use Rattle.misses.specs.Code.Packings.{test_of, Ready, LeadsTo};
 
-use crate::testing::{by_each, by_lowest, by_sieve};
+use crate::testing::{by_sieve, by_windows};
 use crate::{Answer, Figures, How, Packings, Pieces};
 use arrivals::{eta_up_to, largest, unknown};
 use table::{Table, Verdict, count, find, judge, list_place, overload_at, place, record_length};
@@ -84,8 +84,8 @@ fn by_test(s: &[u8], chain: usize, k: u32, f: Figures, p: Pieces, how: How) -> P
     ensures { LeadsTo k (Misses (missed_at (test_of how) (table_of s.now) chain k f)) result }
 {
     match how {
-        How::Lowest => by_lowest(s, chain, k, f, p),
-        How::Each => by_each(s, chain, k, f, p),
+        How::Lowest => by_windows(s, chain, k, f, p, false),
+        How::Each => by_windows(s, chain, k, f, p, true),
         How::Sieve => by_sieve(s, chain, k, f, p),
     }
 }

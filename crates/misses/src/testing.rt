@@ -1,6 +1,6 @@
 // The bad combinations by flags, where nothing is refused: by the lowest bad cost, each by its own windows, or by the sieve (document 02,
 // request 6).
-ghost use Rattle.std.specs.Prelude.{◌≡◌, false, ℕ, ◌<◌, leb, get_or};
+ghost use Rattle.std.specs.Prelude.{◌≡◌, true, false, ℕ, ◌<◌, leb, get_or};
 ghost use Rattle.search.specs.Choice.{◌when◌else◌};
 ghost use Rattle.table.specs.Read.{table_of};
 ghost use Rattle.windows.specs.Code.Load.{load_of};
@@ -64,10 +64,25 @@ impl Packings {
             capacity: [0u8; Table::OVERLOADS],
         }
     }
+
+    // The sets with these flags are to be packed, with the capacities of the active segments.
+    fn flagged(late: u32, bad: [u8; COMBINATIONS], p: Pieces) -> Self
+        ensures { (result.pending ≡ true) × (result.late ≡ late) × (result.bad ≡ bad) × (result.capacity ≡ p.capacity) }
+    {
+        let capacity = p.capacity;
+        Packings {
+            pending: true,
+            answer: Answer::Misses(0),
+            late,
+            bad,
+            capacity,
+        }
+    }
 }
 
-// What is to be packed, where sets are bad from the lowest bad cost on: nothing, and all k are missed, where the empty set is bad.
-pub fn by_lowest(s: &[u8], chain: usize, k: u32, f: Figures, p: Pieces) -> Packings
+// What is to be packed, where each set is tested by its own windows, or sets are bad from the lowest bad cost on: nothing, and all k
+// are missed, where the empty set is bad.
+pub fn by_windows(s: &[u8], chain: usize, k: u32, f: Figures, p: Pieces, each: bool) -> Packings
     requires { Ready s.now chain k f p }
     ensures { LeadsTo k (Misses (missed_at by_windows (table_of s.now) chain k f)) result }
 {
@@ -77,38 +92,13 @@ pub fn by_lowest(s: &[u8], chain: usize, k: u32, f: Figures, p: Pieces) -> Packi
         return Packings::answered(Answer::Misses(k));
     }
     let costs = prices(p);
-    let lowest = lowest_bad(s, own, &held, f.close, &costs, sets_of(p.count));
-    let bad = flags(&costs, lowest);
-    let capacity = p.capacity;
-    Packings {
-        pending: true,
-        answer: Answer::Misses(0),
-        late: f.late,
-        bad,
-        capacity,
-    }
-}
-
-// What is to be packed, where each set is tested: nothing, and all k are missed, where the empty set is bad.
-pub fn by_each(s: &[u8], chain: usize, k: u32, f: Figures, p: Pieces) -> Packings
-    requires { Ready s.now chain k f p }
-    ensures { LeadsTo k (Misses (missed_at by_windows (table_of s.now) chain k f)) result }
-{
-    let mut held = [0u64; Own::HELD];
-    let own = load(s, chain, Others::Typical, &mut held);
-    if over(s, own, &held, f.close, 0) {
-        return Packings::answered(Answer::Misses(k));
-    }
-    let costs = prices(p);
-    let bad = flags_by_windows(s, own, &held, f.close, &costs, sets_of(p.count));
-    let capacity = p.capacity;
-    Packings {
-        pending: true,
-        answer: Answer::Misses(0),
-        late: f.late,
-        bad,
-        capacity,
-    }
+    let sets = sets_of(p.count);
+    let bad = if each {
+        flags_by_windows(s, own, &held, f.close, &costs, sets)
+    } else {
+        flags(&costs, lowest_bad(s, own, &held, f.close, &costs, sets))
+    };
+    Packings::flagged(f.late, bad, p)
 }
 
 // What the empty set costs.
@@ -127,13 +117,5 @@ pub fn by_sieve(s: &[u8], chain: usize, k: u32, f: Figures, p: Pieces) -> Packin
         return Packings::answered(Answer::Misses(k));
     }
     let costs = prices(p);
-    let bad = flags(&costs, lowest);
-    let capacity = p.capacity;
-    Packings {
-        pending: true,
-        answer: Answer::Misses(0),
-        late: f.late,
-        bad,
-        capacity,
-    }
+    Packings::flagged(f.late, flags(&costs, lowest), p)
 }

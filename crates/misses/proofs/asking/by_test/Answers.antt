@@ -14,10 +14,10 @@ abbrev answer : (c : Start) → How → Answer
 answer c how = Misses (missed_at (test_of how) (table_of c.args.s.now) c.args.chain c.args.k c.args.f)
 
 pub returns-in-Lowest : goal.returns-in-Lowest
-returns-in-Lowest c = leads_same c.by_lowest.ensures (ap (answer (goal.at.returns-in-Lowest c).Start) (sym c.in-Lowest.is))
+returns-in-Lowest c = leads_same c.by_windows.ensures (ap (answer (goal.at.returns-in-Lowest c).Start) (sym c.in-Lowest.is))
 
 pub returns-in-Each : goal.returns-in-Each
-returns-in-Each c = leads_same c.by_each.ensures (ap (answer (goal.at.returns-in-Each c).Start) (sym c.in-Each.is))
+returns-in-Each c = leads_same c.by_windows-in-Each.ensures (ap (answer (goal.at.returns-in-Each c).Start) (sym c.in-Each.is))
 
 pub returns-in-Sieve : goal.returns-in-Sieve
 returns-in-Sieve c = leads_same c.by_sieve.ensures (ap (answer (goal.at.returns-in-Sieve c).Start) (sym c.in-Sieve.is))

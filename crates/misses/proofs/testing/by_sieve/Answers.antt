@@ -18,7 +18,7 @@ use Rattle.misses.specs.declared.Answer.TheVariants.{Misses}
 use Rattle.misses.specs.Code.Settling.{beyond}
 use Rattle.misses.proofs.Packs.{flags_tell}
 use Rattle.misses.proofs.Missed.{missed_few, missed_starts, missed_called, missed_within, missed_without, missed_counts, missed_sized}
-use Rattle.misses.proofs.Leading.{leads_answered, leads_pending}
+use Rattle.misses.proofs.Leading.{leads_answered, leads_flagged}
 use Rattle.misses.proofs.testing.by_sieve.Goals as goal
 use Rattle.misses.proofs.testing.by_sieve.Goals.{After-least_called-lowest, After-load-own}
 
@@ -48,10 +48,9 @@ pub prices-costs-requires : goal.prices-costs-requires
 prices-costs-requires c = missed_few c.requires
 
 pub returns : goal.returns
-returns c = let flags = c.flags-bad in
+returns c = let flags = c.flags in
     let prices = c.prices-costs in
-    leads_pending refl (missed_sized c.requires)
-    (ap Misses
+    leads_flagged c.flagged.ensures (missed_sized c.requires)
     (missed_counts c.requires by_sieve (same (goal.at.returns c).After-load-own) (fine (goal.at.returns c).After-least_called-lowest c.if-lowest-eq-NO_COST.false) prices.result prices.ensures (flagged flags.result)
     (λ m h. flags_tell flags.result (λ m. leb c.least_called-lowest.result (get_or prices.result m 0)) flags.ensures m h
-    ∙ from (goal.at.returns c).After-least_called-lowest (get_or prices.result m 0) (missed_within c.requires prices.result prices.ensures m h))))
+    ∙ from (goal.at.returns c).After-least_called-lowest (get_or prices.result m 0) (missed_within c.requires prices.result prices.ensures m h)))

@@ -1,4 +1,4 @@
--- All k where the empty set is bad; else the sets from the lowest bad cost on are the bad ones.
+-- All k where the empty set is bad; else the flags are those of the bad sets, either way.
 use Prim.Native.Nat.{ℕ}
 use mathlib.Core.Path.{◌≡◌, refl, ap, sym, ◌∙◌}
 use mathlib.Core.Bool.{false}
@@ -13,13 +13,13 @@ use Rattle.windows.specs.Code.Load.{Load, load_of}
 use Rattle.packing.specs.Most.{flagged}
 use Rattle.misses.specs.Bad.{by_windows}
 use Rattle.misses.specs.Code.Held.{Few}
-use Rattle.misses.specs.Code.Settling.{over_with, Tries}
+use Rattle.misses.specs.Code.Settling.{over_with, Costs, Tries}
 use Rattle.misses.specs.declared.Answer.TheVariants.{Misses}
 use Rattle.misses.proofs.Packs.{flags_tell}
 use Rattle.misses.proofs.Missed.{missed_few, missed_tries, missed_over, missed_costs, missed_without, missed_counts, missed_sized}
-use Rattle.misses.proofs.Leading.{leads_answered, leads_pending}
-use Rattle.misses.proofs.testing.by_lowest.Goals as goal
-use Rattle.misses.proofs.testing.by_lowest.Goals.{After-load-own, Else-over}
+use Rattle.misses.proofs.Leading.{leads_answered, leads_flagged}
+use Rattle.misses.proofs.testing.by_windows.Goals as goal
+use Rattle.misses.proofs.testing.by_windows.Goals.{After-load-own, After-sets_of-sets, Else-over, then-each, else-each}
 
 abbrev table : (c : After-load-own) → Table
 table c = table_of c.args.s.now
@@ -39,6 +39,9 @@ same c = missed_over c.requires c.load-own.ensures
 fine : (c : Else-over) → over_with ((load_of c.args.s.now c.load-own.result c.load-own.new.held)) c.args.f.close 0 ≡ false
 fine c = sym c.over.ensures ∙ c.if-over.false
 
+costs : (c : After-sets_of-sets) → Costs c.prices-costs.result c.sets_of-sets.result
+costs c = missed_costs c.requires _ c.prices-costs.ensures _ c.sets_of-sets.ensures
+
 pub over-requires : goal.over-requires
 over-requires c = (tries (goal.at.over-requires c).After-load-own, omega arith)
 
@@ -48,17 +51,23 @@ returns-then-over c = leads_answered c.answered.ensures (ap Misses (missed_witho
 pub prices-costs-requires : goal.prices-costs-requires
 prices-costs-requires c = few (goal.at.prices-costs-requires c).After-load-own
 
-pub sets_of-requires : goal.sets_of-requires
-sets_of-requires c = (few (goal.at.sets_of-requires c).After-load-own).few
+pub sets_of-sets-requires : goal.sets_of-sets-requires
+sets_of-sets-requires c = (few (goal.at.sets_of-sets-requires c).After-load-own).few
 
-pub lowest_bad-lowest-requires : goal.lowest_bad-lowest-requires
-lowest_bad-lowest-requires c = (tries (goal.at.lowest_bad-lowest-requires c).After-load-own, fine (goal.at.lowest_bad-lowest-requires c).Else-over, missed_costs c.requires _ c.prices-costs.ensures _ c.sets_of.ensures)
+pub flags_by_windows-bad-requires : goal.flags_by_windows-bad-requires
+flags_by_windows-bad-requires c = (tries (goal.at.flags_by_windows-bad-requires c).After-load-own, fine (goal.at.flags_by_windows-bad-requires c).Else-over, costs (goal.at.flags_by_windows-bad-requires c).After-sets_of-sets)
+
+pub lowest_bad-requires : goal.lowest_bad-requires
+lowest_bad-requires c = (tries (goal.at.lowest_bad-requires c).After-load-own, fine (goal.at.lowest_bad-requires c).Else-over, costs (goal.at.lowest_bad-requires c).After-sets_of-sets)
 
 pub returns : goal.returns
-returns c = let flags = c.flags-bad in
-    let lowest = c.lowest_bad-lowest in
+returns c = let p = (goal.at.returns c).After-load-own in
     let prices = c.prices-costs in
-    leads_pending refl (missed_sized c.requires)
-    (ap Misses
-    (missed_counts c.requires by_windows (same (goal.at.returns c).After-load-own) (fine (goal.at.returns c).Else-over) prices.result prices.ensures (flagged flags.result)
-    (λ m h. flags_tell flags.result (λ m. leb lowest.result (get_or prices.result m 0)) flags.ensures m h ∙ lowest.ensures m h)))
+    let costly = over_with (load p) c.args.f.close in
+    leads_flagged c.flagged.ensures (missed_sized c.requires)
+    (missed_counts c.requires by_windows (same p) (fine (goal.at.returns c).Else-over) prices.result prices.ensures (flagged c.if-each.bad)
+    (elim c.if-each.branch [
+      | then-each w ↦ rw w.bad-is (flags_tell w.flags_by_windows-bad.result (λ m. costly (get_or prices.result m 0)) w.flags_by_windows-bad.ensures)
+      | else-each w ↦ rw w.bad-is
+          (λ m h. flags_tell w.flags-bad.result (λ m. leb w.lowest_bad.result (get_or prices.result m 0)) w.flags-bad.ensures m h ∙ w.lowest_bad.ensures m h)
+    ]))
