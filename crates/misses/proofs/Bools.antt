@@ -8,6 +8,7 @@ use native.Mathlib.Numerals.{add-one}
 use lib.ListN.{length, get_or, drop}
 use lib.Seq.{drop-cons}
 use Rattle.table.proofs.Firsts.{none_or}
+use Rattle.std.specs.List.{list_any}
 use Rattle.search.specs.Lists.{some, every}
 
 module _ {A : Type 0} (p : A → Bool) where
@@ -66,6 +67,12 @@ module _ {A : Type 0} (p : A → Bool) where
 
   pub some-past : (l : List A) (i : ℕ) → length l ≤ i → some p (drop i l) ≡ false
   some-past l i h = ap (some p) (drop_past l i h) ∙ some_end
+
+  -- as the library says it
+  pub some-any : (l : List A) → some p l ≡ list_any p l
+  unfolding some
+  some-any [] = refl
+  some-any (a ∷ l) = ap (λ b. p a || b) (some-any l)
 
   pub some-single : (a : A) → some p (a ∷ []) ≡ p a
   unfolding some

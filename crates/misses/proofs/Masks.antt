@@ -1,7 +1,7 @@
 -- The active segments of a mask one by one, as the code goes through them. Assumes nothing.
 use Prim.Native.Nat.{ℕ, zero, suc, ◌+◌, ◌-◌, ◌/◌, ◌%◌, ◌^◌, ◌≤◌, ◌<◌}
 use mathlib.Core.Path.{◌≡◌, refl, ap, ap₂, sym, ◌∙◌}
-use mathlib.Core.Bool.{Bool, true, false}
+use mathlib.Core.Bool.{Bool, true, false, ◌&&◌}
 use mathlib.Core.List.{List, [], ◌∷◌}
 use mathlib.Core.Logic.{⊎_elim}
 use native.Mathlib.Omega.{arith}
@@ -10,14 +10,15 @@ use lib.Dec.{eqb}
 use lib.ListN.{length}
 use lib.Pow.{shr-shr}
 use borrow.Author.Tests.{eq-eqb, ne_eqb}
+use Rattle.std.specs.List.{list_all, range_with_len}
 use Rattle.search.specs.Choice.{◌when◌else◌}
 use Rattle.search.proofs.Choice.{when_yes, when_no, true-not-false, lt_or_le}
 use Rattle.packing.specs.Packing.{bit}
 use Rattle.misses.specs.Overloads.{Piece}
 use Rattle.search.specs.Lists.{every}
 use Rattle.misses.specs.Sets.{members, agree}
-use Rattle.misses.specs.Code.Held.{piece_at, pieces_at, members_at}
-use Rattle.misses.proofs.Bools.{every-yes, every_no}
+use Rattle.misses.specs.Code.Held.{piece_at, pieces_at, members_at, agrees_at}
+use Rattle.misses.proofs.Bools.{every-yes, every_no, every-end}
 
 module _ (p : Piece) (ps : List Piece) (m : ℕ) where
   pub members_in : m % 2 ≡ 1 → members (p ∷ ps) m ≡ p ∷ members ps (m / 2)
@@ -83,3 +84,18 @@ module _ (chains segments costs : List ℕ) (n m i j : ℕ) (h : j < n) where
 
   pub agree-step : (t : Bool) → t ≡ tested → every own (members_at chains segments costs n m j) ≡ (every own (members_at chains segments costs n m (j + 1)) when t else false)
   agree-step t e = ⊎_elim (λ b. step_in (omega (arith, bit-low j m)) t (sym e)) (λ b. step-out (λ c. omega arith) t (sym e)) (lt_or_le 0 (bit j m))
+
+and_when : (t b : Bool) → t && b ≡ (b when t else false)
+unfolding ◌when◌else◌
+and_when true b = refl
+and_when false b = refl
+
+-- beside those of the k from j on that are in the mask
+pub agree-all : (chains segments costs : List ℕ) (n m i k j : ℕ) → j + k ≡ n
+    → list_all (agrees_at chains segments m i) (range_with_len j k) ≡ every (agree (piece_at chains segments costs i)) (members_at chains segments costs n m j)
+agree-all chains segments costs n m i zero j e =
+    sym (ap (every (agree (piece_at chains segments costs i))) (at-end chains segments costs n m j (omega arith)) ∙ every-end (agree (piece_at chains segments costs i)))
+agree-all chains segments costs n m i (suc k) j e =
+    ap (λ b. agrees_at chains segments m i j && b) (agree-all chains segments costs n m i k (j + 1) (omega arith))
+    ∙ and_when (agrees_at chains segments m i j) (every (agree (piece_at chains segments costs i)) (members_at chains segments costs n m (j + 1)))
+    ∙ sym (agree-step chains segments costs n m i j (omega arith) (agrees_at chains segments m i j) refl)

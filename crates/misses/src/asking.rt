@@ -70,12 +70,7 @@ fn above(capacity: &[u8; Table::OVERLOADS]) -> bool
     requires { length capacity.now ≡ max_overloads }
     ensures { result ≡ some (ltb max_capacity) capacity.now }
 {
-    for i in 0..Table::OVERLOADS {
-        if Table::CAPACITY < u64::from(capacity[i]) {
-            return true;
-        }
-    }
-    false
+    capacity.iter().any(|c| Table::CAPACITY < u64::from(*c))
 }
 
 // What is to be packed where nothing is refused.

@@ -35,12 +35,7 @@ fn agrees_with_all(
     requires { (i < n) × (n ≤ max_overloads) }
     ensures { (costs : List ℕ) → result ≡ agrees_after chain.now segment.now costs n m i }
 {
-    for j in i + 1..n {
-        if !agrees(chain, segment, m, i, j) {
-            return false;
-        }
-    }
-    true
+    (i + 1..n).all(|j| agrees(chain, segment, m, i, j))
 }
 
 // What the set m costs, 0 where it is no combination.

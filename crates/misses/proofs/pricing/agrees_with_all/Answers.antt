@@ -1,33 +1,15 @@
--- The loop's invariant: the active segment i may stand with those after it exactly where it may with those from j on.
-use mathlib.Core.Path.{refl, ap, sym, ◌∙◌}
+-- The library's test of a list, over those after i.
+use Prim.Native.Nat.{◌+◌, ◌-◌}
+use mathlib.Core.Path.{refl, ◌∙◌}
 use native.Mathlib.Omega.{arith}
-use Rattle.search.proofs.Choice.{when_yes, when_no}
-use Rattle.search.specs.Lists.{every}
-use Rattle.misses.specs.Sets.{agree}
-use Rattle.misses.specs.Code.Held.{piece_at}
-use Rattle.misses.proofs.Bools.{every-end}
-use Rattle.misses.proofs.Masks.{at-end, agree-step}
+use Rattle.std.proofs.Common.{rules}
+use Rattle.std.proofs.lemmas.Iterator.{YieldsList-from_range}
+use Rattle.std.proofs.lemmas.Iterator.Search.{all_from_yields_List}
+use Rattle.misses.specs.Code.Held.{agrees_at}
+use Rattle.misses.proofs.Masks.{agree-all}
 use Rattle.misses.proofs.pricing.agrees_with_all.Goals as goal
 
-pub loop-j-init : goal.loop-j-init
-loop-j-init c = (omega arith, λ costs. refl)
-
-pub returns-then-not-agrees : goal.returns-then-not-agrees
-returns-then-not-agrees c costs = let a = c.args in
-    sym (c.loop-j.invariant.1 costs
-    ∙ agree-step a.chain.now a.segment.now costs a.n a.m a.i c.loop-j.j (omega arith) c.agrees.result c.agrees.ensures
-    ∙ when_no _ _ (c.if-not-agrees.true))
-
-pub loop-j-preserved : goal.loop-j-preserved
-loop-j-preserved c = let a = c.args in (
-  omega arith,
-  λ costs. c.loop-j.invariant.1 costs
-      ∙ agree-step a.chain.now a.segment.now costs a.n a.m a.i c.loop-j.j (omega arith) c.agrees.result c.agrees.ensures
-      ∙ when_yes _ _ (c.if-not-agrees.false),
-)
-
 pub returns : goal.returns
-returns c costs = let l = c.loop-j in
-    let a = c.args in
-    sym (l.invariant.1 costs ∙ ap (every (agree (piece_at a.chain.now a.segment.now costs a.i))) (at-end a.chain.now a.segment.now costs a.n a.m l.j (omega arith))
-    ∙ every-end (agree (piece_at a.chain.now a.segment.now costs a.i)))
+returns c costs = let a = c.args in
+    all_from_yields_List (agrees_at a.chain.now a.segment.now a.m a.i) _ _ _ c.all.ensures.ran (YieldsList-from_range (a.i + 1) a.n (a.n - (a.i + 1)) refl refl) (λ x b q k. search rules)
+    ∙ agree-all a.chain.now a.segment.now costs a.n a.m a.i (a.n - (a.i + 1)) (a.i + 1) (omega arith)
