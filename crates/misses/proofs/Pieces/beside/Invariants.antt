@@ -1,5 +1,5 @@
 -- The loop's invariant: i of the active segments found are held after what was held before.
-use Prim.Native.Nat.{◌+◌, ◌-◌, ◌≤◌}
+use Prim.Native.Nat.{◌+◌, ◌≤◌}
 use mathlib.Core.Path.{◌≡◌}
 use Rattle.misses.proofs.Gathers.{Adds}
 use Rattle.misses.proofs.Pieces.beside.Given as goal

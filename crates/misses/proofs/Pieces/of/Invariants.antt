@@ -1,5 +1,4 @@
 -- The loop's invariant (`Gone`): the active segments of the overload chains before the chain j are held; its record starts at `at`.
-use Prim.Native.Nat.{◌-◌}
 use mathlib.Core.Path.{◌≡◌}
 use Rattle.table.specs.Place.{place_of}
 use Rattle.table.specs.Record.{row_at}

@@ -1,5 +1,5 @@
 -- The loop's invariant: an overload chain may start again exactly where one from `chain` on may; its record starts at `at`.
-use Prim.Native.Nat.{◌-◌, ◌≤◌}
+use Prim.Native.Nat.{◌≤◌}
 use mathlib.Core.Path.{◌≡◌}
 use lib.ListN.{drop}
 use Rattle.table.specs.Find.{rows}

@@ -1,7 +1,6 @@
 -- The loop's invariant (`Priced`): the sum is what those of the set before i cost, and they may stand together with all others.
-use mathlib.Core.Path.{◌≡◌, sym, ◌∙◌}
+use mathlib.Core.Path.{sym, ◌∙◌}
 use native.Mathlib.Omega.{arith}
-use Rattle.packing.specs.Packing.{bit}
 use Rattle.misses.proofs.Prices.{priced_none, priced_out, priced_in, priced_never, priced_all}
 use Rattle.misses.proofs.pricing.price.Goals as goal
 use Rattle.misses.proofs.pricing.price.Goals.{then-has-eq1+else-not-agrees_with_all, else-has-eq1}

@@ -1,5 +1,4 @@
 -- The loop's invariant (`Priced`): the sum is what those of the set before i cost, and they may stand together with all others.
-use Prim.Native.Nat.{◌-◌}
 use Rattle.misses.proofs.Prices.{Priced}
 use Rattle.misses.proofs.pricing.price.Given as goal
 

@@ -1,5 +1,4 @@
 -- The loop's invariant: the sets below m have their prices.
-use Prim.Native.Nat.{◌-◌}
 use mathlib.Core.Path.{◌≡◌}
 use Rattle.misses.specs.Code.Held.{pieces_at, price_of}
 use Rattle.misses.proofs.Fills.{Filled}

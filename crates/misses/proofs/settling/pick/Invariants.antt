@@ -1,5 +1,4 @@
 -- The loop's invariant (`Picking`): the best of the costs gone through is open, or none of them is.
-use Prim.Native.Nat.{◌-◌}
 use Rattle.misses.proofs.Settles.{Picking}
 use Rattle.misses.proofs.settling.pick.Given as goal
 

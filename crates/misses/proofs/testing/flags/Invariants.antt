@@ -1,5 +1,4 @@
 -- The loop's invariant: the sets below m have their flags.
-use Prim.Native.Nat.{◌-◌}
 use mathlib.Core.Path.{◌≡◌}
 use lib.Dec.{leb}
 use lib.ListN.{get_or}

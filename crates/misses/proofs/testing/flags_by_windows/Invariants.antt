@@ -1,5 +1,5 @@
 -- The loop's invariant: the sets below m have their flags.
-use Prim.Native.Nat.{◌-◌, ◌≤◌}
+use Prim.Native.Nat.{◌≤◌}
 use mathlib.Core.Path.{◌≡◌}
 use lib.ListN.{get_or}
 use Rattle.search.specs.Choice.{◌when◌else◌}
