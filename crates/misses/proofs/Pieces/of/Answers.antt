@@ -1,11 +1,11 @@
 -- The loop's invariant (`Gone`): the active segments of the overload chains before the chain j are held; its record starts at `at`.
-use Prim.Native.Nat.{◌+◌, ◌<◌}
+use Prim.Native.Nat.{ℕ, ◌+◌, ◌<◌}
 use mathlib.Core.Path.{◌≡◌, ap, sym, ◌∙◌}
 use mathlib.Core.List.{[], ◌∷◌, ◌++◌}
 use native.Mathlib.Omega.{arith}
 use Rattle.table.specs.Find.{row_of}
 use Rattle.table.specs.Place.{place_of}
-use Rattle.table.specs.Record.{row_at}
+use Rattle.table.specs.Record.{length_at, overload_at, row_at}
 use Rattle.table.specs.declared.Row.{Row}
 use Rattle.table.specs.declared.Table.{Table}
 use Rattle.table.specs.Code.Taken.{Stands}
@@ -17,7 +17,7 @@ use Rattle.misses.specs.Overloads.{overload}
 use Rattle.misses.specs.Code.Held.{gathered}
 use Rattle.misses.proofs.Gathers.{gone-none, gone-typical, gone-overload, gone-all}
 use Rattle.misses.proofs.Pieces.of.Goals as goal
-use Rattle.misses.proofs.Pieces.of.Goals.{After-overload_at, After-record_length-at, In-loop, Start, then-overload_at-ne0, else-overload_at-ne0}
+use Rattle.misses.proofs.Pieces.of.Goals.{In-loop, Start, then-overload_at-ne0, else-overload_at-ne0}
 
 -- the table, and the chain b
 abbrev table : (c : Start) → Table
@@ -27,22 +27,22 @@ abbrev b : (c : Start) → Row
 b c = row_at c.args.s.now c.args.b
 
 -- the chain j is there, its record stands, and so does the next one's after it
-within : (c : In-loop) → c.loop.counter < ((table_of c.args.s.now)).count
+within : (c : In-loop) → c.loop.counter < (table_of c.args.s.now).count
 within c = omega (arith, c.count-chains.ensures, c.loop-test.true)
 
 here : (c : In-loop) → Stands c.args.s.now c.loop.at
 here c = stands c.requires.0 c.loop.invariant.0 (within c)
 
-next : (c : After-record_length-at) → c.loop.at + c.record_length-at.result ≡ place_of ((table_of c.args.s.now)) (c.loop.counter + 1)
-next c = ap (λ n. c.loop.at + n) c.record_length-at.ensures ∙ place-next c.requires.0 c.loop.invariant.0 ((let it : c.loop.counter < ((table_of c.args.s.now)).count = omega (arith, c.count-chains.ensures, c.loop-test.true) in it))
+next : (c : In-loop) → {n : ℕ} → n ≡ length_at c.args.s.now c.loop.at → c.loop.at + n ≡ place_of (table_of c.args.s.now) (c.loop.counter + 1)
+next c e = ap (λ n. c.loop.at + n) e ∙ place-next c.requires.0 c.loop.invariant.0 (within c)
 
 -- its row, and its overload mark
-row : (c : In-loop) → row_at c.args.s.now c.loop.at ≡ row_of ((table_of c.args.s.now)) c.loop.counter
+row : (c : In-loop) → row_at c.args.s.now c.loop.at ≡ row_of (table_of c.args.s.now) c.loop.counter
 row c = row-there c.requires.0 c.loop.invariant.0 (within c)
 
-mark : (c : After-overload_at) → c.overload_at.result ≡ (row_of ((table_of c.args.s.now)) c.loop.counter).overload
+mark : (c : In-loop) → {n : ℕ} → n ≡ overload_at c.args.s.now c.loop.at → n ≡ (row_of (table_of c.args.s.now) c.loop.counter).overload
 unfolding row_at
-mark c = c.overload_at.ensures ∙ ap (λ (r : Row). r.overload) ((let it : row_at c.args.s.now c.loop.at ≡ row_of ((table_of c.args.s.now)) c.loop.counter = row-there c.requires.0 c.loop.invariant.0 ((let it : c.loop.counter < ((table_of c.args.s.now)).count = omega (arith, c.count-chains.ensures, c.loop-test.true) in it)) in it))
+mark c e = e ∙ ap (λ (r : Row). r.overload) (row c)
 
 pub floor_of-floor-requires : goal.floor_of-floor-requires
 floor_of-floor-requires c = c.requires.1
@@ -81,8 +81,8 @@ loop-preserved c = let l = c.loop in
     let b = b (goal.at.loop-preserved c).Start in
     let good = c.requires.0.good in
     let there = within (goal.at.loop-preserved c).In-loop in
-    let mark = mark (goal.at.loop-preserved c).After-overload_at in (
-      next (goal.at.loop-preserved c).After-record_length-at,
+    let mark = mark (goal.at.loop-preserved c).In-loop c.overload_at.ensures in (
+      next (goal.at.loop-preserved c).In-loop c.record_length-at.ensures,
       elim c.if-overload_at-ne0.branch [
         | then-overload_at-ne0 w ↦ rw w.p-is
             (gone-overload table b c.args.t good l.p l.counter l.invariant.1 there (λ e. w.if-overload_at-ne0.true (mark ∙ e)) w.beside-p.result

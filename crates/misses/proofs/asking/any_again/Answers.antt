@@ -3,6 +3,8 @@ use Prim.Native.Nat.{◌+◌, ◌<◌}
 use mathlib.Core.Path.{◌≡◌, refl, ap, sym, ◌∙◌}
 use mathlib.Core.List.{[], ◌∷◌}
 use native.Mathlib.Omega.{arith}
+use mathlib.Core.Bool.{Bool}
+use Rattle.table.specs.Record.{row_at}
 use Rattle.table.specs.Find.{row_of}
 use Rattle.table.specs.declared.Row.{Row}
 use Rattle.table.specs.Read.{table_of}
@@ -12,15 +14,16 @@ use Rattle.search.specs.Lists.{some}
 use Rattle.misses.specs.Overloads.{overloads}
 use Rattle.misses.proofs.Starts.{starts, again-here, again-later, again-past}
 use Rattle.misses.proofs.asking.any_again.Goals as goal
-use Rattle.misses.proofs.asking.any_again.Goals.{After-again, In-loop}
+use Rattle.misses.proofs.asking.any_again.Goals.{In-loop}
 
 -- the chain is there
 within : (c : In-loop) → c.loop.counter < (table_of c.args.s.now).count
 within c = omega (arith, c.count-chains.ensures, c.loop-test.true)
 
-asked : (c : After-again) → (b : Row) → c.again.result ≡ some (starts c.args.t) (overloads b (row_of (table_of c.args.s.now) c.loop.counter ∷ []))
-asked c b = c.again.ensures b
-    ∙ ap (λ r. some (starts c.args.t) (overloads b (r ∷ []))) (row-there c.requires.0 c.loop.invariant.1 ((let it : c.loop.counter < (table_of c.args.s.now).count = omega (arith, c.count-chains.ensures, c.loop-test.true) in it)))
+-- what is asked of its record is asked of its row
+asked : (c : In-loop) → {yes : Bool} → ((r : Row) → yes ≡ some (starts c.args.t) (overloads r (row_at c.args.s.now c.loop.at ∷ [])))
+    → (r : Row) → yes ≡ some (starts c.args.t) (overloads r (row_of (table_of c.args.s.now) c.loop.counter ∷ []))
+asked c told r = told r ∙ ap (λ a. some (starts c.args.t) (overloads r (a ∷ []))) (row-there c.requires.0 c.loop.invariant.1 (within c))
 
 pub count-chains-requires : goal.count-chains-requires
 count-chains-requires c = c.requires.0
@@ -33,7 +36,8 @@ again-requires c = (stands c.requires.0 c.loop.invariant.1 (within c), c.require
 
 pub returns-then-again : goal.returns-then-again
 returns-then-again c b = let l = c.loop in
-    sym (again-here b (table_of c.args.s.now) c.requires.0.good c.args.t l.counter (within (goal.at.returns-then-again c).In-loop) (sym (asked (goal.at.returns-then-again c).After-again b) ∙ c.if-again.true))
+    let p = (goal.at.returns-then-again c).In-loop in
+    sym (again-here b (table_of c.args.s.now) c.requires.0.good c.args.t l.counter (within p) (sym (asked p c.again.ensures b) ∙ c.if-again.true))
     ∙ l.invariant.2 b
 
 pub record_length-at-requires : goal.record_length-at-requires
@@ -44,10 +48,11 @@ overflow_add-at c = omega (arith, c.record_length-at.ensures, (stands c.requires
 
 pub loop-preserved : goal.loop-preserved
 loop-preserved c = let l = c.loop in
-    let h = within (goal.at.loop-preserved c).In-loop in (
+    let p = (goal.at.loop-preserved c).In-loop in
+    let h = within p in (
       omega (arith, h),
       ap (λ n. l.at + n) c.record_length-at.ensures ∙ place-next c.requires.0 l.invariant.1 h,
-      λ b. sym (again-later b (table_of c.args.s.now) c.requires.0.good c.args.t l.counter h (sym (asked (goal.at.loop-preserved c).After-again b) ∙ c.if-again.false))
+      λ b. sym (again-later b (table_of c.args.s.now) c.requires.0.good c.args.t l.counter h (sym (asked p c.again.ensures b) ∙ c.if-again.false))
           ∙ l.invariant.2 b,
     )
 

@@ -1,5 +1,5 @@
 -- Each refusal answers the query, in the documents' order (`Judging`).
-use Prim.Native.Nat.{◌+◌, ◌*◌, ◌≤◌}
+use Prim.Native.Nat.{ℕ, ◌+◌, ◌*◌, ◌≤◌}
 use mathlib.Core.Path.{◌≡◌, ap, ap₂, ◌∙◌}
 use mathlib.Core.Bool.{false}
 use native.Mathlib.Omega.{arith}
@@ -18,11 +18,12 @@ use Rattle.search.specs.Lists.{some}
 use Rattle.misses.specs.Overloads.{overloads}
 use Rattle.misses.proofs.Starts.{starts}
 use Rattle.misses.specs.Code.Held.{gathered}
+use Rattle.misses.specs.declared.Pieces.{Pieces}
 use Rattle.misses.specs.Code.Packings.{test_of}
 use Rattle.misses.proofs.Judging.{judged-late, judged-size, judged-many, judged-again, judged_roomy, judged-admitted, judged_missed}
 use Rattle.misses.proofs.Leading.{leads_answered, leads_same}
 use Rattle.misses.proofs.asking.by_figures.Goals as goal
-use Rattle.misses.proofs.asking.by_figures.Goals.{After-above, After-largest, After-of-p, After-place-b, Start}
+use Rattle.misses.proofs.asking.by_figures.Goals.{After-place-b, Start}
 
 -- the table, and the chain b
 abbrev t : (c : Start) → Table
@@ -37,30 +38,21 @@ good c = c.requires.0.good
 here : (c : After-place-b) → Stands c.args.s.now c.place-b.result
 here c = stands c.requires.0 c.place-b.ensures c.requires.1
 
-row : (c : After-place-b) → row_at c.args.s.now c.place-b.result ≡ (row_of ((table_of c.args.s.now)) c.args.chain)
+row : (c : After-place-b) → row_at c.args.s.now c.place-b.result ≡ row_of (table_of c.args.s.now) c.args.chain
 row c = row-there c.requires.0 c.place-b.ensures c.requires.1
 
-run_is : (c : After-largest) → c.largest.result ≡ largest ((row_of ((table_of c.args.s.now)) c.args.chain)) c.args.k
-run_is c = c.largest.ensures ∙ ap (λ (r : Row). largest r c.args.k) ((let it : row_at c.args.s.now c.place-b.result ≡ (row_of ((table_of c.args.s.now)) c.args.chain) = row-there c.requires.0 c.place-b.ensures c.requires.1 in it))
+-- the largest run, by its own row
+run_is : (c : After-place-b) → {n : ℕ} → n ≡ largest (row_at c.args.s.now c.place-b.result) c.args.k → n ≡ largest (row_of (table_of c.args.s.now) c.args.chain) c.args.k
+run_is c e = e ∙ ap (λ (r : Row). largest r c.args.k) (row c)
 
-run : (c : After-largest) → c.largest.result ≤ max_run * max_largest
-run c = omega (arith, (run_is c), largest-near ((c.requires.0.good).row c.args.chain c.requires.1) c.args.k c.requires.2.high)
+run : (c : After-place-b) → {n : ℕ} → n ≡ largest (row_at c.args.s.now c.place-b.result) c.args.k → n ≤ max_run * max_largest
+run c e = omega (arith, run_is c e, largest-near ((c.requires.0.good).row c.args.chain c.requires.1) c.args.k c.requires.2.high)
 
-some-late : (c : After-of-p) → c.args.f.late ≡ 0 → ⊥
-some-late c = c.if-f-eq0.false
-
-gathers : (c : After-of-p) → c.of-p.result ≡ gathered (largest ((row_of ((table_of c.args.s.now)) c.args.chain)) c.args.k + c.args.f.latency) (overloads ((row_of ((table_of c.args.s.now)) c.args.chain)) (rows ((table_of c.args.s.now))))
-gathers c = c.of-p.ensures
-    ∙ ap₂ (λ n r. gathered (n + c.args.f.latency) (overloads r (rows ((table_of c.args.s.now))))) ((let it : c.largest.result ≡ largest ((row_of ((table_of c.args.s.now)) c.args.chain)) c.args.k = c.largest.ensures ∙ ap (λ (r : Row). largest r c.args.k) ((let it : row_at c.args.s.now c.place-b.result ≡ (row_of ((table_of c.args.s.now)) c.args.chain) = row-there c.requires.0 c.place-b.ensures c.requires.1 in it)) in it)) ((let it : row_at c.args.s.now c.place-b.result ≡ (row_of ((table_of c.args.s.now)) c.args.chain) = row-there c.requires.0 c.place-b.ensures c.requires.1 in it))
-
-six : (c : After-above) → c.of-p.result.count ≤ max_overloads
-six c = c.if-p-gt-OVERLOADS.false
-
-again : (c : After-above) → c.any_again.result ≡ some (starts c.args.f.last) (overloads ((row_of ((table_of c.args.s.now)) c.args.chain)) (rows ((table_of c.args.s.now))))
-again c = c.any_again.ensures _
-
-once : (c : After-above) → c.any_again.result ≡ false
-once c = c.if-any_again.false
+-- and so are its active segments
+gathers : (c : After-place-b) → {n : ℕ} {p : Pieces} → n ≡ largest (row_at c.args.s.now c.place-b.result) c.args.k
+    → p ≡ gathered (n + c.args.f.latency) (overloads (row_at c.args.s.now c.place-b.result) (rows (table_of c.args.s.now)))
+    → p ≡ gathered (largest (row_of (table_of c.args.s.now) c.args.chain) c.args.k + c.args.f.latency) (overloads (row_of (table_of c.args.s.now) c.args.chain) (rows (table_of c.args.s.now)))
+gathers c e f = f ∙ ap₂ (λ n r. gathered (n + c.args.f.latency) (overloads r (rows (table_of c.args.s.now)))) (run_is c e) (row c)
 
 pub returns-then-f-eq0 : goal.returns-then-f-eq0
 returns-then-f-eq0 c = leads_answered c.answered.ensures (judged-late (good (goal.at.returns-then-f-eq0 c).Start) c.args.chain c.requires.1 c.requires.2 c.if-f-eq0.true (test_of c.args.how))
@@ -72,36 +64,36 @@ pub largest-requires : goal.largest-requires
 largest-requires c = (here c, c.requires.2.low, c.requires.2.high)
 
 pub overflow_add-largest : goal.overflow_add-largest
-overflow_add-largest c = omega (arith, run (goal.at.overflow_add-largest c).After-largest, c.requires.2.near)
+overflow_add-largest c = omega (arith, run (goal.at.overflow_add-largest c).After-place-b c.largest.ensures, c.requires.2.near)
 
 pub of-p-requires : goal.of-p-requires
-of-p-requires c = (c.requires.0, here (goal.at.of-p-requires c).After-place-b, omega (arith, run (goal.at.of-p-requires c).After-largest, c.requires.2.near))
+of-p-requires c = (c.requires.0, here (goal.at.of-p-requires c).After-place-b, omega (arith, run (goal.at.of-p-requires c).After-place-b c.largest.ensures, c.requires.2.near))
 
 pub returns-then-p-gt-OVERLOADS : goal.returns-then-p-gt-OVERLOADS
-returns-then-p-gt-OVERLOADS c = leads_answered c.answered-then-p-gt-OVERLOADS.ensures (judged-many (good (goal.at.returns-then-p-gt-OVERLOADS c).Start) c.args.chain c.requires.1 c.requires.2 (some-late (goal.at.returns-then-p-gt-OVERLOADS c).After-of-p) (gathers (goal.at.returns-then-p-gt-OVERLOADS c).After-of-p) c.if-p-gt-OVERLOADS.true (test_of c.args.how))
+returns-then-p-gt-OVERLOADS c = leads_answered c.answered-then-p-gt-OVERLOADS.ensures (judged-many (good (goal.at.returns-then-p-gt-OVERLOADS c).Start) c.args.chain c.requires.1 c.requires.2 c.if-f-eq0.false (gathers (goal.at.returns-then-p-gt-OVERLOADS c).After-place-b c.largest.ensures c.of-p.ensures) c.if-p-gt-OVERLOADS.true (test_of c.args.how))
 
 pub any_again-requires : goal.any_again-requires
 any_again-requires c = (c.requires.0, c.requires.2.end)
 
 pub returns-then-any_again : goal.returns-then-any_again
 returns-then-any_again c = leads_answered c.answered-then-any_again.ensures
-    (judged-again (good (goal.at.returns-then-any_again c).Start) c.args.chain c.requires.1 c.requires.2 (some-late (goal.at.returns-then-any_again c).After-of-p) (gathers (goal.at.returns-then-any_again c).After-of-p) c.if-p-gt-OVERLOADS.false (c.any_again.ensures _) c.if-any_again.true (test_of c.args.how))
+    (judged-again (good (goal.at.returns-then-any_again c).Start) c.args.chain c.requires.1 c.requires.2 c.if-f-eq0.false (gathers (goal.at.returns-then-any_again c).After-place-b c.largest.ensures c.of-p.ensures) c.if-p-gt-OVERLOADS.false (c.any_again.ensures _) c.if-any_again.true (test_of c.args.how))
 
 pub above-requires : goal.above-requires
-above-requires c = judged-size (good (goal.at.above-requires c).Start) c.args.chain c.requires.1 c.requires.2 (some-late (goal.at.above-requires c).After-of-p) (gathers (goal.at.above-requires c).After-of-p)
+above-requires c = judged-size (good (goal.at.above-requires c).Start) c.args.chain c.requires.1 c.requires.2 c.if-f-eq0.false (gathers (goal.at.above-requires c).After-place-b c.largest.ensures c.of-p.ensures)
 
 pub returns-then-above : goal.returns-then-above
 returns-then-above c = leads_answered c.answered-then-above.ensures
-    (judged_roomy (good (goal.at.returns-then-above c).Start) c.args.chain c.requires.1 c.requires.2 (some-late (goal.at.returns-then-above c).After-of-p) (gathers (goal.at.returns-then-above c).After-of-p) (six (goal.at.returns-then-above c).After-above) (again (goal.at.returns-then-above c).After-above) (once (goal.at.returns-then-above c).After-above) c.above.ensures c.if-above.true (test_of c.args.how))
+    (judged_roomy (good (goal.at.returns-then-above c).Start) c.args.chain c.requires.1 c.requires.2 c.if-f-eq0.false (gathers (goal.at.returns-then-above c).After-place-b c.largest.ensures c.of-p.ensures) c.if-p-gt-OVERLOADS.false (c.any_again.ensures _) c.if-any_again.false c.above.ensures c.if-above.true (test_of c.args.how))
 
 pub by_test-requires : goal.by_test-requires
 by_test-requires c = record {
   taken = c.requires.0;
   there = c.requires.1;
   asked = c.requires.2;
-  admitted = judged-admitted (good (goal.at.by_test-requires c).Start) c.args.chain c.requires.1 c.requires.2 (some-late (goal.at.by_test-requires c).After-of-p) (gathers (goal.at.by_test-requires c).After-of-p) (six (goal.at.by_test-requires c).After-above) (again (goal.at.by_test-requires c).After-above) (once (goal.at.by_test-requires c).After-above) c.above.ensures c.if-above.false;
+  admitted = judged-admitted (good (goal.at.by_test-requires c).Start) c.args.chain c.requires.1 c.requires.2 c.if-f-eq0.false (gathers (goal.at.by_test-requires c).After-place-b c.largest.ensures c.of-p.ensures) c.if-p-gt-OVERLOADS.false (c.any_again.ensures _) c.if-any_again.false c.above.ensures c.if-above.false;
 }
 
 pub returns : goal.returns
 returns c = leads_same c.by_test.ensures
-    (judged_missed (good (goal.at.returns c).Start) c.args.chain c.requires.1 c.requires.2 (some-late (goal.at.returns c).After-of-p) (gathers (goal.at.returns c).After-of-p) (six (goal.at.returns c).After-above) (again (goal.at.returns c).After-above) (once (goal.at.returns c).After-above) c.above.ensures c.if-above.false (test_of c.args.how))
+    (judged_missed (good (goal.at.returns c).Start) c.args.chain c.requires.1 c.requires.2 c.if-f-eq0.false (gathers (goal.at.returns c).After-place-b c.largest.ensures c.of-p.ensures) c.if-p-gt-OVERLOADS.false (c.any_again.ensures _) c.if-any_again.false c.above.ensures c.if-above.false (test_of c.args.how))
