@@ -144,7 +144,8 @@ pub fn packings_with(s: &[u8], chain: usize, k: u32, w: Windows, how: How) -> Pa
     }
 }
 
-// For the chain with the id, of an accepted table.
+// For the chain with the id, of an accepted table. It does without `packings_with`, since its windows are worked out only where
+// nothing is refused before them.
 pub fn packings_in(s: &[u8], id: u32, k: u32, how: How) -> Packings
     requires { Taken s.now }
     ensures { LeadsTo k (tested_in δ (test_of how) (table_of s.now) id k) result }
