@@ -64,7 +64,7 @@ climb-w-requires c = record { sound = c.requires; some = omega arith; few = omeg
 
 pub returns-in_default : goal.returns-in_default
 returns-in_default c = c.refused.ensures
-    ∙ walk_none (demand (goal.at.returns-in_default c).Start) (own (goal.at.returns-in_default c).Start) c.deadline_at-deadline.result (growing (goal.at.returns-in_default c).Start) c.loop-done.invariant.0 c.loop-done-test.true
+    ∙ walk_none (demand (goal.at.returns-in_default c).Start) (own (goal.at.returns-in_default c).Start) c.deadline_at-deadline.result (growing (goal.at.returns-in_default c).Start) c.loop-done.invariant.0 (omega (arith, c.loop-done-test.true))
     (sym c.climb-w.ensures.window ∙ c.in_default.is)
     ∙ ap (windows_of (demand (goal.at.returns-in_default c).Start) (own (goal.at.returns-in_default c).Start)) (deadline-is (goal.at.returns-in_default c).After-deadline_at-deadline)
 
@@ -80,7 +80,8 @@ starts c = c.delta-next.ensures ∙ ap (λ ds. δ ds (c.loop-done.done + 1 + 1))
 
 -- the latency so far is within the horizon
 near : (c : After-over-late) → c.max-latency.result ≤ horizon
-near c = walk-near ((demand_in ((load_of c.args.s.now c.args.own c.args.held.now)))) ((δ (own_of ((load_of c.args.s.now c.args.own c.args.held.now))))) c.deadline_at-deadline.result ((let it : Growing ((demand_in ((load_of c.args.s.now c.args.own c.args.held.now)))) = load-growing ((load_of c.args.s.now c.args.own c.args.held.now)) c.requires in it)) c.loop-done.invariant.0 (c.loop-done-test.true) ((let it : window_of ((demand_in ((load_of c.args.s.now c.args.own c.args.held.now))) (c.loop-done.done + 1)) ≡ At (c.in-At.t) = sym c.climb-w.ensures.window ∙ c.in-At.is in it)) c.max-latency.ensures c.over-late.ensures
+near c = walk-near _ _ c.deadline_at-deadline.result (load-growing (load_of c.args.s.now c.args.own c.args.held.now) c.requires) c.loop-done.invariant.0 (omega (arith, c.loop-done-test.true))
+    (sym c.climb-w.ensures.window ∙ c.in-At.is) c.max-latency.ensures c.over-late.ensures
 
 pub overflow_add-late : goal.overflow_add-late
 overflow_add-late c = omega (
