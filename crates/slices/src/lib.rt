@@ -16,22 +16,6 @@ pub enum Located {
     Refused(u32),
 }
 
-// Whether the two have the same four bytes from i on.
-fn same_four(a: &[u8], b: &[u8], i: usize) -> bool
-    requires { (i + 4 ≤ length a.now) × (i + 4 ≤ length b.now) }
-    ensures { result ≡ true → (j : ℕ) → j < 4 → get_or a.now (i + j) 0 ≡ get_or b.now (i + j) 0 }
-{
-    u32_at(a, i) == u32_at(b, i)
-}
-
-// Whether the two have the same eight bytes from i on.
-fn same_eight(a: &[u8], b: &[u8], i: usize) -> bool
-    requires { (i + 8 ≤ length a.now) × (i + 8 ≤ length b.now) }
-    ensures { result ≡ true → (j : ℕ) → j < 8 → get_or a.now (i + j) 0 ≡ get_or b.now (i + j) 0 }
-{
-    u64_at(a, i) == u64_at(b, i)
-}
-
 // How far the two agree for certain: eight bytes at a time, and four at last, since a record's length is a multiple of four, or, in `CG`,
 // one more than that.
 fn agree(a: &[u8], b: &[u8]) -> usize
@@ -39,10 +23,10 @@ fn agree(a: &[u8], b: &[u8]) -> usize
     ensures { (result ≤ length a.now) × ((j : ℕ) → j < result → get_or a.now j 0 ≡ get_or b.now j 0) }
 {
     let mut i: usize = 0;
-    while 8 <= a.len() - i && same_eight(a, b, i) {
+    while 8 <= a.len() - i && u64_at(a, i) == u64_at(b, i) {
         i += 8;
     }
-    if 4 <= a.len() - i && same_four(a, b, i) {
+    if 4 <= a.len() - i && u32_at(a, i) == u32_at(b, i) {
         i += 4;
     }
     i
@@ -55,12 +39,10 @@ pub fn same(a: &[u8], b: &[u8]) -> bool
     if a.len() != b.len() {
         return false;
     }
-    let mut i = agree(a, b);
-    while i < a.len() {
+    for i in agree(a, b)..a.len() {
         if a[i] != b[i] {
             return false;
         }
-        i += 1;
     }
     true
 }
@@ -70,11 +52,7 @@ pub fn put(to: &mut [u8], at: usize, from: &[u8])
     requires { at + length from.now ≤ length to.old }
     ensures { to.new ≡ splice to.old at (length from.now) from.now }
 {
-    let mut i: usize = 0;
-    while i < from.len() {
-        to[at + i] = from[i];
-        i += 1;
-    }
+    to[at..at + from.len()].copy_from_slice(from);
 }
 
 // The record of the chain that bears the id, in an accepted table.

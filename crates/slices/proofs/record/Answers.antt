@@ -1,7 +1,5 @@
 -- An accepted table is taken; a refused one refuses the query.
-use native.Mathlib.Omega.{arith}
 use mathlib.Core.Path.{ap, sym, ◌∙◌}
-use Rattle.table.specs.Bytes.{Bytes}
 use Rattle.table.specs.Read.{by_verdict, table_of}
 use Rattle.table.specs.declared.Verdict.{Verdict}
 use Rattle.table.proofs.Accepted.{taken}
@@ -12,8 +10,7 @@ use Rattle.slices.proofs.record.Goals as goal
 use Rattle.slices.proofs.record.Goals.{Start}
 
 pub record_in-requires : goal.record_in-requires
-record_in-requires c = let bytes : Bytes c.args.s.now = λ i. omega (arith, c.shared_slice_known-1.given i) in
-    taken c.args.s.now bytes (sym c.judge.ensures ∙ c.in-Accepted.is)
+record_in-requires c = taken c.args.s.now (λ i. (c.type_inv.s i).fits) (sym c.judge.ensures ∙ c.in-Accepted.is)
 
 -- the answer by the verdict
 abbrev answer : (c : Start) → Verdict → Located

@@ -41,9 +41,10 @@ pub record_length-requires : goal.record_length-requires
 record_length-requires c = omega (arith, (there c).there)
 
 pub overflow_cast-result-then-chain-count : goal.overflow_cast-result-then-chain-count
-overflow_cast-result-then-chain-count c = let t = table_of c.args.s.now in
-    let r = c.requires.good.row (chain (goal.at.overflow_cast-result-then-chain-count c).After-place-at) (one (goal.at.overflow_cast-result-then-chain-count c).After-place-at) in
-    omega (arith, c.record_length.ensures, size (goal.at.overflow_cast-result-then-chain-count c).After-place-at, record_most r (row_of t (chain (goal.at.overflow_cast-result-then-chain-count c).After-place-at)).form (row_of t (chain (goal.at.overflow_cast-result-then-chain-count c).After-place-at)).flag)
+overflow_cast-result-then-chain-count c =
+    let here = (goal.at.overflow_cast-result-then-chain-count c).After-place-at in
+    let row = row_of (table_of c.args.s.now) (chain here) in
+    omega (arith, c.record_length.ensures, size here, record_most (c.requires.good.row (chain here) (one here)) row.form row.flag)
 
 -- the answer by the chain that was found
 module _ (t : Table) (id found : ℕ) (e : found ≡ find_of t id) where
@@ -56,7 +57,9 @@ module _ (t : Table) (id found : ℕ) (e : found ≡ find_of t id) where
   no_record h = sym (when_no _ _ (le-ltb (find_of t id) t.count (omega (arith, e, h))))
 
 pub returns-then-chain-count : goal.returns-then-chain-count
-returns-then-chain-count c = its-record _ _ _ c.find-chain.ensures c.place-at.result c.record_length.result (one (goal.at.returns-then-chain-count c).After-place-at) c.place-at.ensures (c.record_length.ensures ∙ size (goal.at.returns-then-chain-count c).After-place-at)
+returns-then-chain-count c =
+    let here = (goal.at.returns-then-chain-count c).After-place-at in
+    its-record _ _ _ c.find-chain.ensures c.place-at.result c.record_length.result (one here) c.place-at.ensures (c.record_length.ensures ∙ size here)
 
 pub returns : goal.returns
 returns c = no_record _ _ _ c.find-chain.ensures (omega (arith, c.if-chain-count.false, c.count.ensures))

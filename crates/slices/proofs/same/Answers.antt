@@ -4,7 +4,6 @@ use mathlib.Core.Path.{sym, ap}
 use mathlib.Core.List.{List}
 use lib.ListN.{length, get_or}
 use lib.Seq.{ext_get_or}
-use borrow.Author.Count.{below_more}
 use native.Mathlib.Omega.{arith}
 use Rattle.slices.proofs.Sameness.{same-yes, same_no}
 use Rattle.slices.proofs.same.Goals as goal
@@ -13,20 +12,10 @@ pub returns-then-a-b : goal.returns-then-a-b
 returns-then-a-b c = let a = c.args in
     sym (same_no a.a.now a.b.now (λ e. c.if-a-b.true (ap length e)))
 
-pub agree-i-requires : goal.agree-i-requires
-agree-i-requires c = c.if-a-b.false
-
-pub loop-i-init : goal.loop-i-init
-loop-i-init c = c.agree-i.ensures
-
 pub returns-then-a-i : goal.returns-then-a-i
 returns-then-a-i c = let a = c.args in
     sym (same_no a.a.now a.b.now (λ e. c.if-a-i.true (ap (λ (l : List ℕ). get_or l c.loop-i.i 0) e)))
 
-pub loop-i-preserved : goal.loop-i-preserved
-loop-i-preserved c = (omega arith, below_more _ _ c.loop-i.invariant.1 c.if-a-i.false)
-
 pub returns : goal.returns
 returns c = let a = c.args in
-    let l = c.loop-i in
-    sym (same-yes a.a.now a.b.now (ext_get_or 0 a.a.now a.b.now c.if-a-b.false (λ j h. l.invariant.1 j (omega (arith, h, c.loop-i-test.false)))))
+    sym (same-yes a.a.now a.b.now (ext_get_or 0 a.a.now a.b.now c.if-a-b.false (λ j h. c.loop-i.invariant j (omega arith))))
