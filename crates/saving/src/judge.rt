@@ -41,16 +41,14 @@ fn seen(s: &[u8], old: &[u8]) -> usize
 {
     let chains = table::count(s);
     let mut at: usize = 0;
-    let mut chain: usize = 0;
-    while chain < chains {
+    for chain in 0..chains {
         let end = at + table::record_length(s, at);
         if same(&s[at..end], old) {
             return chain;
         }
         at = end;
-        chain += 1;
     }
-    chain
+    chains
 }
 
 // Whether the record lacks bytes of its fixed part; one without its mark, the first two, does.

@@ -1,21 +1,10 @@
 // The result written: put together in an array, and stored in the buffer.
-ghost use Rattle.std.specs.Prelude.{◌≡◌, ◌+◌, ◌≤◌, length, replicate};
+ghost use Rattle.std.specs.Prelude.{◌≡◌, ◌+◌, ◌≤◌, length};
 ghost use Rattle.slices.specs.Slices.{splice};
 ghost use Rattle.slices.specs.Code.Begins.{Begins};
 ghost use Rattle.saving.specs.Save.{written};
 
 use slices::put;
-
-// Every byte becomes 0.
-fn clear(s: &mut [u8])
-    ensures { s.new ≡ replicate (length s.old) 0 }
-{
-    let mut i: usize = 0;
-    while i < s.len() {
-        s[i] = 0;
-        i += 1;
-    }
-}
 
 // Writes the bytes with `new` in the place of `gone` of them from `at` on, as the first of `out`.
 pub fn spliced(s: &[u8], at: usize, gone: usize, new: &[u8], out: &mut [u8])
@@ -35,6 +24,6 @@ pub fn store(buffer: &mut [u8], used: usize, res: &[u8])
     put(buffer, 0, res);
     let n = res.len();
     if n < used {
-        clear(&mut buffer[n..used]);
+        buffer[n..used].fill(0);
     }
 }

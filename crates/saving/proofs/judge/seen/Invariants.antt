@@ -1,5 +1,5 @@
 -- At the loop's head `at` is the place of `chain`, and no record before it is the old one.
-use Prim.Native.Nat.{ℕ, ◌≤◌, ◌<◌, ◌-◌}
+use Prim.Native.Nat.{ℕ, ◌<◌}
 use mathlib.Core.Path.{◌≡◌}
 use mathlib.Core.Bool.{true}
 use Rattle.table.specs.Place.{place_of}
@@ -9,7 +9,4 @@ use Rattle.slices.specs.Stored.{record_of}
 use Rattle.saving.proofs.judge.seen.Given as goal
 
 abbrev pub invariant-loop-chain : goal.invariant-loop-chain
-invariant-loop-chain l = (l.chain ≤ (table_of l.s).count) × (l.at ≡ place_of (table_of l.s) l.chain) × ((j : ℕ) → j < l.chain → same (record_of l.s j) l.old ≡ true → ⊥)
-
-abbrev pub decreases-loop-chain : goal.decreases-loop-chain
-decreases-loop-chain l = (table_of l.s).count - l.chain
+invariant-loop-chain l = (l.at ≡ place_of (table_of l.s) l.chain) × ((j : ℕ) → j < l.chain → same (record_of l.s j) l.old ≡ true → ⊥)
