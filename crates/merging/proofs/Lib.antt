@@ -1,6 +1,7 @@
 pub mod Lookup
 pub mod Seeks
 pub mod Rules
+pub mod Sides
 pub mod Leasts
 pub mod Orders
 pub mod Weights

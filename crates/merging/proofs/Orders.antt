@@ -3,6 +3,9 @@ use Prim.Native.Nat.{ℕ, ◌+◌, ◌<◌}
 use native.Mathlib.Omega.{arith}
 use mathlib.Core.Path.{◌≡◌, refl, ap, ◌∙◌}
 use mathlib.Core.List.{List, [], ◌∷◌}
+use mathlib.Core.Bool.{Bool, ◌||◌}
+use lib.Dec.{eqb}
+use Rattle.std.specs.List.{list_any}
 use lib.ListN.{length, drop, get_or, length-take, length-map, get_or-map}
 use lib.Seq.{get_or-take}
 use Rattle.search.specs.Choice.{◌when◌else◌}
@@ -14,7 +17,13 @@ use Rattle.table.specs.Read.{table_of}
 use Rattle.table.specs.Code.Taken.{Taken}
 use Rattle.table.specs.declared.Row.{Row}
 use Rattle.merging.specs.Versions.{ids_of}
-use Rattle.merging.specs.Rule.{joined}
+use Rattle.merging.specs.Rule.{among, joined}
+
+-- what the slice's own test tells
+pub among-is : (l : List ℕ) (n : ℕ) → list_any (λ m. eqb m n) l ≡ among l n
+unfolding some
+among-is [] n = refl
+among-is (m ∷ l) n = ap (λ (t : Bool). eqb m n || t) (among-is l n)
 
 -- joined to none, they are all
 pub joined-none : (l : List ℕ) → joined [] l ≡ l

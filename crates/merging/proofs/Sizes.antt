@@ -7,6 +7,7 @@ use mathlib.Core.Bool.{Bool, true, false}
 use mathlib.Core.Logic.{⊎_elim}
 use lib.Dec.{ltb}
 use lib.ListN.{length, drop, get_or, length-append, length-take}
+use Rattle.std.specs.Int.{from_bool}
 use Rattle.search.specs.Choice.{◌when◌else◌}
 use Rattle.search.specs.Lists.{keep}
 use Rattle.search.proofs.Choice.{when_cases, lt_or_le}
@@ -51,11 +52,11 @@ module _ (state : List ℕ) (states : List (List ℕ)) where
   unfolding flatten
   more_bytes = length-append state (flatten states)
 
-  pub more-records : length (keep is_record (state ∷ states)) ≡ (1 when ltb 0 (length state) else 0) + length (keep is_record states)
+  pub more-records : length (keep is_record (state ∷ states)) ≡ from_bool (ltb 0 (length state)) + length (keep is_record states)
   unfolding keep ◌when◌else◌
   more-records = by (ltb 0 (length state))
     where
-      by : (t : Bool) → length (state ∷ keep is_record states when t else keep is_record states) ≡ (1 when t else 0) + length (keep is_record states)
+      by : (t : Bool) → length (state ∷ keep is_record states when t else keep is_record states) ≡ from_bool t + length (keep is_record states)
       by true = omega arith
       by false = omega arith
 

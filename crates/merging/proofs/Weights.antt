@@ -1,30 +1,18 @@
 -- What an id counts: its conflict, and the bytes of its state. Assumes nothing.
 use Prim.Native.Nat.{ℕ, zero, suc}
 use mathlib.Core.Path.{◌≡◌, refl, ap, sym, ◌∙◌}
-use mathlib.Core.List.{List, []}
+use mathlib.Core.List.{[]}
 use mathlib.Core.Bool.{Bool, true, false, ◌&&◌}
 use lib.Dec.{ltb}
 use lib.ListN.{length}
 use borrow.Author.Tests.{lt-ltb}
 use native.Mathlib.Omega.{arith}
 use Rattle.search.specs.Choice.{◌when◌else◌}
-use Rattle.slices.specs.Slices.{same}
 use Rattle.merging.specs.Versions.{Versions, state_of}
-use Rattle.merging.specs.Rule.{by_states, taken_of, conflict_of}
+use Rattle.merging.specs.Rule.{taken_of, conflict_of}
 use Rattle.merging.specs.declared.states.Weight.{Weight}
 use Rattle.merging.specs.Code.Weight.{weight_of}
-
--- the rule over what is made of each
-by-given : {A B : Type 0} (f : A → B) (was first second : List ℕ) (firsts seconds neither : A)
-    → f (by_states was first second firsts seconds neither) ≡ by_states was first second (f firsts) (f seconds) (f neither)
-unfolding by_states ◌when◌else◌
-by-given f was first second firsts seconds neither = by (same first second) (same first was) (same second was)
-  where
-    by : (a b c : Bool) → f (firsts when a else seconds when b else firsts when c else neither) ≡ (f firsts when a else f seconds when b else f firsts when c else f neither)
-    by true b c = refl
-    by false true c = refl
-    by false false true = refl
-    by false false false = refl
+use Rattle.merging.proofs.Rules.{by-given}
 
 module _ (v : Versions) (id : ℕ) where
   pub weight-bytes : (weight_of v id).bytes ≡ length (taken_of v id)

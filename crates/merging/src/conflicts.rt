@@ -17,7 +17,7 @@ pub fn lesser(n: u32, m: u32) -> u32
     if m == 0 {
         return n;
     }
-    if n <= m { n } else { m }
+    n.min(m)
 }
 
 // The number where it is greater than `above`, else 0.
@@ -35,14 +35,11 @@ pub fn least_conflict(ancestor: &[u8], first: &[u8], second: &[u8], ids: &[u32],
     let mut found: u32 = 0;
     let mut a: usize = 0;
     let mut b: usize = 0;
-    let mut i: usize = 0;
-    while i < ids.len() {
-        let id = ids[i];
+    for &id in ids {
         let weight = weigh(ancestor, first, second, id, a, b);
         a = step_past(first, id, a);
         b = step_past(second, id, b);
         found = lesser(found, only_above(weight.conflict, above));
-        i += 1;
     }
     found
 }

@@ -3,36 +3,21 @@ ghost use Rattle.std.specs.Prelude.{◌≡◌, ◌+◌, ◌≤◌, ◌<◌, leng
 ghost use Rattle.table.specs.Limits.{max_chains};
 ghost use Rattle.table.specs.Code.Taken.{Taken};
 ghost use Rattle.merging.specs.Versions.{ids_of};
-ghost use Rattle.merging.specs.Rule.{among as amongOf};
 ghost use Rattle.merging.specs.Merge.{versions};
 ghost use Rattle.merging.specs.Code.Parts.{AllTaken};
 ghost use Rattle.merging.specs.Code.Ids.{most_ids, Added, Joined, Ordered};
 
-use table::{Table, u32_from_u16};
+use table::Table;
 
 // As many as three tables can have.
 pub const MOST: usize = 3 * Table::CHAINS;
-
-// Whether the number is among those.
-fn among(numbers: &[u32], n: u32) -> bool
-    ensures { result ≡ amongOf numbers.now n }
-{
-    let mut i: usize = 0;
-    while i < numbers.len() {
-        if numbers[i] == n {
-            return true;
-        }
-        i += 1;
-    }
-    false
-}
 
 // Puts the id after the ids so far, `end` of them, unless it is among the first n; answers how many there are then.
 fn add(ids: &mut [u32], n: usize, end: usize, id: u32) -> usize
     requires { (n ≤ end) × (end < length ids.old) }
     ensures { Added ids.old n end id ids.new result }
 {
-    if among(&ids[..n], id) {
+    if ids[..n].contains(&id) {
         return end;
     }
     ids[end] = id;
@@ -44,14 +29,11 @@ fn join(s: &[u8], ids: &mut [u32], n: usize) -> usize
     requires { Taken s.now × (n + max_chains ≤ length ids.old) }
     ensures { Joined ids.old n (ids_of s.now) ids.new result }
 {
-    let chains = table::count(s);
     let mut at: usize = 0;
-    let mut chain: usize = 0;
     let mut end = n;
-    while chain < chains {
-        end = add(ids, n, end, u32_from_u16(table::id_at(s, at)));
-        at = at + table::record_length(s, at);
-        chain += 1;
+    for chain in 0..table::count(s) {
+        end = add(ids, n, end, u32::from(table::id_at(s, at)));
+        at += table::record_length(s, at);
     }
     end
 }

@@ -1,7 +1,6 @@
 // The result: how long it is, its bytes, and whether it fits.
-ghost use Rattle.std.specs.Prelude.{◌≡◌, ◌+◌, ◌≤◌, ◌<◌, ltb, length};
+ghost use Rattle.std.specs.Prelude.{◌≡◌, ◌+◌, ◌≤◌, ◌<◌, length};
 ghost use mathlib.Core.List.{◌++◌, flatten};
-ghost use Rattle.search.specs.Choice.{◌when◌else◌};
 ghost use Rattle.slices.specs.Code.Begins.{Begins};
 ghost use Rattle.table.specs.Record.{end_record};
 ghost use Rattle.merging.specs.Merge.{versions};
@@ -24,13 +23,6 @@ pub struct Size {
     pub records: usize,
 }
 
-// What a state of so many bytes counts: 1 for a record, 0 where it is missing.
-fn counted(n: usize) -> usize
-    ensures { result ≡ (1 when ltb 0 n else 0) }
-{
-    if 0 < n { 1 } else { 0 }
-}
-
 // Measures the records taken for these ids; a state that is missing adds nothing.
 fn size_of(ancestor: &[u8], first: &[u8], second: &[u8], ids: &[u32]) -> Size
     requires { AllTaken ancestor.now first.now second.now × (length ids.now ≤ most_ids) }
@@ -41,16 +33,13 @@ fn size_of(ancestor: &[u8], first: &[u8], second: &[u8], ids: &[u32]) -> Size
     let mut records: usize = 0;
     let mut a: usize = 0;
     let mut b: usize = 0;
-    let mut i: usize = 0;
-    while i < ids.len() {
-        let id = ids[i];
+    for &id in ids {
         let weight = weigh(ancestor, first, second, id, a, b);
         a = step_past(first, id, a);
         b = step_past(second, id, b);
         conflict = lesser(conflict, weight.conflict);
         bytes += weight.bytes;
-        records += counted(weight.bytes);
-        i += 1;
+        records += usize::from(0 < weight.bytes);
     }
     Size {
         conflict,
@@ -73,15 +62,12 @@ fn put_records<'a>(
     let mut at: usize = 0;
     let mut a: usize = 0;
     let mut b: usize = 0;
-    let mut i: usize = 0;
-    while i < ids.len() {
-        let id = ids[i];
+    for &id in ids {
         let record = taken(ancestor, first, second, id, a, b);
         a = step_past(first, id, a);
         b = step_past(second, id, b);
         put(out, at, record);
-        at = at + record.len();
-        i += 1;
+        at += record.len();
     }
     at
 }

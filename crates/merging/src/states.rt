@@ -4,13 +4,15 @@ ghost use Rattle.table.specs.Find.{find_of};
 ghost use Rattle.table.specs.Place.{place_of};
 ghost use Rattle.table.specs.Read.{table_of};
 ghost use Rattle.table.specs.Code.Taken.{Taken};
+ghost use Rattle.merging.specs.Versions.{state_of};
+ghost use Rattle.merging.specs.Rule.{by_states};
 ghost use Rattle.merging.specs.Merge.{versions};
+ghost use Rattle.merging.specs.declared.states.Side.TheVariants.{First, Second, Neither};
 ghost use Rattle.merging.specs.Code.Parts.{AllTaken, StatePart, TakenPart};
 ghost use Rattle.merging.specs.Code.Weight.{weight_of};
 ghost use Rattle.merging.specs.Code.Seeks.{RecordAt, Seeks};
 
 use slices::same;
-use table::u32_from_u16;
 
 // Where the end record stands.
 fn end_place(s: &[u8]) -> usize
@@ -28,10 +30,10 @@ fn seek(s: &[u8], id: u32, from: usize) -> usize
     let end = end_place(s);
     let mut at = from;
     while at < end {
-        if u32_from_u16(table::id_at(s, at)) == id {
+        if u32::from(table::id_at(s, at)) == id {
             return at;
         }
-        at = at + table::record_length(s, at);
+        at += table::record_length(s, at);
     }
     at
 }
@@ -57,7 +59,7 @@ pub fn step_past(s: &[u8], id: u32, from: usize) -> usize
     if end_place(s) <= from {
         return from;
     }
-    if u32_from_u16(table::id_at(s, from)) != id {
+    if u32::from(table::id_at(s, from)) != id {
         return from;
     }
     from + table::record_length(s, from)
@@ -70,10 +72,37 @@ fn state(s: &[u8], id: u32, from: usize) -> &[u8]
 {
     let at = find_near(s, id, from);
     if end_place(s) <= at {
-        return &s[0..0];
+        return &s[..0];
     }
     let end = at + table::record_length(s, at);
     &s[at..end]
+}
+
+// Whose state of an id is taken.
+#[derive(Clone, Copy)]
+enum Side {
+    First,
+    Second,
+    Neither,
+}
+
+// By the rule, over the id's states in the copies. The ancestor's is looked for only where they differ.
+fn side_taken(ancestor: &[u8], in_first: &[u8], in_second: &[u8], id: u32) -> Side
+    requires { Taken ancestor.now }
+    ensures { result ≡ by_states (state_of ancestor.now id) in_first.now in_second.now First Second Neither }
+{
+    if same(in_first, in_second) {
+        return Side::First;
+    }
+    let was = state(ancestor, id, 0);
+    if same(in_first, was) {
+        return Side::Second;
+    }
+    if same(in_second, was) {
+        Side::First
+    } else {
+        Side::Neither
+    }
 }
 
 // What an id counts: itself where it is in conflict, else 0, and the bytes of the state that is taken.
@@ -83,35 +112,26 @@ pub struct Weight {
     pub bytes: usize,
 }
 
-// Weighs an id without handing its record back; it is looked for from `a` in the first copy and from `b` in the second, and in the ancestor
-// only where the copies differ.
+// Weighs an id without handing its record back; it is looked for from `a` in the first copy and from `b` in the second.
 pub fn weigh(ancestor: &[u8], first: &[u8], second: &[u8], id: u32, a: usize, b: usize) -> Weight
     requires { AllTaken ancestor.now first.now second.now × RecordAt first.now a × RecordAt second.now b }
     ensures { result ≡ weight_of (versions ancestor.entry first.entry second.entry) id }
 {
     let in_first = state(first, id, a);
     let in_second = state(second, id, b);
-    let of_first = Weight {
-        conflict: 0,
-        bytes: in_first.len(),
-    };
-    if same(in_first, in_second) {
-        return of_first;
-    }
-    let was = state(ancestor, id, 0);
-    if same(in_first, was) {
-        return Weight {
+    match side_taken(ancestor, in_first, in_second, id) {
+        Side::First => Weight {
+            conflict: 0,
+            bytes: in_first.len(),
+        },
+        Side::Second => Weight {
             conflict: 0,
             bytes: in_second.len(),
-        };
-    }
-    if same(in_second, was) {
-        of_first
-    } else {
-        Weight {
+        },
+        Side::Neither => Weight {
             conflict: id,
             bytes: 0,
-        }
+        },
     }
 }
 
@@ -130,16 +150,9 @@ pub fn taken<'a>(
 {
     let in_first = state(first, id, a);
     let in_second = state(second, id, b);
-    if same(in_first, in_second) {
-        return in_first;
-    }
-    let was = state(ancestor, id, 0);
-    if same(in_first, was) {
-        return in_second;
-    }
-    if same(in_second, was) {
-        in_first
-    } else {
-        &first[..0]
+    match side_taken(ancestor, in_first, in_second, id) {
+        Side::First => in_first,
+        Side::Second => in_second,
+        Side::Neither => &first[..0],
     }
 }

@@ -16,39 +16,38 @@ use Rattle.merging.proofs.Weights.{weight-conflict, only-counted}
 use Rattle.merging.proofs.conflicts.least_conflict.Invariants.{passes}
 use Rattle.merging.proofs.conflicts.least_conflict.Goals as goal
 
-pub loop-i-init : goal.loop-i-init
-loop-i-init c = (omega arith, lesser-left _, first_record c.args.first.now, first_record c.args.second.now)
+pub loop-id-init : goal.loop-id-init
+loop-id-init c = (lesser-left _, first_record c.args.first.now, first_record c.args.second.now)
 
 pub weigh-weight-requires : goal.weigh-weight-requires
-weigh-weight-requires c = let l = c.loop-i in (c.requires, l.invariant.2, l.invariant.3)
+weigh-weight-requires c = let l = c.loop-id in (c.requires, l.invariant.1, l.invariant.2)
 
 pub step_past-a-requires : goal.step_past-a-requires
-step_past-a-requires c = (c.requires.of_first, c.loop-i.invariant.2)
+step_past-a-requires c = (c.requires.of_first, c.loop-id.invariant.1)
 
 pub step_past-b-requires : goal.step_past-b-requires
-step_past-b-requires c = (c.requires.of_second, c.loop-i.invariant.3)
+step_past-b-requires c = (c.requires.of_second, c.loop-id.invariant.2)
 
-pub loop-i-preserved : goal.loop-i-preserved
+pub loop-id-preserved : goal.loop-id-preserved
 unfolding least
-loop-i-preserved c = let l = c.loop-i in
+loop-id-preserved c = let l = c.loop-id in
     let a = c.args in
     let v = versions a.ancestor a.first a.second in
     let p = passes v a.above in
-    let id = get_or a.ids.now l.i 0 in
+    let id = get_or a.ids.now l.id-index 0 in
     let one = c.only_above.ensures ∙ ap (λ n. n when ltb a.above n else 0) (ap (λ (w : Weight). w.conflict) c.weigh-weight.ensures ∙ weight-conflict v id) ∙ only-counted a.above id (conflict_of v id) in (
-      omega arith,
-      ap (λ n. lesser n (least p (drop (l.i + 1) a.ids.now))) (c.lesser-found.ensures ∙ ap (lesser l.found) one)
-          ∙ lesser-on l.found (id when p id else 0) (least p (drop (l.i + 1) a.ids.now))
-          ∙ ap (λ r. lesser l.found (least p r)) (sym (rest a.ids.now l.i 0 (omega arith)))
-          ∙ l.invariant.1,
+      ap (λ n. lesser n (least p (drop (l.id-index + 1) a.ids.now))) (c.lesser-found.ensures ∙ ap (lesser l.found) one)
+          ∙ lesser-on l.found (id when p id else 0) (least p (drop (l.id-index + 1) a.ids.now))
+          ∙ ap (λ r. lesser l.found (least p r)) (sym (rest a.ids.now l.id-index 0 (omega arith)))
+          ∙ l.invariant.0,
       c.step_past-a.ensures,
       c.step_past-b.ensures,
     )
 
 pub returns : goal.returns
 unfolding least
-returns c = let l = c.loop-i in
+returns c = let l = c.loop-id in
     let a = c.args in
     let p = passes (versions a.ancestor a.first a.second) a.above in
-    let e : l.i ≡ length a.ids.now = omega arith in
-    sym (lesser-right l.found) ∙ ap (λ r. lesser l.found (least p r)) (sym (ap (λ k. drop k a.ids.now) e ∙ drop-length a.ids.now)) ∙ l.invariant.1
+    let e : l.id-index ≡ length a.ids.now = omega arith in
+    sym (lesser-right l.found) ∙ ap (λ r. lesser l.found (least p r)) (sym (ap (λ k. drop k a.ids.now) e ∙ drop-length a.ids.now)) ∙ l.invariant.0

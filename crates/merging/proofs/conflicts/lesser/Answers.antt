@@ -1,6 +1,5 @@
 -- Case by case.
-use mathlib.Core.Path.{◌≡◌, sym, ◌∙◌}
-use Prim.Native.Nat.{min}
+use mathlib.Core.Path.{sym, ◌∙◌}
 use native.Mathlib.Omega.{arith}
 use Rattle.merging.proofs.Leasts.{lesser-left, lesser-right, lesser-both}
 use Rattle.merging.proofs.conflicts.lesser.Goals as goal
@@ -11,8 +10,5 @@ returns-then-n-eq0 c = let a = c.args in rw c.if-n-eq0.true (sym (lesser-left a.
 pub returns-then-m-eq0 : goal.returns-then-m-eq0
 returns-then-m-eq0 c = let a = c.args in rw c.if-m-eq0.true (sym (lesser-right a.n))
 
-pub returns-then-n-m : goal.returns-then-n-m
-returns-then-n-m c = let a = c.args in let e : a.n ≡ min a.n a.m = omega arith in e ∙ sym (lesser-both a.n a.m (omega (arith, c.if-n-eq0.false)) (omega (arith, c.if-m-eq0.false)))
-
-pub returns-else-n-m : goal.returns-else-n-m
-returns-else-n-m c = let a = c.args in let e : a.m ≡ min a.n a.m = omega arith in e ∙ sym (lesser-both a.n a.m (omega (arith, c.if-n-eq0.false)) (omega (arith, c.if-m-eq0.false)))
+pub returns : goal.returns
+returns c = c.min.ensures ∙ sym (lesser-both c.args.n c.args.m (omega (arith, c.if-n-eq0.false)) (omega (arith, c.if-m-eq0.false)))

@@ -24,35 +24,26 @@ use Rattle.merging.proofs.order.join.Goals.{In-loop-chain}
 
 -- `chain` is there, and its record stands at `at`
 within : (c : In-loop-chain) → c.loop-chain.chain < (table_of c.args.s.now).count
-within c = omega (arith, c.count-chains.ensures, c.loop-chain-test.true)
+within c = omega (arith, c.count-chain-end.ensures)
 
 there : (c : In-loop-chain) → Stands c.args.s.now c.loop-chain.at
-there c = stands c.requires.0 c.loop-chain.invariant.1 (within c)
-
-pub count-chains-requires : goal.count-chains-requires
-count-chains-requires c = c.requires.0
+there c = stands c.requires.0 c.loop-chain.invariant.place (within c)
 
 pub loop-chain-init : goal.loop-chain-init
-loop-chain-init c = (omega arith, place_none (table_of c.args.s.now), omega arith, omega arith, refl, refl, refl)
+loop-chain-init c = record { place = place_none (table_of c.args.s.now); least = omega arith; most = omega arith; long = refl; first = refl; numbers = refl }
 
 pub id_at-requires : goal.id_at-requires
 id_at-requires c = omega (arith, (there (goal.at.id_at-requires c).In-loop-chain).there)
 
 pub add-end-requires : goal.add-end-requires
-add-end-requires c = let l = c.loop-chain in
-    (l.invariant.2, omega (arith, c.requires.1, c.requires.0.good.few, within (goal.at.add-end-requires c).In-loop-chain, l.invariant.3, l.invariant.4))
+add-end-requires c = let l = c.loop-chain.invariant in
+    (l.least, omega (arith, c.requires.1, c.requires.0.good.few, within (goal.at.add-end-requires c).In-loop-chain, l.most, l.long))
 
 pub record_length-at-requires : goal.record_length-at-requires
 record_length-at-requires c = omega (arith, (there (goal.at.record_length-at-requires c).In-loop-chain).there)
 
 pub overflow_add-at : goal.overflow_add-at
 overflow_add-at c = omega (arith, c.record_length-at.ensures, (there (goal.at.overflow_add-at c).In-loop-chain).there)
-
-pub overflow_add-chain : goal.overflow_add-chain
-overflow_add-chain c = omega (arith, c.requires.0.good.few, within (goal.at.overflow_add-chain c).In-loop-chain)
-
-pub loop-chain-smaller : goal.loop-chain-smaller
-loop-chain-smaller c = omega (arith, within (goal.at.loop-chain-smaller c).In-loop-chain)
 
 pub loop-chain-preserved : goal.loop-chain-preserved
 unfolding row_at
@@ -61,35 +52,36 @@ loop-chain-preserved c = let a = c.args in
     let d = c.add-end in
     let h = within (goal.at.loop-chain-preserved c).In-loop-chain in
     let p : ℕ → Bool = λ m. not (among (take a.n a.ids.now) m) in
-    let bears : c.u32_from_u16.result ≡ (row_of (table_of a.s.now) l.chain).id =
-    c.u32_from_u16.ensures.0 ∙ c.id_at.ensures ∙ ap (λ (r : Row). r.id) (row-there c.requires.0 l.invariant.1 h) in
-    let tested : (id : ℕ) → (id ∷ [] when not (among (take a.n l.ids) id) else []) ≡ (id ∷ [] when p id else []) =
-    λ id. ap (λ (k : List ℕ). id ∷ [] when not (among k id) else []) l.invariant.5 in
-    let more = keep p (drop (l.chain + 1) (ids_of a.s.now)) in (
-      omega (arith, h),
-      ap (λ k. l.at + k) c.record_length-at.ensures ∙ place-next c.requires.0 l.invariant.1 h,
-      omega (arith, d.ensures.least, l.invariant.2),
-      omega (arith, d.ensures.most, l.invariant.3),
-      d.ensures.long ∙ l.invariant.4,
-      d.ensures.first ∙ l.invariant.5,
-      ap (λ r. r ++ more) d.ensures.numbers
+    let id = c.from.result in
+    let bears : id ≡ (row_of (table_of a.s.now) l.chain).id = c.from.ensures ∙ c.id_at.ensures ∙ ap (λ (r : Row). r.id) (row-there c.requires.0 l.invariant.place h) in
+    let tested : (id ∷ [] when not (among (take a.n l.ids) id) else []) ≡ (id ∷ [] when p id else []) =
+    ap (λ (k : List ℕ). id ∷ [] when not (among k id) else []) l.invariant.first in
+    let rest = drop (l.chain + 1) (ids_of a.s.now) in
+    let more = keep p rest in
+    record {
+      place = ap (λ k. l.at + k) c.record_length-at.ensures ∙ place-next c.requires.0 l.invariant.place h;
+      least = omega (arith, d.ensures.least, l.invariant.least);
+      most = omega (arith, d.ensures.most, l.invariant.most);
+      long = d.ensures.long ∙ l.invariant.long;
+      first = d.ensures.first ∙ l.invariant.first;
+      numbers =
+          ap (λ r. r ++ more) d.ensures.numbers
           ∙ append_assoc (take l.end l.ids) _ more
-          ∙ ap (λ r. take l.end l.ids ++ (r ++ more)) (tested c.u32_from_u16.result)
-          ∙ ap (λ r. take l.end l.ids ++ r) (keep-first p c.u32_from_u16.result (drop (l.chain + 1) (ids_of a.s.now))
-          ∙ ap (keep p) (ap (λ n. n ∷ drop (l.chain + 1) (ids_of a.s.now)) bears ∙ sym (ids-rest c.requires.0 l.chain h)))
-          ∙ l.invariant.6,
-    )
+          ∙ ap (λ r. take l.end l.ids ++ (r ++ more)) tested
+          ∙ ap (λ r. take l.end l.ids ++ r) (keep-first p id rest ∙ ap (keep p) (ap (λ n. n ∷ rest) bears ∙ sym (ids-rest c.requires.0 l.chain h)))
+          ∙ l.invariant.numbers;
+    }
 
 pub returns : goal.returns
 unfolding keep
 returns c = let a = c.args in
     let l = c.loop-chain in
-    let e : l.chain ≡ length (ids_of a.s.now) = omega (arith, c.count-chains.ensures, c.loop-chain-test.false, ids-length c.requires.0, l.invariant.0) in
+    let e : l.chain ≡ length (ids_of a.s.now) = omega (arith, c.count-chain-end.ensures, ids-length c.requires.0) in
     record {
       numbers =
           sym (append-nil (take l.end l.ids))
           ∙ ap (λ r. take l.end l.ids ++ keep (λ m. not (among (take a.n a.ids.now) m)) r) (sym (ap (λ k. drop k (ids_of a.s.now)) e ∙ drop-length (ids_of a.s.now)))
-          ∙ l.invariant.6;
-      few = omega (arith, l.invariant.3, l.invariant.0, c.requires.0.good.few);
-      long = l.invariant.4;
+          ∙ l.invariant.numbers;
+      few = omega (arith, l.invariant.most, c.count-chain-end.ensures, c.requires.0.good.few);
+      long = l.invariant.long;
     }

@@ -1,5 +1,5 @@
 -- At the loop's head the ids of the chains before `chain` are joined: with those of the rest they give all.
-use Prim.Native.Nat.{◌+◌, ◌≤◌, ◌-◌}
+use Prim.Native.Nat.{◌+◌, ◌≤◌}
 use mathlib.Core.Path.{◌≡◌}
 use mathlib.Core.List.{◌++◌}
 use mathlib.Core.Bool.{not}
@@ -12,8 +12,12 @@ use Rattle.merging.specs.Rule.{among, joined}
 use Rattle.merging.proofs.order.join.Given as goal
 
 abbrev pub invariant-loop-chain : goal.invariant-loop-chain
-invariant-loop-chain l = (l.chain ≤ (table_of l.s).count) × (l.at ≡ place_of (table_of l.s) l.chain) × (l.n ≤ l.end) × (l.end ≤ l.n + l.chain) × (length l.ids ≡ length l.initial.ids) × (take l.n l.ids ≡ take l.n l.initial.ids)
-    × (take l.end l.ids ++ keep (λ m. not (among (take l.n l.initial.ids) m)) (drop l.chain (ids_of l.s)) ≡ joined (take l.n l.initial.ids) (ids_of l.s))
-
-abbrev pub decreases-loop-chain : goal.decreases-loop-chain
-decreases-loop-chain l = (table_of l.s).count - l.chain
+invariant-loop-chain l = record {
+  place : l.at ≡ place_of (table_of l.s) l.chain;
+  least : l.n ≤ l.end;
+  most : l.end ≤ l.n + l.chain;
+  long : length l.ids ≡ length l.initial.ids;
+  first : take l.n l.ids ≡ take l.n l.initial.ids;
+  numbers :
+      take l.end l.ids ++ keep (λ m. not (among (take l.n l.initial.ids) m)) (drop l.chain (ids_of l.s)) ≡ joined (take l.n l.initial.ids) (ids_of l.s);
+}

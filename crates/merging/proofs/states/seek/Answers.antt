@@ -10,7 +10,7 @@ use Rattle.table.specs.declared.Row.{Row}
 use Rattle.table.proofs.Stands.{row-there}
 use Rattle.merging.proofs.Seeks.{chain-there, end-there, record_stands, passed_start, passed_on}
 use Rattle.merging.proofs.states.seek.Goals as goal
-use Rattle.merging.proofs.states.seek.Goals.{After-u32_from_u16, In-loop-at}
+use Rattle.merging.proofs.states.seek.Goals.{After-from, In-loop-at}
 
 -- the chain is there, and its record stands at `at`
 within : (c : In-loop-at) → c.loop-at.invariant.there.chain < (table_of c.args.s.now).count
@@ -20,9 +20,9 @@ there : (c : In-loop-at) → Stands c.args.s.now c.loop-at.at
 there c = record_stands c.requires.0 c.loop-at.invariant.there (within c)
 
 -- its id, as the record has it
-bears : (c : After-u32_from_u16) → c.u32_from_u16.result ≡ (row_of (table_of c.args.s.now) c.loop-at.invariant.there.chain).id
+bears : (c : After-from) → c.from.result ≡ (row_of (table_of c.args.s.now) c.loop-at.invariant.there.chain).id
 unfolding row_at
-bears c = c.u32_from_u16.ensures.0 ∙ c.id_at.ensures
+bears c = c.from.ensures ∙ c.id_at.ensures
     ∙ ap (λ (r : Row). r.id) (row-there c.requires.0 c.loop-at.invariant.there.place (chain-there c.requires.0 c.loop-at.invariant.there (omega (arith, c.end_place-end.ensures, c.loop-at-test.true))))
 
 pub end_place-end-requires : goal.end_place-end-requires
@@ -34,8 +34,8 @@ loop-at-init c = passed_start c.requires.0 c.args.id c.args.from c.requires.1
 pub id_at-requires : goal.id_at-requires
 id_at-requires c = omega (arith, (there c).there)
 
-pub returns-then-u32_from_u16-id : goal.returns-then-u32_from_u16-id
-returns-then-u32_from_u16-id c = record { passed = c.loop-at.invariant; bears = λ h. sym (bears (goal.at.returns-then-u32_from_u16-id c).After-u32_from_u16) ∙ c.if-u32_from_u16-id.true }
+pub returns-then-from-id : goal.returns-then-from-id
+returns-then-from-id c = record { passed = c.loop-at.invariant; bears = λ h. sym (bears (goal.at.returns-then-from-id c).After-from) ∙ c.if-from-id.true }
 
 pub record_length-at-requires : goal.record_length-at-requires
 record_length-at-requires c = omega (arith, (there (goal.at.record_length-at-requires c).In-loop-at).there)
@@ -49,7 +49,7 @@ loop-at-smaller c = omega (arith, c.record_length-at.ensures, (there (goal.at.lo
 pub loop-at-preserved : goal.loop-at-preserved
 loop-at-preserved c = let l = c.loop-at in
     rw c.record_length-at.ensures
-    (passed_on c.requires.0 c.args.id c.args.from l.invariant (within (goal.at.loop-at-preserved c).In-loop-at) (λ e. c.if-u32_from_u16-id.false (bears (goal.at.loop-at-preserved c).After-u32_from_u16 ∙ e)))
+    (passed_on c.requires.0 c.args.id c.args.from l.invariant (within (goal.at.loop-at-preserved c).In-loop-at) (λ e. c.if-from-id.false (bears (goal.at.loop-at-preserved c).After-from ∙ e)))
 
 pub returns : goal.returns
 returns c = let l = c.loop-at in

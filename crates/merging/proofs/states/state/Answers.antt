@@ -37,11 +37,14 @@ there : (c : Else-end_place-at) → Stands (c.args.s.now) (c.find_near-at.result
 there c = stands c.requires.0 c.find_near-at.ensures (within c)
 
 pub returns-then-end_place-at : goal.returns-then-end_place-at
-returns-then-end_place-at c = let last : (table_of (s (goal.at.returns-then-end_place-at c).After-find_near-at)).count ≤ chain (goal.at.returns-then-end_place-at c).After-find_near-at =
-    le_of_eq (sym (end-there c.requires.0 (here (goal.at.returns-then-end_place-at c).After-find_near-at) (omega (arith, c.end_place.ensures, c.if-end_place-at.true)))) in
+returns-then-end_place-at c =
+    let found = (goal.at.returns-then-end_place-at c).After-find_near-at in
+    let last : (table_of (s found)).count ≤ chain found =
+    le_of_eq (sym (end-there c.requires.0 (here found) (omega (arith, c.end_place.ensures, c.if-end_place-at.true)))) in
+    let p : c.args.s.ref_ptr.1 ≡ 0 + c.args.s.ref_ptr.1 = omega arith in
     record {
-      bytes = sym (state_unused (s (goal.at.returns-then-end_place-at c).After-find_near-at) c.args.id last);
-      place = rw (start_unused (s (goal.at.returns-then-end_place-at c).After-find_near-at) c.args.id last);
+      bytes = sym (state_unused (s found) c.args.id last);
+      place = rw (start_unused (s found) c.args.id last) (ap (λ n. (c.args.s.ref_ptr.0, n)) p);
     }
 
 pub record_length-requires : goal.record_length-requires
@@ -55,11 +58,13 @@ slice_bounds-result-end-2 c = omega (arith, c.record_length.ensures, (there (goa
 
 pub returns : goal.returns
 unfolding record_of
-returns c = let z = c.record_length in
-    let id = c.args.id in
-    let size : at (goal.at.returns c).After-find_near-at + z.result - at (goal.at.returns c).After-find_near-at ≡ length_of (row_of (table_of (s (goal.at.returns c).After-find_near-at)) (chain (goal.at.returns c).After-find_near-at)) =
-    omega (arith, z.ensures, length-at (s (goal.at.returns c).After-find_near-at) (at (goal.at.returns c).After-find_near-at), ap length_of (row-there c.requires.0 c.find_near-at.ensures (within (goal.at.returns c).Else-end_place-at))) in
+returns c =
+    let found = (goal.at.returns c).After-find_near-at in
+    let inside = within (goal.at.returns c).Else-end_place-at in
+    let row = row-there c.requires.0 c.find_near-at.ensures inside in
+    let size : at found + c.record_length.result - at found ≡ length_of (row_of (table_of (s found)) (chain found)) =
+    omega (arith, c.record_length.ensures, length-at (s found) (at found), ap length_of row) in
     record {
-      bytes = ap₂ (λ n p. take n (drop p (s (goal.at.returns c).After-find_near-at))) size c.find_near-at.ensures ∙ sym (state_used (s (goal.at.returns c).After-find_near-at) id (within (goal.at.returns c).Else-end_place-at));
-      place = ap (λ p. (c.args.s.ref_ptr.0, p + c.args.s.ref_ptr.1)) (c.find_near-at.ensures ∙ sym (start-used (s (goal.at.returns c).After-find_near-at) id (within (goal.at.returns c).Else-end_place-at)));
+      bytes = ap₂ (λ n p. take n (drop p (s found))) size c.find_near-at.ensures ∙ sym (state_used (s found) c.args.id inside);
+      place = ap (λ p. (c.args.s.ref_ptr.0, p + c.args.s.ref_ptr.1)) (c.find_near-at.ensures ∙ sym (start-used (s found) c.args.id inside));
     }

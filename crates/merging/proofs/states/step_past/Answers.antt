@@ -21,8 +21,8 @@ returns-then-end_place-from c = c.requires.1
 pub id_at-requires : goal.id_at-requires
 id_at-requires c = omega (arith, (there c).there)
 
-pub returns-then-u32_from_u16-id : goal.returns-then-u32_from_u16-id
-returns-then-u32_from_u16-id c = c.requires.1
+pub returns-then-from-id : goal.returns-then-from-id
+returns-then-from-id c = c.requires.1
 
 pub record_length-requires : goal.record_length-requires
 record_length-requires c = omega (arith, (there (goal.at.record_length-requires c).Else-end_place-from).there)

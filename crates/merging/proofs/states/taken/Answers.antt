@@ -1,66 +1,35 @@
--- The rule, test by test, over the states that `state` hands back.
-use mathlib.Core.Path.{◌≡◌, ap₂, sym, ◌∙◌}
-use Rattle.slices.specs.Slices.{same}
-use Rattle.merging.specs.Versions.{state_of}
-use Rattle.merging.proofs.Seeks.{first_record}
-use Rattle.merging.proofs.Rules.{by_alike, by-second, by_first, by_neither}
-use mathlib.Core.List.{List}
-use Prim.Native.Nat.{ℕ}
+-- The record, by whose state is taken.
+use Prim.Native.Nat.{ℕ, ◌+◌}
+use mathlib.Core.Path.{◌≡◌, ◌∙◌}
+use mathlib.Core.List.{List, []}
+use Rattle.std.specs.Borrow.{Bor}
+use Rattle.merging.specs.Versions.{state_of, start_of}
+use Rattle.merging.specs.Code.Parts.{TakenPart}
+use Rattle.merging.proofs.Sides.{of_side, by_side}
 use Rattle.merging.proofs.states.taken.Goals as goal
-use Rattle.merging.proofs.states.taken.Goals.{After-same, After-same-2, After-same-3, Start}
+use Rattle.merging.proofs.states.taken.Goals.{After-side_taken}
 
--- the states of the id
-abbrev was : (c : Start) → List ℕ
-was c = state_of c.args.ancestor.now c.args.id
+-- the state of an id, where it stands in a lent table
+abbrev start : Bor (List ℕ) → ℕ → ℕ × ℕ
+start s id = (s.ref_ptr.0, start_of s.now id + s.ref_ptr.1)
 
-abbrev in_first : (c : Start) → List ℕ
-in_first c = state_of c.args.first.now c.args.id
+part : (c : After-side_taken) (r : Bor (List ℕ))
+    → r.now ≡ of_side (state_of c.args.first.now c.args.id) (state_of c.args.second.now c.args.id) [] c.side_taken.result
+    → r.ref_ptr ≡ of_side (start c.args.first c.args.id) (start c.args.second c.args.id) c.args.first.ref_ptr c.side_taken.result
+    → TakenPart c.args.ancestor c.args.first c.args.second c.args.id r
+part c r bytes place =
+    let in_first = c.state-in_first.ensures.bytes in
+    let in_second = c.state-in_second.ensures.bytes in
+    record { bytes = bytes ∙ by_side _ _ _ _ in_first in_second c.side_taken.ensures; place = place ∙ by_side _ _ _ _ in_first in_second c.side_taken.ensures }
 
-abbrev in_second : (c : Start) → List ℕ
-in_second c = state_of c.args.second.now c.args.id
+pub side_taken-requires : goal.side_taken-requires
+side_taken-requires c = c.requires.0.of_ancestor
 
--- what the comparisons say of the states
-alike : (c : After-same) → same ((state_of c.args.first.now c.args.id)) ((state_of c.args.second.now c.args.id)) ≡ c.same.result
-alike c = ap₂ same (sym c.state-in_first.ensures.bytes) (sym c.state-in_second.ensures.bytes) ∙ sym c.same.ensures
+pub returns-in-First : goal.returns-in-First
+returns-in-First c = part (goal.at.returns-in-First c).After-side_taken _ (rw c.in-First.is c.state-in_first.ensures.bytes) (rw c.in-First.is c.state-in_first.ensures.place)
 
-unchanged : (c : After-same-2) → same ((state_of c.args.first.now c.args.id)) ((state_of c.args.ancestor.now c.args.id)) ≡ c.same-2.result
-unchanged c = ap₂ same (sym c.state-in_first.ensures.bytes) (sym c.state-was.ensures.bytes) ∙ sym c.same-2.ensures
+pub returns-in-Second : goal.returns-in-Second
+returns-in-Second c = part (goal.at.returns-in-Second c).After-side_taken _ (rw c.in-Second.is c.state-in_second.ensures.bytes) (rw c.in-Second.is c.state-in_second.ensures.place)
 
-left_alone : (c : After-same-3) → same ((state_of c.args.second.now c.args.id)) ((state_of c.args.ancestor.now c.args.id)) ≡ c.same-3.result
-left_alone c = ap₂ same (sym c.state-in_second.ensures.bytes) (sym c.state-was.ensures.bytes) ∙ sym c.same-3.ensures
-
-pub returns-then-same : goal.returns-then-same
-returns-then-same c = let is = alike (goal.at.returns-then-same c).After-same ∙ c.if-same.true in
-    record {
-      bytes = c.state-in_first.ensures.bytes ∙ sym (by_alike (was (goal.at.returns-then-same c).Start) (in_first (goal.at.returns-then-same c).Start) (in_second (goal.at.returns-then-same c).Start) _ _ _ is);
-      place = c.state-in_first.ensures.place ∙ sym (by_alike (was (goal.at.returns-then-same c).Start) (in_first (goal.at.returns-then-same c).Start) (in_second (goal.at.returns-then-same c).Start) _ _ _ is);
-    }
-
-pub state-was-requires : goal.state-was-requires
-state-was-requires c = (c.requires.0.of_ancestor, first_record c.args.ancestor.now)
-
-pub returns-then-same-2 : goal.returns-then-same-2
-returns-then-same-2 c = let differ = alike (goal.at.returns-then-same-2 c).After-same ∙ c.if-same.false in
-    let is = unchanged (goal.at.returns-then-same-2 c).After-same-2 ∙ c.if-same-2.true in
-    record {
-      bytes = c.state-in_second.ensures.bytes ∙ sym (by-second (was (goal.at.returns-then-same-2 c).Start) (in_first (goal.at.returns-then-same-2 c).Start) (in_second (goal.at.returns-then-same-2 c).Start) _ _ _ differ is);
-      place = c.state-in_second.ensures.place ∙ sym (by-second (was (goal.at.returns-then-same-2 c).Start) (in_first (goal.at.returns-then-same-2 c).Start) (in_second (goal.at.returns-then-same-2 c).Start) _ _ _ differ is);
-    }
-
-pub returns-then-same-3 : goal.returns-then-same-3
-returns-then-same-3 c = let differ = alike (goal.at.returns-then-same-3 c).After-same ∙ c.if-same.false in
-    let changed = unchanged (goal.at.returns-then-same-3 c).After-same-2 ∙ c.if-same-2.false in
-    let is = left_alone (goal.at.returns-then-same-3 c).After-same-3 ∙ c.if-same-3.true in
-    record {
-      bytes = c.state-in_first.ensures.bytes ∙ sym (by_first (was (goal.at.returns-then-same-3 c).Start) (in_first (goal.at.returns-then-same-3 c).Start) (in_second (goal.at.returns-then-same-3 c).Start) _ _ _ differ changed is);
-      place = c.state-in_first.ensures.place ∙ sym (by_first (was (goal.at.returns-then-same-3 c).Start) (in_first (goal.at.returns-then-same-3 c).Start) (in_second (goal.at.returns-then-same-3 c).Start) _ _ _ differ changed is);
-    }
-
-pub returns-else-same-3 : goal.returns-else-same-3
-returns-else-same-3 c = let differ = alike (goal.at.returns-else-same-3 c).After-same ∙ c.if-same.false in
-    let changed = unchanged (goal.at.returns-else-same-3 c).After-same-2 ∙ c.if-same-2.false in
-    let is = left_alone (goal.at.returns-else-same-3 c).After-same-3 ∙ c.if-same-3.false in
-    record {
-      bytes = sym (by_neither (was (goal.at.returns-else-same-3 c).Start) (in_first (goal.at.returns-else-same-3 c).Start) (in_second (goal.at.returns-else-same-3 c).Start) _ _ _ differ changed is);
-      place = sym (by_neither (was (goal.at.returns-else-same-3 c).Start) (in_first (goal.at.returns-else-same-3 c).Start) (in_second (goal.at.returns-else-same-3 c).Start) _ _ _ differ changed is);
-    }
+pub returns-in-Neither : goal.returns-in-Neither
+returns-in-Neither c = part (goal.at.returns-in-Neither c).After-side_taken _ (rw c.in-Neither.is) (rw c.in-Neither.is)
