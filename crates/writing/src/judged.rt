@@ -1,13 +1,13 @@
 // Rows judged by their values, in the reader's order; the first fault decides.
-ghost use Rattle.std.specs.Prelude.{◌≡◌, min, ◌+◌, ◌*◌, ◌<◌, ◌≤◌, ltb, ◌∷◌, length, take};
+ghost use Rattle.std.specs.Prelude.{◌≡◌, ◌+◌, ◌*◌, ◌<◌, ◌≤◌, ltb, ◌∷◌, length, take};
 ghost use Rattle.table.specs.Limits.{max_chains, max_distances, max_tasks};
 ghost use Rattle.table.specs.Record.{known, record_length};
 ghost use Rattle.table.specs.Fault.{short_fault};
 ghost use Rattle.table.specs.Read.{number_of};
 ghost use Rattle.writing.specs.Rows.{gap_of};
-ghost use Rattle.writing.specs.Code.Tally.{form_wrong, bears as bearsOf, list_number, largest_number, tasks_number, lists_number, row_number, unjudged as unjudgedOf, faulted as faultedOf, counted as countedOf, Small, CountedRoom, JudgedWith, most_judged};
+ghost use Rattle.writing.specs.Code.Tally.{form_wrong, bears as bearsOf, list_number, largest_number, tasks_number, lists_number, row_number, unjudged as unjudgedOf, faulted as faultedOf, counted as countedOf, Small, CountedRoom, JudgedWith};
 
-use table::{Row, Table, outside, u32_from_u16};
+use table::{Row, Table, outside};
 
 // A form that no row has: it stands for that of the rows before the first, so that one test tells whether a later one's is right.
 const NO_FORM: u32 = 65_536;
@@ -28,7 +28,7 @@ pub struct Tally {
 fn form_wrong(before: u32, form: u16) -> bool
     ensures { result ≡ form_wrong before form }
 {
-    if u32_from_u16(form) == before {
+    if u32::from(form) == before {
         return false;
     }
     if before != NO_FORM {
@@ -71,10 +71,8 @@ fn bears(ids: &[u16; Table::CHAINS], id: u16) -> bool
     ensures { result ≡ bearsOf ids.now id }
 {
     let mut found = false;
-    let mut i: usize = 0;
-    while i < Table::CHAINS {
-        found = found | (ids[i] == id);
-        i += 1;
+    for i in 0..Table::CHAINS {
+        found |= ids[i] == id;
     }
     found
 }
@@ -87,10 +85,8 @@ fn after_id(id: u16, ids: &[u16; Table::CHAINS]) -> [u16; Table::CHAINS]
 {
     let mut with = [0u16; Table::CHAINS];
     with[0] = id;
-    let mut i: usize = 0;
-    while i < Table::CHAINS - 1 {
+    for i in 0..Table::CHAINS - 1 {
         with[i + 1] = ids[i];
-        i += 1;
     }
     with
 }
@@ -100,7 +96,7 @@ fn beyond(gap: u32, i: usize, d: u32) -> bool
     requires { i < max_distances }
     ensures { result ≡ ltb (gap * (i + 1)) d }
 {
-    (gap as u64) * (i as u64 + 1) < d as u64
+    u64::from(gap) * (i as u64 + 1) < u64::from(d)
 }
 
 // 29, 30 or 31: the first n distances, and the gap, in one pass. Where no distance falls the last is the greatest, so it alone is held
@@ -111,15 +107,13 @@ fn list_number(gap: u32, list: &[u32; Table::DISTANCES], n: usize) -> u32
 {
     let mut short = false;
     let mut before: u32 = 0;
-    let mut i: usize = 0;
-    while i < n {
+    for i in 0..n {
         let d = list[i];
         if d < before {
             return 29;
         }
-        short = short | beyond(gap, i, d);
+        short |= beyond(gap, i, d);
         before = d;
-        i += 1;
     }
     if Table::DISTANCE < before {
         return 29;
@@ -142,8 +136,7 @@ fn short_number(list: &[u32; Table::DISTANCES], largest: &[u32; Table::DISTANCES
     ensures { result ≡ number_of (short_fault 0 (take n list.now) (take n largest.now) 0) }
 {
     let mut before: u32 = 0;
-    let mut i: usize = 0;
-    while i < n {
+    for i in 0..n {
         let d = largest[i];
         if d < list[i] {
             return 33;
@@ -152,7 +145,6 @@ fn short_number(list: &[u32; Table::DISTANCES], largest: &[u32; Table::DISTANCES
             return 33;
         }
         before = d;
-        i += 1;
     }
     0
 }
@@ -181,12 +173,10 @@ fn tasks_number(priority: &[u16; Table::TASKS], cost: &[u32; Table::TASKS], n: u
     requires { n ≤ max_tasks }
     ensures { result ≡ tasks_number priority.now cost.now n }
 {
-    let mut i: usize = 0;
-    while i < n {
+    for i in 0..n {
         if priority[i] == 0 || outside(1, Table::COST, cost[i]) {
             return 10;
         }
-        i += 1;
     }
     0
 }
@@ -247,17 +237,6 @@ fn row_number(judged: Tally, row: Row) -> u32
     lists_number(row)
 }
 
-// How many of so many rows are looked at: a 17th decides.
-pub fn looked_at(n: usize) -> usize
-    ensures { result ≡ min n most_judged }
-{
-    if n < Table::CHAINS + 1 {
-        n
-    } else {
-        Table::CHAINS + 1
-    }
-}
-
 // Nothing is judged yet.
 pub fn unjudged() -> Tally
     ensures { result ≡ unjudgedOf }
@@ -290,7 +269,7 @@ fn counted(judged: Tally, row: Row) -> Tally
     let ids = after_id(row.id, &before);
     Tally {
         number: 0,
-        form: u32_from_u16(row.form),
+        form: u32::from(row.form),
         count: judged.count + 1,
         tasks: judged.tasks + row.tasks,
         bytes: judged.bytes + length_of(row.form, row.flag, row.listed, row.tasks),

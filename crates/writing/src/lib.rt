@@ -13,10 +13,10 @@ ghost use Rattle.table.specs.Record.{length_at};
 mod judged;
 mod put;
 
-use judged::{Tally, judged_with, looked_at, unjudged};
+use judged::{Tally, judged_with, unjudged};
 use put::{end, put_row, rows_put};
 pub use put::{put_end, put_gap, put_list};
-use table::{Row, Verdict};
+use table::{Row, Table, Verdict};
 
 // What a write answers: the used length, or the refusal.
 #[derive(Clone, Copy)]
@@ -36,12 +36,11 @@ pub enum Filled {
 fn judge(rows: &[Row]) -> Tally
     ensures { JudgedRows rows.now result }
 {
-    let n = looked_at(rows.len());
+    // A 17th row decides.
+    let n = rows.len().min(Table::CHAINS + 1);
     let mut judged = unjudged();
-    let mut chain = 0;
-    while chain < n {
+    for chain in 0..n {
         judged = judged_with(judged, rows[chain]);
-        chain = chain + 1;
     }
     judged
 }
@@ -51,12 +50,9 @@ pub fn write(rows: &[Row], out: &mut [u8]) -> Written
     ensures { Writes rows.now out.old result out.new }
 {
     let judged = judge(rows);
-    let n = rows_put(judged, out.len());
     let mut at = 0;
-    let mut chain = 0;
-    while chain < n {
+    for chain in 0..rows_put(judged, out.len()) {
         at = put_row(out, at, rows[chain]);
-        chain = chain + 1;
     }
     end(judged, out, at)
 }
@@ -101,13 +97,10 @@ pub fn read(s: &[u8], rows: &mut [Row]) -> Filled
     ensures { Fills s.now rows.old result rows.new }
 {
     let answer = answered(s, rows.len());
-    let n = rows_filled(answer);
     let mut at = 0;
-    let mut chain = 0;
-    while chain < n {
+    for chain in 0..rows_filled(answer) {
         rows[chain] = table::row_at(s, at);
         at = after(s, at);
-        chain = chain + 1;
     }
     answer
 }

@@ -11,7 +11,7 @@ ghost use Rattle.writing.specs.Code.Put.{distance_of, write_answer, rows_put, Ro
 
 use crate::Written;
 use crate::judged::{Tally, known_of};
-use table::{Row, Table, put_u16, put_u32, u16_from_u8, u32_from_u16};
+use table::{Row, Table, put_u16, put_u32};
 
 // The gap, or the flag in its place.
 pub fn put_gap(out: &mut [u8], at: usize, form: u16, flag: u8, gap: u32) -> usize
@@ -41,15 +41,11 @@ fn put_head(out: &mut [u8], at: usize, row: Row) -> usize
     requires { (is_form row.form ≡ true) × (row.listed ≤ max_distances) × (row.tasks ≤ max_tasks) × (at + head_length row.form ≤ length out.old) }
     ensures { Wrote out.old at (head_bytes row) out.new result }
 {
-    put_u32(
-        out,
-        at,
-        u32_from_u16(row.form) + 65_536 * u32_from_u16(row.id),
-    );
+    put_u32(out, at, u32::from(row.form) + 65_536 * u32::from(row.id));
     put_u16(
         out,
         at + 4,
-        u16_from_u8(row.kind) + 256 * u16_from_u8(row.overload),
+        u16::from(row.kind) + 256 * u16::from(row.overload),
     );
     put_u32(out, at + 6, row.deadline);
     let after_gap = put_gap(out, at + 10, row.form, row.flag, row.gap);
@@ -83,10 +79,8 @@ pub fn put_list(out: &mut [u8], at: usize, list: &[u32; Table::DISTANCES], n: us
 {
     let last = n - 1;
     let mut next = at;
-    let mut i: usize = 0;
-    while i < Table::DISTANCES - 1 {
+    for i in 0..Table::DISTANCES - 1 {
         next = put_distance(out, next, list, i, last);
-        i += 1;
     }
     put_u32(out, next, list[last]);
     next + 4
@@ -110,7 +104,7 @@ fn put_task(out: &mut [u8], at: usize, priority: u16, cost: u32) -> usize
     requires { at + 8 ≤ length out.old }
     ensures { Wrote out.old at (task_record priority cost) out.new result }
 {
-    put_u32(out, at, 19_284 + 65_536 * u32_from_u16(priority));
+    put_u32(out, at, 19_284 + 65_536 * u32::from(priority));
     put_u32(out, at + 4, cost);
     at + 8
 }
@@ -127,10 +121,8 @@ fn put_tasks(
     ensures { Wrote out.old at (tasks_bytes priority.now cost.now n) out.new result }
 {
     let mut next = at;
-    let mut i: usize = 0;
-    while i < n {
+    for i in 0..n {
         next = put_task(out, next, priority[i], cost[i]);
-        i += 1;
     }
     next
 }

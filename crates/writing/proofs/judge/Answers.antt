@@ -17,7 +17,6 @@ loop-chain-preserved c = let ys = c.args.rows.now in
     let e = c.judged_with-judged.ensures in
     let here : l.chain < length ys = omega arith in
     record {
-      on = omega arith;
       fits = fits_on ys l.chain here l.invariant.fits (subst Typed (get_or_default ys l.chain _ blank here) e.fits);
       small = e.small;
       so = ap (λ (u : Tally). judged_all u (drop (l.chain + 1) (take most_judged ys)))
@@ -29,7 +28,7 @@ returns c = let ys = c.args.rows.now in
     let l = c.loop-chain in
     let i = l.invariant in
     record {
-      fits = fits-end ys l.chain i.on (omega arith) i.fits;
+      fits = fits-end ys l.chain (omega arith) (omega arith) i.fits;
       small = i.small;
       is = sym (judged-end l.judged ys l.chain (omega arith)) ∙ i.so;
     }

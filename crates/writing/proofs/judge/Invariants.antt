@@ -1,7 +1,6 @@
 -- The first rows are judged, each has its type's values, and what is left makes of the tally what all rows make of nothing.
-use Prim.Native.Nat.{min, ◌≤◌, ◌-◌}
 use mathlib.Core.Path.{◌≡◌}
-use lib.ListN.{length, take, drop}
+use lib.ListN.{take, drop}
 use Rattle.search.specs.Lists.{All}
 use Rattle.writing.specs.Rows.{Typed}
 use Rattle.writing.specs.Code.Tally.{unjudged, judged_all, Small, most_judged}
@@ -9,11 +8,7 @@ use Rattle.writing.proofs.judge.Given as goal
 
 abbrev pub invariant-loop-chain : goal.invariant-loop-chain
 invariant-loop-chain l = record {
-  on : l.chain ≤ min (length l.rows) most_judged;
   fits : All Typed (take l.chain l.rows);
   small : Small l.judged;
   so : judged_all l.judged (drop l.chain (take most_judged l.rows)) ≡ judged_all unjudged (take most_judged l.rows);
 }
-
-abbrev pub decreases-loop-chain : goal.decreases-loop-chain
-decreases-loop-chain l = l.n - l.chain

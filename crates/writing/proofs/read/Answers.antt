@@ -11,7 +11,7 @@ pub loop-chain-init : goal.loop-chain-init
 loop-chain-init c = let s = c.args.s.now in
     let before = c.args.rows.now in
     let a = c.answered-answer in
-    record { on = omega arith; place = place-start s before a.result a.ensures; filled = fill_start s before a.result a.ensures }
+    record { place = place-start s before a.result a.ensures; filled = fill_start s before a.result a.ensures }
 
 pub row_at-requires : goal.row_at-requires
 row_at-requires c = let a = c.answered-answer in
@@ -34,7 +34,6 @@ loop-chain-preserved c = let s = c.args.s.now in
     let l = c.loop-chain in
     let here : l.chain < rows_filled a.result = omega arith in
     record {
-      on = omega arith;
       place = c.after-at.ensures ∙ place-next s before a.result a.ensures l.chain l.at here l.invariant.place;
       filled = rw (l.invariant.filled, c.row_at.ensures) (fill_on s before a.result a.ensures l.chain l.at here l.invariant.place);
     }

@@ -1,5 +1,4 @@
 -- The first rows are filled, and the next record starts where the last one ended.
-use Prim.Native.Nat.{◌≤◌, ◌-◌}
 use mathlib.Core.Path.{◌≡◌}
 use Rattle.table.specs.Read.{table_of}
 use Rattle.table.specs.Place.{place_of}
@@ -8,10 +7,6 @@ use Rattle.writing.proofs.read.Given as goal
 
 abbrev pub invariant-loop-chain : goal.invariant-loop-chain
 invariant-loop-chain l = record {
-  on : l.chain ≤ l.n;
   place : l.at ≡ place_of (table_of l.s) l.chain;
   filled : l.rows ≡ filled_to l.s l.initial.rows l.chain;
 }
-
-abbrev pub decreases-loop-chain : goal.decreases-loop-chain
-decreases-loop-chain l = l.n - l.chain

@@ -22,7 +22,7 @@ unfolding rows_put
 few j room h = when_cases (λ (n : ℕ). n ≤ max_chains) _ (λ e. h.count) (λ e. omega arith)
 
 pub loop-chain-init : goal.loop-chain-init
-loop-chain-init c = record { on = omega arith; put = rows_start c.args.rows.now c.args.out.now }
+loop-chain-init c = rows_start c.args.rows.now c.args.out.now
 
 pub offset_bounds-rows-chain : goal.offset_bounds-rows-chain
 offset_bounds-rows-chain c = omega (arith, few c.judge-judged.result (length c.args.out.now) c.judge-judged.ensures.small)
@@ -37,7 +37,7 @@ put_row-at-requires c = let ys = c.args.rows.now in
     let there = rows-there ys j.result (length c.args.out.now) j.ensures in
     let here : l.chain < length ys = omega (arith, there) in
     subst (λ (r : Row). RowRoom r l.out l.at) (get_or_default ys l.chain blank _ here)
-    (rows-room ys j.result j.ensures c.args.out.now l.out l.chain l.at (omega arith) l.invariant.put)
+    (rows-room ys j.result j.ensures c.args.out.now l.out l.chain l.at (omega arith) l.invariant)
 
 pub loop-chain-preserved : goal.loop-chain-preserved
 loop-chain-preserved c = let ys = c.args.rows.now in
@@ -46,18 +46,15 @@ loop-chain-preserved c = let ys = c.args.rows.now in
     let p = c.put_row-at in
     let there = rows-there ys j.result (length c.args.out.now) j.ensures in
     let here : l.chain < length ys = omega (arith, there) in
-    record {
-      on = omega arith;
-      put = rows_on ys l.chain here c.args.out.now l.out p.new.out l.at p.result l.invariant.put
-          (subst (λ (r : Row). Wrote l.out l.at (row_bytes r) p.new.out p.result) (get_or_default ys l.chain _ blank here) p.ensures);
-    }
+    rows_on ys l.chain here c.args.out.now l.out p.new.out l.at p.result l.invariant
+    (subst (λ (r : Row). Wrote l.out l.at (row_bytes r) p.new.out p.result) (get_or_default ys l.chain _ blank here) p.ensures)
 
 pub end-requires : goal.end-requires
 end-requires c = let j = c.judge-judged in
     let l = c.loop-chain in
-    end-room c.args.rows.now j.result j.ensures c.args.out.now l.out l.chain l.at (omega arith) (omega arith) l.invariant.put
+    end-room c.args.rows.now j.result j.ensures c.args.out.now l.out l.chain l.at (omega arith) (omega arith) l.invariant
 
 pub returns : goal.returns
 returns c = let j = c.judge-judged in
     let l = c.loop-chain in
-    writes c.args.rows.now j.result j.ensures c.args.out.now l.out c.end.new.out l.chain l.at c.end.result (omega arith) (omega arith) l.invariant.put c.end.ensures
+    writes c.args.rows.now j.result j.ensures c.args.out.now l.out c.end.new.out l.chain l.at c.end.result (omega arith) (omega arith) l.invariant c.end.ensures

@@ -11,4 +11,4 @@ pub returns-then-m-eq0 : goal.returns-then-m-eq0
 returns-then-m-eq0 c = let a = c.args in rw c.if-m-eq0.true (sym (lesser-right a.n))
 
 pub returns : goal.returns
-returns c = c.min.ensures ∙ sym (lesser-both c.args.n c.args.m (omega (arith, c.if-n-eq0.false)) (omega (arith, c.if-m-eq0.false)))
+returns c = omega (arith, lesser-both c.args.n c.args.m (omega (arith, c.if-n-eq0.false)) (omega (arith, c.if-m-eq0.false)))

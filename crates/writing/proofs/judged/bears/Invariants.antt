@@ -1,5 +1,4 @@
 -- What was found, or one of the places left, is the id.
-use Prim.Native.Nat.{◌≤◌, ◌-◌}
 use mathlib.Core.Path.{◌≡◌}
 use mathlib.Core.Bool.{◌||◌}
 use lib.ListN.{drop}
@@ -7,7 +6,4 @@ use Rattle.writing.specs.Code.Tally.{bears}
 use Rattle.writing.proofs.judged.bears.Given as goal
 
 abbrev pub invariant-loop-i : goal.invariant-loop-i
-invariant-loop-i l = (l.i ≤ 16) × ((l.found || bears (drop l.i l.ids) l.id) ≡ bears l.ids l.id)
-
-abbrev pub decreases-loop-i : goal.decreases-loop-i
-decreases-loop-i l = 16 - l.i
+invariant-loop-i l = (l.found || bears (drop l.i l.ids) l.id) ≡ bears l.ids l.id

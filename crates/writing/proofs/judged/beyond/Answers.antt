@@ -6,4 +6,4 @@ use Rattle.writing.proofs.judged.beyond.Goals as goal
 
 pub overflow_mul-result : goal.overflow_mul-result
 overflow_mul-result c = let h : c.args.i + 1 ≤ 8 = omega (arith, c.requires) in
-    omega (arith, mul-le-mul_left c.args.gap h, c.ranges.gap)
+    rw c.from.ensures (omega (arith, mul-le-mul_left c.args.gap h))

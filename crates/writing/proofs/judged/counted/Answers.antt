@@ -2,4 +2,4 @@
 use Rattle.writing.proofs.judged.counted.Goals as goal
 
 pub returns : goal.returns
-returns c = rw (c.length_of.ensures.0, c.u32_from_u16.ensures.0, c.after_id-ids.ensures)
+returns c = rw (c.length_of.ensures.0, c.from.ensures, c.after_id-ids.ensures)

@@ -6,14 +6,14 @@ use Rattle.search.specs.Choice.{◌when◌else◌}
 use Rattle.writing.specs.Code.Tally.{no_form, form_wrong}
 use Rattle.writing.proofs.judged.form_wrong.Goals as goal
 
-pub returns-then-u32_from_u16-before : goal.returns-then-u32_from_u16-before
+pub returns-then-from-before : goal.returns-then-from-before
 unfolding form_wrong ◌when◌else◌
-returns-then-u32_from_u16-before c = let wide = c.u32_from_u16.ensures in
-    rw (ne_eqb c.args.before no_form (λ z. omega (arith, z, wide.0, wide.1, c.if-u32_from_u16-before.true)), eq-eqb _ _ (sym wide.0 ∙ c.if-u32_from_u16-before.true))
+returns-then-from-before c =
+    rw (ne_eqb c.args.before no_form (λ z. omega arith), eq-eqb _ _ (sym c.from.ensures ∙ c.if-from-before.true))
 
 pub returns-then-before-ne-NO_FORM : goal.returns-then-before-ne-NO_FORM
 unfolding form_wrong ◌when◌else◌
-returns-then-before-ne-NO_FORM c = rw (ne_eqb _ _ c.if-before-ne-NO_FORM.true, ne_eqb _ _ (λ z. c.if-u32_from_u16-before.false (c.u32_from_u16.ensures.0 ∙ z)))
+returns-then-before-ne-NO_FORM c = rw (ne_eqb _ _ c.if-before-ne-NO_FORM.true, ne_eqb _ _ (λ z. c.if-from-before.false (c.from.ensures ∙ z)))
 
 pub returns-then-form-ne-GAP_FORM : goal.returns-then-form-ne-GAP_FORM
 unfolding form_wrong ◌when◌else◌

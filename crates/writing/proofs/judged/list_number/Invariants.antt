@@ -1,10 +1,6 @@
 -- None of the first i distances falls; at each return the tests so far, in order.
-use Prim.Native.Nat.{◌≤◌, ◌-◌}
 use Rattle.writing.proofs.Numbers.{Passed}
 use Rattle.writing.proofs.judged.list_number.Given as goal
 
 abbrev pub invariant-loop-i : goal.invariant-loop-i
-invariant-loop-i l = (l.i ≤ l.n) × Passed l.gap l.list l.n l.short l.before l.i
-
-abbrev pub decreases-loop-i : goal.decreases-loop-i
-decreases-loop-i l = l.n - l.i
+invariant-loop-i l = Passed l.gap l.list l.n l.short l.before l.i

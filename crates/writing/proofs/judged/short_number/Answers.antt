@@ -12,14 +12,14 @@ use Rattle.writing.proofs.judged.short_number.Goals as goal
 use Rattle.writing.proofs.judged.short_number.Goals.{At-loop-i}
 
 pub loop-i-init : goal.loop-i-init
-loop-i-init c = (omega arith, refl)
+loop-i-init c = refl
 
 -- the next one is wrong
 wrong : (c : At-loop-i) → c.loop-i.i < c.args.n
     → outside (max c.loop-i.before (get_or c.args.list.now c.loop-i.i 0)) max_largest (get_or c.args.largest.now c.loop-i.i 0) ≡ true
     → 33 ≡ number_of (short_fault 0 (take c.args.n c.args.list.now) (take c.args.n c.args.largest.now) 0)
 wrong c h e = let a = c.args in
-    sym (short-stop a.list.now a.largest.now a.n (omega (arith, c.requires)) (omega (arith, c.requires)) c.loop-i.i c.loop-i.before h e) ∙ c.loop-i.invariant.1
+    sym (short-stop a.list.now a.largest.now a.n (omega (arith, c.requires)) (omega (arith, c.requires)) c.loop-i.i c.loop-i.before h e) ∙ c.loop-i.invariant
 
 pub returns-then-d-list : goal.returns-then-d-list
 returns-then-d-list c = let a = c.args in
@@ -36,9 +36,9 @@ pub loop-i-preserved : goal.loop-i-preserved
 loop-i-preserved c = let a = c.args in
     let l = c.loop-i in
     let right = short-inside l.before (get_or a.list.now l.i 0) (get_or a.largest.now l.i 0) c.if-d-list.false (sym c.outside.ensures ∙ c.if-outside.false) in
-    (omega arith, sym (short-next a.list.now a.largest.now a.n (omega (arith, c.requires)) (omega (arith, c.requires)) l.i l.before (omega arith) right) ∙ l.invariant.1)
+    sym (short-next a.list.now a.largest.now a.n (omega (arith, c.requires)) (omega (arith, c.requires)) l.i l.before (omega arith) right) ∙ l.invariant
 
 pub returns : goal.returns
 returns c = let a = c.args in
     let l = c.loop-i in
-    sym (short-done a.list.now a.largest.now a.n (omega (arith, c.requires)) (omega (arith, c.requires)) l.before l.i (omega arith)) ∙ l.invariant.1
+    sym (short-done a.list.now a.largest.now a.n (omega (arith, c.requires)) (omega (arith, c.requires)) l.before l.i (omega arith)) ∙ l.invariant

@@ -1,5 +1,5 @@
 -- None of the first i largest distances falls, is too large or lies below the smallest.
-use Prim.Native.Nat.{◌≤◌, ◌*◌, ◌-◌}
+use Prim.Native.Nat.{◌*◌}
 use mathlib.Core.Path.{◌≡◌}
 use lib.ListN.{take, drop}
 use Rattle.table.specs.Fault.{short_fault}
@@ -7,7 +7,5 @@ use Rattle.table.specs.Read.{number_of}
 use Rattle.writing.proofs.judged.short_number.Given as goal
 
 abbrev pub invariant-loop-i : goal.invariant-loop-i
-invariant-loop-i l = (l.i ≤ l.n) × (number_of (short_fault l.before (drop l.i (take l.n l.list)) (drop l.i (take l.n l.largest)) (4 * l.i)) ≡ number_of (short_fault 0 (take l.n l.list) (take l.n l.largest) 0))
-
-abbrev pub decreases-loop-i : goal.decreases-loop-i
-decreases-loop-i l = l.n - l.i
+invariant-loop-i l = number_of (short_fault l.before (drop l.i (take l.n l.list)) (drop l.i (take l.n l.largest)) (4 * l.i))
+    ≡ number_of (short_fault 0 (take l.n l.list) (take l.n l.largest) 0)

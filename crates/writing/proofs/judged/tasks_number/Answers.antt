@@ -11,7 +11,7 @@ use Rattle.writing.proofs.judged.tasks_number.Goals as goal
 use Rattle.writing.proofs.judged.tasks_number.Goals.{then-priority-i-eq0-via-then-priority-i-eq0, then-priority-i-eq0-via-else-priority-i-eq0+then-outside}
 
 pub loop-i-init : goal.loop-i-init
-loop-i-init c = (omega arith, λ j h e. absurd (omega (arith, h)))
+loop-i-init c = λ j h e. absurd (omega arith)
 
 pub returns-then-priority-i-eq0 : goal.returns-then-priority-i-eq0
 returns-then-priority-i-eq0 c = let a = c.args in
@@ -24,12 +24,9 @@ returns-then-priority-i-eq0 c = let a = c.args in
     ])))
 
 pub loop-i-preserved : goal.loop-i-preserved
-loop-i-preserved c = (
-  omega arith,
-  below_more _ _ c.loop-i.invariant.1
-      (λ e. true-not-false e (or_none _ _ (ne_eqb _ _ c.if-priority-i-eq0.false) (sym c.outside.ensures ∙ c.if-outside.false))),
-)
+loop-i-preserved c = below_more _ _ c.loop-i.invariant
+    (λ e. true-not-false e (or_none _ _ (ne_eqb _ _ c.if-priority-i-eq0.false) (sym c.outside.ensures ∙ c.if-outside.false)))
 
 pub returns : goal.returns
 returns c = let a = c.args in
-    sym (tasks-right a.priority.now a.cost.now a.n (λ i h e. c.loop-i.invariant.1 i (omega arith) e))
+    sym (tasks-right a.priority.now a.cost.now a.n (λ i h e. c.loop-i.invariant i (omega arith) e))

@@ -7,6 +7,7 @@ use Rattle.slices.specs.Code.Wrote.{Wrote}
 use Rattle.slices.proofs.Writes.{wrote_on, wrote_number, number-on}
 use Rattle.table.specs.Bytes.{bytes_of}
 use Rattle.writing.specs.Rows.{gap_bytes, count_byte, head_bytes}
+use Rattle.writing.proofs.Fit.{row_fits}
 use Rattle.writing.proofs.Forms.{gap_length}
 use Rattle.writing.proofs.Puts.{head_bytes_lem}
 use Rattle.writing.proofs.put.put_head.Goals as goal
@@ -19,10 +20,11 @@ put_counts-requires c = let r = c.args.row in
 pub returns : goal.returns
 returns c = let a = c.args in
     let r = a.row in
-    let form = c.u32_from_u16 in
-    let id = c.u32_from_u16-2 in
-    let kind = c.u16_from_u8 in
-    let overload = c.u16_from_u8-2 in
+    let typed = row_fits r _ c.well_formed.1.1.0 in
+    let form = c.from in
+    let id = c.from-2 in
+    let kind = c.from-3 in
+    let overload = c.from-4 in
     let p1 = c.put_u32 in
     let p2 = c.put_u16 in
     let p3 = c.put_u32-2 in
@@ -33,6 +35,6 @@ returns c = let a = c.args in
     let w4 = wrote_on (wrote_on w3 c.put_gap-after_gap.ensures) counts.ensures in
     let e : bytes_of 4 (form.result + 65536 * id.result) ++ bytes_of 2 (kind.result + 256 * overload.result) ++ bytes_of 4 r.deadline ++ gap_bytes r.form r.flag r.gap
     ++ (count_byte r.listed ++ count_byte r.tasks) ≡ head_bytes r =
-    rw (form.ensures.0, id.ensures.0, kind.ensures.0, overload.ensures.0)
-    (head_bytes_lem r c.requires.0 (omega (arith, form.ensures.0, form.ensures.1)) (omega (arith, kind.ensures.0, kind.ensures.1))) in
+    rw (form.ensures, id.ensures, kind.ensures, overload.ensures)
+    (head_bytes_lem r c.requires.0 typed.form typed.kind) in
     subst (λ text. Wrote a.out.now a.at text counts.new.out counts.result) e w4

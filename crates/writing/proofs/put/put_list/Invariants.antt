@@ -1,11 +1,8 @@
 -- As many of the first i distances as there are before the last are put; then the last.
-use Prim.Native.Nat.{min, ◌≤◌, ◌-◌}
+use Prim.Native.Nat.{min, ◌-◌}
 use Rattle.slices.specs.Code.Wrote.{Wrote}
 use Rattle.writing.specs.Rows.{list_bytes}
 use Rattle.writing.proofs.put.put_list.Given as goal
 
 abbrev pub invariant-loop-i : goal.invariant-loop-i
-invariant-loop-i l = (l.i ≤ 7) × Wrote l.initial.out l.at (list_bytes l.list (min l.i (l.n - 1))) l.out l.next
-
-abbrev pub decreases-loop-i : goal.decreases-loop-i
-decreases-loop-i l = 7 - l.i
+invariant-loop-i l = Wrote l.initial.out l.at (list_bytes l.list (min l.i (l.n - 1))) l.out l.next

@@ -10,19 +10,19 @@ use Rattle.writing.proofs.put.put_tasks.Goals as goal
 
 pub loop-i-init : goal.loop-i-init
 loop-i-init c = let a = c.args in
-    (omega arith, rw (pieces_none (task_bytes a.priority.now a.cost.now)) (wrote_none a.out.now a.at (omega arith)))
+    rw (pieces_none (task_bytes a.priority.now a.cost.now)) (wrote_none a.out.now a.at (omega arith))
 
 pub put_task-next-requires : goal.put_task-next-requires
 put_task-next-requires c = let l = c.loop-i in
-    omega (arith, c.requires.1, l.invariant.1.long, l.invariant.1.ends, tasks-length c.args.priority.now c.args.cost.now l.i)
+    omega (arith, c.requires.1, l.invariant.long, l.invariant.ends, tasks-length c.args.priority.now c.args.cost.now l.i)
 
 pub loop-i-preserved : goal.loop-i-preserved
 loop-i-preserved c = let a = c.args in
     let l = c.loop-i in
-    (omega arith, pieces-on (task_bytes a.priority.now a.cost.now) l.i l.invariant.1 c.put_task-next.ensures)
+    pieces-on (task_bytes a.priority.now a.cost.now) l.i l.invariant c.put_task-next.ensures
 
 pub returns : goal.returns
 returns c = let a = c.args in
     let l = c.loop-i in
     let e : l.i ≡ a.n = omega arith in
-    subst (λ n. Wrote a.out.now a.at (tasks_bytes a.priority.now a.cost.now n) l.out l.next) e l.invariant.1
+    subst (λ n. Wrote a.out.now a.at (tasks_bytes a.priority.now a.cost.now n) l.out l.next) e l.invariant
