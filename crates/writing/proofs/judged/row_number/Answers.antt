@@ -1,14 +1,40 @@
--- At each return the tests so far, in order, are what the calls gave.
+-- At each return the tests so far, in order, are what the calls gave; `timed` brings the number to what follows the first of them.
 use native.Mathlib.Omega.{arith}
+use mathlib.Core.Path.{◌≡◌}
 use mathlib.Core.Logic.{inl, inr}
 use borrow.Author.Tests.{lt-ltb, le-ltb, eq-eqb, ne_eqb}
 use Rattle.search.specs.Choice.{◌when◌else◌, by_number}
 use Rattle.table.specs.Limits.{max_distances, max_tasks}
-use Rattle.writing.specs.Code.Tally.{identity_number, times_number, counts_number, row_number}
+use Rattle.writing.specs.Rows.{gap_of}
+use Rattle.writing.specs.Code.Tally.{first_number, identity_number, times_number, counts_number, lists_number, row_number}
 use Rattle.writing.proofs.Numbers.{outside-yes, outside_no}
 use Rattle.writing.proofs.judged.row_number.Goals as goal
+use Rattle.writing.proofs.judged.row_number.Goals.{Else-row-gt1-2, Else-gap_of-gt-GAP}
 use Rattle.writing.proofs.judged.row_number.Goals.{then-row-lt1-via-then-row-lt1, then-row-lt1-via-else-row-lt1+then-row-gt-DISTANCES}
 use Rattle.writing.proofs.judged.row_number.Goals.{then-row-lt1-2-via-then-row-lt1-2, then-row-lt1-2-via-else-row-lt1-2+then-row-gt-TASKS}
+
+-- past the id, the kind and the overload mark
+known : (c : Else-row-gt1-2) → row_number c.args.judged c.args.row
+    ≡ first_number (times_number c.args.row.deadline (gap_of c.args.row.form c.args.row.gap))
+    (first_number (counts_number c.args.judged.tasks c.args.row.listed c.args.row.tasks) (lists_number c.args.row))
+unfolding row_number identity_number by_number ◌when◌else◌
+known c = rw (ne_eqb _ _ c.if-row-eq0.false, ← c.bears.ensures, c.if-bears.false, le-ltb _ _ c.if-row-gt1.false, le-ltb _ _ c.if-row-gt1-2.false)
+
+-- and past the deadline and the gap
+timed : (c : Else-gap_of-gt-GAP) → row_number c.args.judged c.args.row
+    ≡ first_number (counts_number c.args.judged.tasks c.args.row.listed c.args.row.tasks) (lists_number c.args.row)
+unfolding row_number identity_number times_number by_number ◌when◌else◌
+timed c = rw (
+  ne_eqb _ _ c.if-row-eq0.false,
+  ← c.bears.ensures,
+  c.if-bears.false,
+  le-ltb _ _ c.if-row-gt1.false,
+  le-ltb _ _ c.if-row-gt1-2.false,
+  ← c.outside.ensures,
+  c.if-outside.false,
+  ← c.gap_of.ensures,
+  le-ltb _ _ c.if-gap_of-gt-GAP.false,
+)
 
 pub returns-then-row-eq0 : goal.returns-then-row-eq0
 unfolding row_number identity_number times_number counts_number by_number ◌when◌else◌
@@ -33,25 +59,13 @@ returns-then-row-gt1-2 c = rw (
 )
 
 pub returns-then-outside : goal.returns-then-outside
-unfolding row_number identity_number times_number counts_number by_number ◌when◌else◌
-returns-then-outside c = rw (
-  ne_eqb _ _ c.if-row-eq0.false,
-  ← c.bears.ensures,
-  c.if-bears.false,
-  le-ltb _ _ c.if-row-gt1.false,
-  le-ltb _ _ c.if-row-gt1-2.false,
-  ← c.outside.ensures,
-  c.if-outside.true,
-)
+unfolding times_number by_number ◌when◌else◌
+returns-then-outside c = rw (known (goal.at.returns-then-outside c).Else-row-gt1-2, ← c.outside.ensures, c.if-outside.true)
 
 pub returns-then-gap_of-gt-GAP : goal.returns-then-gap_of-gt-GAP
-unfolding row_number identity_number times_number counts_number by_number ◌when◌else◌
+unfolding times_number by_number ◌when◌else◌
 returns-then-gap_of-gt-GAP c = rw (
-  ne_eqb _ _ c.if-row-eq0.false,
-  ← c.bears.ensures,
-  c.if-bears.false,
-  le-ltb _ _ c.if-row-gt1.false,
-  le-ltb _ _ c.if-row-gt1-2.false,
+  known (goal.at.returns-then-gap_of-gt-GAP c).Else-row-gt1-2,
   ← c.outside.ensures,
   c.if-outside.false,
   ← c.gap_of.ensures,
@@ -59,66 +73,39 @@ returns-then-gap_of-gt-GAP c = rw (
 )
 
 pub returns-then-row-lt1 : goal.returns-then-row-lt1
-unfolding row_number identity_number times_number counts_number by_number ◌when◌else◌
-returns-then-row-lt1 c = let r = c.args.row in
-    rw (
-      ne_eqb _ _ c.if-row-eq0.false,
-      ← c.bears.ensures,
-      c.if-bears.false,
-      le-ltb _ _ c.if-row-gt1.false,
-      le-ltb _ _ c.if-row-gt1-2.false,
-      ← c.outside.ensures,
-      c.if-outside.false,
-      ← c.gap_of.ensures,
-      le-ltb _ _ c.if-gap_of-gt-GAP.false,
-      outside-yes max_distances r.listed
-          (elim c.then-row-lt1.branch [
-            | then-row-lt1-via-then-row-lt1 w ↦ inl w.if-row-lt1.true
-            | then-row-lt1-via-else-row-lt1+then-row-gt-DISTANCES w ↦ inr (lt-ltb _ _ w.if-row-gt-DISTANCES.true)
-          ]),
-    )
+unfolding counts_number by_number ◌when◌else◌
+returns-then-row-lt1 c = rw (
+  timed (goal.at.returns-then-row-lt1 c).Else-gap_of-gt-GAP,
+  outside-yes max_distances c.args.row.listed
+      (elim c.then-row-lt1.branch [
+        | then-row-lt1-via-then-row-lt1 w ↦ inl w.if-row-lt1.true
+        | then-row-lt1-via-else-row-lt1+then-row-gt-DISTANCES w ↦ inr (lt-ltb _ _ w.if-row-gt-DISTANCES.true)
+      ]),
+)
 
 pub returns-then-row-lt1-2 : goal.returns-then-row-lt1-2
-unfolding row_number identity_number times_number counts_number by_number ◌when◌else◌
-returns-then-row-lt1-2 c = let r = c.args.row in
-    rw (
-      ne_eqb _ _ c.if-row-eq0.false,
-      ← c.bears.ensures,
-      c.if-bears.false,
-      le-ltb _ _ c.if-row-gt1.false,
-      le-ltb _ _ c.if-row-gt1-2.false,
-      ← c.outside.ensures,
-      c.if-outside.false,
-      ← c.gap_of.ensures,
-      le-ltb _ _ c.if-gap_of-gt-GAP.false,
-      outside_no max_distances r.listed c.if-row-lt1.false (le-ltb _ _ c.if-row-gt-DISTANCES.false),
-      outside-yes max_tasks r.tasks
-          (elim c.then-row-lt1-2.branch [
-            | then-row-lt1-2-via-then-row-lt1-2 w ↦ inl w.if-row-lt1-2.true
-            | then-row-lt1-2-via-else-row-lt1-2+then-row-gt-TASKS w ↦ inr (lt-ltb _ _ w.if-row-gt-TASKS.true)
-          ]),
-    )
+unfolding counts_number by_number ◌when◌else◌
+returns-then-row-lt1-2 c = rw (
+  timed (goal.at.returns-then-row-lt1-2 c).Else-gap_of-gt-GAP,
+  outside_no max_distances c.args.row.listed c.if-row-lt1.false (le-ltb _ _ c.if-row-gt-DISTANCES.false),
+  outside-yes max_tasks c.args.row.tasks
+      (elim c.then-row-lt1-2.branch [
+        | then-row-lt1-2-via-then-row-lt1-2 w ↦ inl w.if-row-lt1-2.true
+        | then-row-lt1-2-via-else-row-lt1-2+then-row-gt-TASKS w ↦ inr (lt-ltb _ _ w.if-row-gt-TASKS.true)
+      ]),
+)
 
 pub overflow_add-judged : goal.overflow_add-judged
 overflow_add-judged c = omega (arith, c.if-row-gt-TASKS.false, c.requires.tasks)
 
 pub returns-then-judged-row-gt-ALL_TASKS : goal.returns-then-judged-row-gt-ALL_TASKS
-unfolding row_number identity_number times_number counts_number by_number ◌when◌else◌
-returns-then-judged-row-gt-ALL_TASKS c = let r = c.args.row in
-    rw (
-      ne_eqb _ _ c.if-row-eq0.false,
-      ← c.bears.ensures,
-      c.if-bears.false,
-      le-ltb _ _ c.if-row-gt1.false,
-      le-ltb _ _ c.if-row-gt1-2.false,
-      ← c.outside.ensures,
-      c.if-outside.false,
-      ← c.gap_of.ensures,
-      le-ltb _ _ c.if-gap_of-gt-GAP.false,
-      outside_no max_distances r.listed c.if-row-lt1.false (le-ltb _ _ c.if-row-gt-DISTANCES.false),
-      outside_no max_tasks r.tasks c.if-row-lt1-2.false (le-ltb _ _ c.if-row-gt-TASKS.false),
-      lt-ltb _ _ c.if-judged-row-gt-ALL_TASKS.true,
-    )
+unfolding counts_number by_number ◌when◌else◌
+returns-then-judged-row-gt-ALL_TASKS c = rw (
+  timed (goal.at.returns-then-judged-row-gt-ALL_TASKS c).Else-gap_of-gt-GAP,
+  outside_no max_distances c.args.row.listed c.if-row-lt1.false (le-ltb _ _ c.if-row-gt-DISTANCES.false),
+  outside_no max_tasks c.args.row.tasks c.if-row-lt1-2.false (le-ltb _ _ c.if-row-gt-TASKS.false),
+  lt-ltb _ _ c.if-judged-row-gt-ALL_TASKS.true,
+)
 
 pub lists_number-requires : goal.lists_number-requires
 lists_number-requires c = (
@@ -128,20 +115,11 @@ lists_number-requires c = (
 )
 
 pub returns : goal.returns
-unfolding row_number identity_number times_number counts_number by_number ◌when◌else◌
-returns c = let r = c.args.row in
-    rw (
-      ne_eqb _ _ c.if-row-eq0.false,
-      ← c.bears.ensures,
-      c.if-bears.false,
-      le-ltb _ _ c.if-row-gt1.false,
-      le-ltb _ _ c.if-row-gt1-2.false,
-      ← c.outside.ensures,
-      c.if-outside.false,
-      ← c.gap_of.ensures,
-      le-ltb _ _ c.if-gap_of-gt-GAP.false,
-      outside_no max_distances r.listed c.if-row-lt1.false (le-ltb _ _ c.if-row-gt-DISTANCES.false),
-      outside_no max_tasks r.tasks c.if-row-lt1-2.false (le-ltb _ _ c.if-row-gt-TASKS.false),
-      le-ltb _ _ c.if-judged-row-gt-ALL_TASKS.false,
-      ← c.lists_number.ensures,
-    )
+unfolding counts_number by_number ◌when◌else◌
+returns c = rw (
+  timed (goal.at.returns c).Else-gap_of-gt-GAP,
+  outside_no max_distances c.args.row.listed c.if-row-lt1.false (le-ltb _ _ c.if-row-gt-DISTANCES.false),
+  outside_no max_tasks c.args.row.tasks c.if-row-lt1-2.false (le-ltb _ _ c.if-row-gt-TASKS.false),
+  le-ltb _ _ c.if-judged-row-gt-ALL_TASKS.false,
+  ← c.lists_number.ensures,
+)
