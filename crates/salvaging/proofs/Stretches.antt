@@ -87,11 +87,11 @@ module _ (s places : List ℕ) (i at : ℕ) (all : i ≡ length places) where
   none_left : drop i places ≡ []
   none_left = ap (λ n. drop n places) all ∙ drop-length places
 
-  pub skipped-end : i < max_chains → skipped_from (max_chains - i) s at (drop i places) ≡ between at (length s)
+  pub skipped-end : length places < max_chains → skipped_from (max_chains - i) s at (drop i places) ≡ between at (length s)
   unfolding skipped_from
   skipped-end few = let e : max_chains - i ≡ suc (max_chains - (i + 1)) = omega arith in rw (e, none_left)
 
-  pub skipped-full : max_chains ≤ i → skipped_from (max_chains - i) s at (drop i places) ≡ []
+  pub skipped-full : max_chains ≤ length places → skipped_from (max_chains - i) s at (drop i places) ≡ []
   unfolding skipped_from
   skipped-full few = let e : max_chains - i ≡ 0 = omega arith in rw e
 

@@ -23,7 +23,7 @@ pub struct Size {
 fn counted(at: usize, to: usize) -> usize
     ensures { result ≡ (1 when ltb at to else 0) }
 {
-    if at < to { 1 } else { 0 }
+    usize::from(at < to)
 }
 
 // Measures what the records at these places make of the table and of the list.
@@ -34,16 +34,13 @@ fn size_of(s: &[u8], places: &[usize]) -> Size
     let mut bytes: usize = 0;
     let mut stretches: usize = 0;
     let mut at: usize = 0;
-    let mut i: usize = 0;
-    while i < places.len() {
-        let place = places[i];
+    for &place in places {
         let length = record_length(s, place);
         stretches += counted(at, place);
         bytes += length;
         at = place + length;
-        i += 1;
     }
-    if i < Table::CHAINS {
+    if places.len() < Table::CHAINS {
         stretches += counted(at, s.len());
     }
     Size { bytes, stretches }
@@ -55,14 +52,10 @@ fn put_records(s: &[u8], places: &[usize], out: &mut [u8]) -> usize
     ensures { Wrote out.old 0 (flatten (map (record_at s.now) places.now)) out.new result }
 {
     let mut end: usize = 0;
-    let mut i: usize = 0;
-    while i < places.len() {
-        let place = places[i];
+    for &place in places {
         let length = record_length(s, place);
-        let after = place + length;
-        put(out, end, &s[place..after]);
+        put(out, end, &s[place..place + length]);
         end += length;
-        i += 1;
     }
     end
 }
@@ -87,14 +80,11 @@ fn put_stretches(s: &[u8], places: &[usize], out: &mut [u8]) -> usize
 {
     let mut end: usize = 0;
     let mut at: usize = 0;
-    let mut i: usize = 0;
-    while i < places.len() {
-        let place = places[i];
+    for &place in places {
         end = put_stretch(out, end, at, place);
         at = place + record_length(s, place);
-        i += 1;
     }
-    if i < Table::CHAINS {
+    if places.len() < Table::CHAINS {
         return put_stretch(out, end, at, s.len());
     }
     end

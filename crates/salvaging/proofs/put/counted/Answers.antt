@@ -1,11 +1,14 @@
--- Case by case.
-use mathlib.Core.Path.{sym}
-use borrow.Author.Tests.{lt-ltb, le-ltb}
-use Rattle.search.proofs.Choice.{when_yes, when_no}
+-- A truth is 1 or 0.
+use mathlib.Core.Path.{◌≡◌, refl, ◌∙◌}
+use mathlib.Core.Bool.{Bool, true, false}
+use mir.Val.{bool_byte}
+use Rattle.search.specs.Choice.{◌when◌else◌}
 use Rattle.salvaging.proofs.put.counted.Goals as goal
 
-pub returns-then-at-to : goal.returns-then-at-to
-returns-then-at-to c = sym (when_yes 1 0 (lt-ltb _ _ c.if-at-to.true))
+one-or-none : (b : Bool) → bool_byte b ≡ (1 when b else 0)
+unfolding ◌when◌else◌
+one-or-none true = refl
+one-or-none false = refl
 
-pub returns-else-at-to : goal.returns-else-at-to
-returns-else-at-to c = sym (when_no 1 0 (le-ltb _ _ c.if-at-to.false))
+pub returns : goal.returns
+returns c = c.from.ensures ∙ one-or-none _

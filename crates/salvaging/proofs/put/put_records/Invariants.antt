@@ -21,8 +21,5 @@ pub record SoFar (s places before out : List ℕ) (end i : ℕ) : Type 0 where
   pub left : done ++ bytes_at s (drop i places) ≡ bytes_at s places
   pub order : InOrder s at (drop i places)
 
-abbrev pub invariant-loop-i : goal.invariant-loop-i
-invariant-loop-i l = SoFar l.s l.places l.initial.out l.out l.end l.i
-
-abbrev pub decreases-loop-i : goal.decreases-loop-i
-decreases-loop-i l = length l.places - l.i
+abbrev pub invariant-loop-place : goal.invariant-loop-place
+invariant-loop-place l = SoFar l.s l.places l.initial.out l.out l.end l.place-index

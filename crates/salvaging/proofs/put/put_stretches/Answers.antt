@@ -12,7 +12,7 @@ use Rattle.salvaging.specs.Skipped.{Stretch, between, skipped_from}
 use Rattle.salvaging.specs.Code.Walk.{InOrder}
 use Rattle.salvaging.proofs.Stretches.{list_of, list_append, order-within, order-on, skipped-on, skipped-end, skipped-full}
 use Rattle.salvaging.proofs.put.put_stretches.Goals as goal
-use Rattle.salvaging.proofs.put.put_stretches.Goals.{After-loop-i, In-loop-i}
+use Rattle.salvaging.proofs.put.put_stretches.Goals.{After-loop-place, In-loop-place}
 
 -- there is room for one more, with what is left after it
 room : (before done more : List Stretch) (one : List Stretch) (text out : List ℕ) (end : ℕ) → done ++ (one ++ more) ≡ before → length (list_of before) ≤ length text → Wrote text 0 (list_of done) out end
@@ -28,83 +28,79 @@ room before done more one text out end e l w =
       w.long,
     )
 
-abbrev bytes : (c : In-loop-i) → List ℕ
+abbrev bytes : (c : In-loop-place) → List ℕ
 bytes c = c.args.s.now
 
-abbrev places : (c : In-loop-i) → List ℕ
+abbrev places : (c : In-loop-place) → List ℕ
 places c = c.args.places.now
 
-abbrev at : (c : In-loop-i) → ℕ
-at c = c.loop-i.at
+abbrev at : (c : In-loop-place) → ℕ
+at c = c.loop-place.at
 
-abbrev here : (c : In-loop-i) → ℕ
-here c = get_or (places c) c.loop-i.i 0
+abbrev here : (c : In-loop-place) → ℕ
+here c = get_or (places c) c.loop-place.place-index 0
 
-next : (c : In-loop-i) → ((at c) ≤ (here c)) × InOrder (bytes c) ((here c) + length_at (bytes c) (here c)) (drop (c.loop-i.i + 1) (places c))
-next c = order-on (bytes c) (places c) c.loop-i.i (at c) c.loop-i-test.true c.loop-i.invariant.order
+next : (c : In-loop-place) → ((at c) ≤ (here c)) × InOrder (bytes c) ((here c) + length_at (bytes c) (here c)) (drop (c.loop-place.place-index + 1) (places c))
+next c = order-on (bytes c) (places c) c.loop-place.place-index (at c) c.loop-place-test.true c.loop-place.invariant.order
 
-there : (c : In-loop-i) → (here c) + length_at (bytes c) (here c) ≤ length (bytes c)
+there : (c : In-loop-place) → (here c) + length_at (bytes c) (here c) ≤ length (bytes c)
 there c = order-within (bytes c) _ _ (next c).1
 
-abbrev more : (c : In-loop-i) → List Stretch
-more c = skipped_from (max_chains - (c.loop-i.i + 1)) (bytes c) ((here c) + length_at (bytes c) (here c)) (drop (c.loop-i.i + 1) (places c))
+abbrev more : (c : In-loop-place) → List Stretch
+more c = skipped_from (max_chains - (c.loop-place.place-index + 1)) (bytes c) ((here c) + length_at (bytes c) (here c)) (drop (c.loop-place.place-index + 1) (places c))
 
-opened : (c : In-loop-i) → c.loop-i.invariant.done ++ (between (at c) (here c) ++ (more c)) ≡ skipped_from max_chains (bytes c) 0 (places c)
-opened c = ap (λ (x : List Stretch). c.loop-i.invariant.done ++ x) (sym (skipped-on (bytes c) (places c) c.loop-i.i (at c) c.loop-i-test.true (omega (arith, c.loop-i-test.true, c.requires.1)))) ∙ c.loop-i.invariant.left
+opened : (c : In-loop-place) → c.loop-place.invariant.done ++ (between (at c) (here c) ++ (more c)) ≡ skipped_from max_chains (bytes c) 0 (places c)
+opened c = ap (λ (x : List Stretch). c.loop-place.invariant.done ++ x) (sym (skipped-on (bytes c) (places c) c.loop-place.place-index (at c) c.loop-place-test.true (omega (arith, c.loop-place-test.true, c.requires.1)))) ∙ c.loop-place.invariant.left
 
-at-end : (c : After-loop-i) → c.loop-i.i ≡ length c.args.places.now
-at-end c = omega (arith, c.loop-i.invariant.few, c.loop-i-test.false)
+at-end : (c : After-loop-place) → c.loop-place.place-index ≡ length c.args.places.now
+at-end c = omega (arith, c.loop-place.invariant.few, c.loop-place-test.false)
 
-rest-there : (c : After-loop-i) → c.loop-i.i < max_chains
-    → c.loop-i.invariant.done ++ (between c.loop-i.at (length c.args.s.now) ++ []) ≡ skipped_from max_chains c.args.s.now 0 c.args.places.now
-rest-there c h = ap (λ (x : List Stretch). c.loop-i.invariant.done ++ x)
-    (append-nil _ ∙ sym (skipped-end c.args.s.now c.args.places.now c.loop-i.i c.loop-i.at (at-end c) h)) ∙ c.loop-i.invariant.left
+rest-there : (c : After-loop-place) → length c.args.places.now < max_chains
+    → c.loop-place.invariant.done ++ (between c.loop-place.at (length c.args.s.now) ++ []) ≡ skipped_from max_chains c.args.s.now 0 c.args.places.now
+rest-there c h = ap (λ (x : List Stretch). c.loop-place.invariant.done ++ x)
+    (append-nil _ ∙ sym (skipped-end c.args.s.now c.args.places.now c.loop-place.place-index c.loop-place.at (at-end c) h)) ∙ c.loop-place.invariant.left
 
-pub loop-i-init : goal.loop-i-init
+pub loop-place-init : goal.loop-place-init
 unfolding flatten
-loop-i-init c = record { done = []; few = omega arith; wrote = wrote_none c.args.out.now 0 (omega arith); left = refl; order = c.requires.0 }
+loop-place-init c = record { done = []; few = omega arith; wrote = wrote_none c.args.out.now 0 (omega arith); left = refl; order = c.requires.0 }
 
 pub put_stretch-end-requires : goal.put_stretch-end-requires
-put_stretch-end-requires c = let l = c.loop-i in
-    (omega (arith, there (goal.at.put_stretch-end-requires c).In-loop-i, c.requires.2), room _ l.invariant.done (more (goal.at.put_stretch-end-requires c).In-loop-i) (between (at (goal.at.put_stretch-end-requires c).In-loop-i) (here (goal.at.put_stretch-end-requires c).In-loop-i)) c.args.out.now l.out l.end (opened (goal.at.put_stretch-end-requires c).In-loop-i) c.requires.3 l.invariant.wrote)
+put_stretch-end-requires c = let l = c.loop-place in
+    let p = (goal.at.put_stretch-end-requires c).In-loop-place in
+    (omega (arith, there p, c.requires.2), room _ l.invariant.done (more p) (between (at p) (here p)) c.args.out.now l.out l.end (opened p) c.requires.3 l.invariant.wrote)
 
 pub record_length-requires : goal.record_length-requires
-record_length-requires c = omega (arith, there (goal.at.record_length-requires c).In-loop-i)
+record_length-requires c = omega (arith, there (goal.at.record_length-requires c).In-loop-place)
 
 pub overflow_add-at : goal.overflow_add-at
-overflow_add-at c = omega (arith, there (goal.at.overflow_add-at c).In-loop-i, c.record_length.ensures, c.requires.2)
+overflow_add-at c = omega (arith, there (goal.at.overflow_add-at c).In-loop-place, c.record_length.ensures, c.requires.2)
 
-pub overflow_add-i : goal.overflow_add-i
-overflow_add-i c = omega (arith, c.loop-i-test.true, c.requires.1)
-
-pub loop-i-smaller : goal.loop-i-smaller
-loop-i-smaller c = omega (arith, c.loop-i-test.true)
-
-pub loop-i-preserved : goal.loop-i-preserved
-loop-i-preserved c = let l = c.loop-i in
-    let gap = between (at (goal.at.loop-i-preserved c).In-loop-i) (here (goal.at.loop-i-preserved c).In-loop-i) in
-    let one : c.record_length.result ≡ length_at (bytes (goal.at.loop-i-preserved c).In-loop-i) (here (goal.at.loop-i-preserved c).In-loop-i) = c.record_length.ensures in
+pub loop-place-preserved : goal.loop-place-preserved
+loop-place-preserved c = let l = c.loop-place in
+    let p = (goal.at.loop-place-preserved c).In-loop-place in
+    let gap = between (at p) (here p) in
+    let one : c.record_length.result ≡ length_at (bytes p) (here p) = c.record_length.ensures in
     rw one record {
       done = l.invariant.done ++ gap;
-      few = omega (arith, c.loop-i-test.true);
+      few = omega (arith, c.loop-place-test.true);
       wrote = rw (list_append l.invariant.done gap) (wrote_on l.invariant.wrote c.put_stretch-end.ensures);
-      left = append_assoc l.invariant.done gap (more (goal.at.loop-i-preserved c).In-loop-i) ∙ opened (goal.at.loop-i-preserved c).In-loop-i;
-      order = (next (goal.at.loop-i-preserved c).In-loop-i).1;
+      left = append_assoc l.invariant.done gap (more p) ∙ opened p;
+      order = (next p).1;
     }
 
 pub put_stretch-requires : goal.put_stretch-requires
-put_stretch-requires c = let l = c.loop-i in
-    (c.requires.2, room _ l.invariant.done [] (between l.at (length c.args.s.now)) c.args.out.now l.out l.end (rest-there (goal.at.put_stretch-requires c).After-loop-i c.if-i-lt-CHAINS.true) c.requires.3 l.invariant.wrote)
+put_stretch-requires c = let l = c.loop-place in
+    (c.requires.2, room _ l.invariant.done [] (between l.at (length c.args.s.now)) c.args.out.now l.out l.end (rest-there (goal.at.put_stretch-requires c).After-loop-place c.if-places-lt-CHAINS.true) c.requires.3 l.invariant.wrote)
 
-pub returns-then-i-lt-CHAINS : goal.returns-then-i-lt-CHAINS
-returns-then-i-lt-CHAINS c = let l = c.loop-i in
+pub returns-then-places-lt-CHAINS : goal.returns-then-places-lt-CHAINS
+returns-then-places-lt-CHAINS c = let l = c.loop-place in
     let gap = between l.at (length c.args.s.now) in
     subst (λ text. Wrote c.args.out.now 0 text c.put_stretch.new.out c.put_stretch.result)
-    (sym (list_append l.invariant.done gap) ∙ ap (λ (x : List Stretch). list_of (l.invariant.done ++ x)) (sym (append-nil gap)) ∙ ap list_of (rest-there (goal.at.returns-then-i-lt-CHAINS c).After-loop-i c.if-i-lt-CHAINS.true))
+    (sym (list_append l.invariant.done gap) ∙ ap (λ (x : List Stretch). list_of (l.invariant.done ++ x)) (sym (append-nil gap)) ∙ ap list_of (rest-there (goal.at.returns-then-places-lt-CHAINS c).After-loop-place c.if-places-lt-CHAINS.true))
     (wrote_on l.invariant.wrote c.put_stretch.ensures)
 
 pub returns : goal.returns
-returns c = let l = c.loop-i in
+returns c = let l = c.loop-place in
     subst (λ (x : List Stretch). Wrote c.args.out.now 0 (list_of x) l.out l.end)
-    (sym (append-nil l.invariant.done) ∙ ap (λ (x : List Stretch). l.invariant.done ++ x) (sym (skipped-full c.args.s.now c.args.places.now l.i l.at (at-end (goal.at.returns c).After-loop-i) (omega (arith, c.if-i-lt-CHAINS.false)))) ∙ l.invariant.left)
+    (sym (append-nil l.invariant.done) ∙ ap (λ (x : List Stretch). l.invariant.done ++ x) (sym (skipped-full c.args.s.now c.args.places.now l.place-index l.at (at-end (goal.at.returns c).After-loop-place) c.if-places-lt-CHAINS.false)) ∙ l.invariant.left)
     l.invariant.wrote

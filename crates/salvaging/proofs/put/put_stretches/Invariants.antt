@@ -18,8 +18,5 @@ pub record SoFar (s places before out : List ℕ) (end at i : ℕ) : Type 0 wher
   pub left : done ++ skipped_from (max_chains - i) s at (drop i places) ≡ skipped_from max_chains s 0 places
   pub order : InOrder s at (drop i places)
 
-abbrev pub invariant-loop-i : goal.invariant-loop-i
-invariant-loop-i l = SoFar l.s l.places l.initial.out l.out l.end l.at l.i
-
-abbrev pub decreases-loop-i : goal.decreases-loop-i
-decreases-loop-i l = length l.places - l.i
+abbrev pub invariant-loop-place : goal.invariant-loop-place
+invariant-loop-place l = SoFar l.s l.places l.initial.out l.out l.end l.at l.place-index

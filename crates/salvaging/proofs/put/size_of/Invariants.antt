@@ -17,8 +17,5 @@ pub record SoFar (s places : List ℕ) (bytes stretches at i : ℕ) : Type 0 whe
   pub least : stretches ≤ i
   pub order : InOrder s at (drop i places)
 
-abbrev pub invariant-loop-i : goal.invariant-loop-i
-invariant-loop-i l = SoFar l.s l.places l.bytes l.stretches l.at l.i
-
-abbrev pub decreases-loop-i : goal.decreases-loop-i
-decreases-loop-i l = length l.places - l.i
+abbrev pub invariant-loop-place : goal.invariant-loop-place
+invariant-loop-place l = SoFar l.s l.places l.bytes l.stretches l.at l.place-index
