@@ -29,12 +29,7 @@ fn is_chain(mark: u16) -> bool
 fn is_task(mark: u16) -> bool
     ensures { result ≡ is_task (mark_of mark) }
 {
-    match mark_of(mark) {
-        Mark::Task => true,
-        Mark::Chain => false,
-        Mark::End => false,
-        Mark::Unknown => false,
-    }
+    matches!(mark_of(mark), Mark::Task)
 }
 
 // Whether one of the four bytes from `at` on is a `C`.
@@ -114,10 +109,7 @@ fn accepts(s: &[u8], at: usize, form: u16, ids: &[u16; Table::CHAINS], before: B
         return false;
     }
     let needed = form_beside(s, at, form, before.count);
-    match beside_fault(s, at, needed, ids, before) {
-        Verdict::Accepted => true,
-        Verdict::Refused(_, _) => false,
-    }
+    matches!(beside_fault(s, at, needed, ids, before), Verdict::Accepted)
 }
 
 // The first place from `from` on at which an acceptable record starts, the length if there is none.
@@ -147,22 +139,21 @@ pub fn walk(s: &[u8], places: &mut [usize]) -> usize
     ensures { Walked s.now places.new result }
 {
     let mut ids = [0u16; Table::CHAINS];
-    let mut before = Before { count: 0, tasks: 0 };
+    let mut all: usize = 0;
     let mut form: u16 = 0;
     let mut at: usize = 0;
-    while before.count < Table::CHAINS {
+    for count in 0..Table::CHAINS {
+        let before = Before { count, tasks: all };
         let place = next_record(s, at, form, &ids, before);
         if place == s.len() {
-            return before.count;
+            return count;
         }
-        let count = before.count;
         places[count] = place;
         ids[count] = id_at(s, place);
         form = form_at(s, place);
-        before.count = count + 1;
         let tasks = tasks_part(s, place);
-        before.tasks = before.tasks + tasks.count;
+        all += tasks.count;
         at = place + (tasks.from + 8 * tasks.count);
     }
-    before.count
+    Table::CHAINS
 }

@@ -1,5 +1,5 @@
 -- What is put, with the records from number i on, is all of them.
-use Prim.Native.Nat.{ℕ, ◌-◌, ◌≤◌}
+use Prim.Native.Nat.{ℕ, ◌≤◌}
 use mathlib.Core.Path.{◌≡◌}
 use mathlib.Core.List.{List, ◌++◌, map, flatten}
 use lib.ListN.{length, drop}

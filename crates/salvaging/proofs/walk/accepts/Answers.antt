@@ -41,5 +41,5 @@ judged c t b = ap (λ f. beside_fault c.args.s.now c.args.at f t) (sym (c.form_b
 pub returns-in-Accepted : goal.returns-in-Accepted
 returns-in-Accepted c t b = sym (acceptable-given c.args.s.now c.args.at t (like_chain _ _ c.requires.0) (judged (goal.at.returns-in-Accepted c).After-beside_fault t b ∙ c.in-Accepted.is))
 
-pub returns-in-Refused : goal.returns-in-Refused
-returns-in-Refused c t b = sym (not-beside c.args.s.now c.args.at t (judged (goal.at.returns-in-Refused c).After-beside_fault t b ∙ c.in-Refused.is))
+pub returns-in_default : goal.returns-in_default
+returns-in_default c t b = sym (not-beside c.args.s.now c.args.at t (judged (goal.at.returns-in_default c).After-beside_fault t b ∙ c.in_default.is))

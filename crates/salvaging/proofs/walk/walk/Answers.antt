@@ -2,7 +2,7 @@
 use Prim.Native.Nat.{ℕ, ◌+◌, ◌*◌, ◌-◌, ◌<◌}
 use native.Mathlib.Omega.{arith}
 use native.Mathlib.Numerals.{add-one}
-use mathlib.Core.Path.{◌≡◌, refl, ap, sym, ◌∙◌}
+use mathlib.Core.Path.{◌≡◌, refl, ap, sym, subst, ◌∙◌}
 use mathlib.Core.Bool.{true}
 use mathlib.Core.List.{List, [], ◌∷◌, ◌++◌, append_assoc, append-nil}
 use lib.ListN.{length, take, set, length-set}
@@ -12,16 +12,17 @@ use Rattle.table.specs.Record.{length_at, row_at}
 use Rattle.table.specs.Read.{empty, plus}
 use Rattle.table.specs.declared.Table.{Table}
 use Rattle.salvaging.specs.Kept.{acceptable}
+use Rattle.salvaging.specs.Code.Walk.{Walked}
 use Rattle.salvaging.proofs.Walks.{Acceptable, acceptable-says, kept_from, from-full, found_none, found-one, found-kept, beside-more}
 use Rattle.salvaging.proofs.walk.walk.Goals as goal
-use Rattle.salvaging.proofs.walk.walk.Goals.{After-tasks_part-tasks, At-loop-before, Else-place-s, Start}
+use Rattle.salvaging.proofs.walk.walk.Goals.{After-tasks_part-tasks, At-loop-count, Else-place-s, Start}
 
 -- at the loop's head
-abbrev bytes : (c : At-loop-before) → List ℕ
+abbrev bytes : (c : At-loop-count) → List ℕ
 bytes c = c.args.s.now
 
-abbrev sofar : (c : At-loop-before) → Table
-sofar c = c.loop-before.invariant.0
+abbrev sofar : (c : At-loop-count) → Table
+sofar c = c.loop-count.invariant.0
 
 -- the length is a number of the program
 wide : (c : Start) → length c.args.s.now < 18446744073709551616
@@ -30,22 +31,22 @@ wide c = omega arith
 abbrev place : (c : Else-place-s) → ℕ
 place c = c.next_record-place.result
 
-accepts : (c : Else-place-s) → acceptable (c.args.s.now) (place c) (c.loop-before.invariant.0) ≡ true
-accepts c = found-one (c.args.s.now) c.loop-before.at (place c) (c.loop-before.invariant.0) c.loop-before.invariant.1.inside (c.next_record-place.ensures (c.loop-before.invariant.0) c.loop-before.invariant.1.beside) c.if-place-s.false
+accepts : (c : Else-place-s) → acceptable (c.args.s.now) (place c) (c.loop-count.invariant.0) ≡ true
+accepts c = found-one (c.args.s.now) c.loop-count.at (place c) (c.loop-count.invariant.0) c.loop-count.invariant.1.inside (c.next_record-place.ensures (c.loop-count.invariant.0) c.loop-count.invariant.1.beside) c.if-place-s.false
 
-right : (c : Else-place-s) → Acceptable (c.args.s.now) (place c) (c.loop-before.invariant.0)
-right c = acceptable-says (c.args.s.now) (place c) (c.loop-before.invariant.0) (accepts c)
+right : (c : Else-place-s) → Acceptable (c.args.s.now) (place c) (c.loop-count.invariant.0)
+right c = acceptable-says (c.args.s.now) (place c) (c.loop-count.invariant.0) (accepts c)
 
 -- there is room for a chain more
-room : (c : Else-place-s) → c.loop-before.before.count < max_chains
-room c = omega (arith, c.loop-before-test.true)
+room : (c : Else-place-s) → c.loop-count.count < max_chains
+room c = omega (arith, c.loop-count-test.true)
 
-pub loop-before-init : goal.loop-before-init
-loop-before-init c = (
+pub loop-count-init : goal.loop-count-init
+loop-count-init c = (
   empty,
   record {
     few = omega arith;
-    all = omega arith;
+    all_few = omega arith;
     inside = omega arith;
     size = refl;
     long = c.requires;
@@ -55,18 +56,18 @@ loop-before-init c = (
 )
 
 pub next_record-place-requires : goal.next_record-place-requires
-next_record-place-requires c = let i = c.loop-before.invariant.1 in (i.inside, i.few, i.all)
+next_record-place-requires c = let i = c.loop-count.invariant.1 in (i.inside, i.few, i.all_few)
 
 pub returns-then-place-s : goal.returns-then-place-s
-returns-then-place-s c = let i = c.loop-before.invariant.1 in
-    let none = found_none (bytes (goal.at.returns-then-place-s c).At-loop-before) c.loop-before.at c.next_record-place.result (sofar (goal.at.returns-then-place-s c).At-loop-before) i.inside (c.next_record-place.ensures (sofar (goal.at.returns-then-place-s c).At-loop-before) i.beside) c.if-place-s.true in
-    record { numbers = sym (append-nil _) ∙ ap (λ (x : List ℕ). take c.loop-before.before.count c.loop-before.places ++ x) (sym none) ∙ i.left; few = omega (arith, i.few, i.long); long = i.long }
+returns-then-place-s c = let i = c.loop-count.invariant.1 in
+    let none = found_none (bytes (goal.at.returns-then-place-s c).At-loop-count) c.loop-count.at c.next_record-place.result (sofar (goal.at.returns-then-place-s c).At-loop-count) i.inside (c.next_record-place.ensures (sofar (goal.at.returns-then-place-s c).At-loop-count) i.beside) c.if-place-s.true in
+    record { numbers = sym (append-nil _) ∙ ap (λ (x : List ℕ). take c.loop-count.count c.loop-count.places ++ x) (sym none) ∙ i.left; few = omega (arith, i.few, i.long); long = i.long }
 
 pub offset_bounds-places-count : goal.offset_bounds-places-count
 offset_bounds-places-count c = omega (arith, room c)
 
 pub bounds-places-count : goal.bounds-places-count
-bounds-places-count c = omega (arith, room c, c.loop-before.invariant.1.long)
+bounds-places-count c = omega (arith, room c, c.loop-count.invariant.1.long)
 
 pub id_at-requires : goal.id_at-requires
 id_at-requires c = omega (arith, (right c).chain.head.there)
@@ -75,19 +76,16 @@ pub offset_bounds-ids-count : goal.offset_bounds-ids-count
 offset_bounds-ids-count c = omega (arith, room (goal.at.offset_bounds-ids-count c).Else-place-s)
 
 pub bounds-ids-count : goal.bounds-ids-count
-bounds-ids-count c = omega (arith, room (goal.at.bounds-ids-count c).Else-place-s, c.loop-before.invariant.1.size)
+bounds-ids-count c = omega (arith, room (goal.at.bounds-ids-count c).Else-place-s, c.loop-count.invariant.1.size)
 
 pub form_at-form-requires : goal.form_at-form-requires
 form_at-form-requires c = omega (arith, (right (goal.at.form_at-form-requires c).Else-place-s).chain.head.there)
 
-pub overflow_add-before : goal.overflow_add-before
-overflow_add-before c = omega (arith, room (goal.at.overflow_add-before c).Else-place-s)
-
 pub tasks_part-tasks-requires : goal.tasks_part-tasks-requires
 tasks_part-tasks-requires c = (right (goal.at.tasks_part-tasks-requires c).Else-place-s).chain.head.there
 
-pub overflow_add-before-in-loop-before : goal.overflow_add-before-in-loop-before
-overflow_add-before-in-loop-before c = omega (arith, c.loop-before.invariant.1.all, c.tasks_part-tasks.ensures.3)
+pub overflow_add-all : goal.overflow_add-all
+overflow_add-all c = omega (arith, c.loop-count.invariant.1.all_few, c.tasks_part-tasks.ensures.3)
 
 pub overflow_mul-at : goal.overflow_mul-at
 overflow_mul-at c = omega (arith, c.tasks_part-tasks.ensures.3)
@@ -99,34 +97,34 @@ overflow_add-at c = omega (arith, c.tasks_part-tasks.ensures.2, c.tasks_part-tas
 next : (c : After-tasks_part-tasks) → c.next_record-place.result + (c.tasks_part-tasks.result.from + 8 * c.tasks_part-tasks.result.count) ≡ c.next_record-place.result + length_at (c.args.s.now) (c.next_record-place.result)
 next c = omega (arith, c.tasks_part-tasks.ensures.0, c.tasks_part-tasks.ensures.1)
 
-pub overflow_add-at-in-loop-before : goal.overflow_add-at-in-loop-before
-overflow_add-at-in-loop-before c = rw (next (goal.at.overflow_add-at-in-loop-before c).After-tasks_part-tasks) (omega (arith, (right (goal.at.overflow_add-at-in-loop-before c).Else-place-s).chain.there, wide (goal.at.overflow_add-at-in-loop-before c).Start))
+pub overflow_add-at-in-loop-count : goal.overflow_add-at-in-loop-count
+overflow_add-at-in-loop-count c = rw (next (goal.at.overflow_add-at-in-loop-count c).After-tasks_part-tasks) (omega (arith, (right (goal.at.overflow_add-at-in-loop-count c).Else-place-s).chain.there, wide (goal.at.overflow_add-at-in-loop-count c).Start))
 
-pub loop-before-smaller : goal.loop-before-smaller
-loop-before-smaller c = omega (arith, room (goal.at.loop-before-smaller c).Else-place-s)
-
-pub loop-before-preserved : goal.loop-before-preserved
-loop-before-preserved c = let i = c.loop-before.invariant.1 in
-    let s = bytes (goal.at.loop-before-preserved c).At-loop-before in
-    let t = sofar (goal.at.loop-before-preserved c).At-loop-before in
-    let at = place (goal.at.loop-before-preserved c).Else-place-s in
-    let n = c.loop-before.before.count in
-    let kept = found-kept s c.loop-before.at at t i.inside (c.next_record-place.ensures t i.beside) c.if-place-s.false in
-    let more : take (n + 1) (set c.loop-before.places n at) ≡ take n c.loop-before.places ++ (at ∷ []) = rw (add-one, take-suc-set c.loop-before.places n at (omega (arith, room (goal.at.loop-before-preserved c).Else-place-s, i.long))) in
-    rw (c.id_at.ensures, c.form_at-form.ensures, next (goal.at.loop-before-preserved c).After-tasks_part-tasks, c.tasks_part-tasks.ensures.1) (
+pub loop-count-preserved : goal.loop-count-preserved
+loop-count-preserved c = let i = c.loop-count.invariant.1 in
+    let s = bytes (goal.at.loop-count-preserved c).At-loop-count in
+    let t = sofar (goal.at.loop-count-preserved c).At-loop-count in
+    let at = place (goal.at.loop-count-preserved c).Else-place-s in
+    let n = c.loop-count.count in
+    let kept = found-kept s c.loop-count.at at t i.inside (c.next_record-place.ensures t i.beside) c.if-place-s.false in
+    let more : take (n + 1) (set c.loop-count.places n at) ≡ take n c.loop-count.places ++ (at ∷ []) = rw (add-one, take-suc-set c.loop-count.places n at (omega (arith, room (goal.at.loop-count-preserved c).Else-place-s, i.long))) in
+    rw (c.id_at.ensures, c.form_at-form.ensures, next (goal.at.loop-count-preserved c).After-tasks_part-tasks, c.tasks_part-tasks.ensures.1) (
       plus t (row_at s at),
       record {
-        few = omega (arith, room (goal.at.loop-before-preserved c).Else-place-s);
-        all = omega (arith, (right (goal.at.loop-before-preserved c).Else-place-s).chain.head.all, i.beside.keeps.tasks);
-        inside = (right (goal.at.loop-before-preserved c).Else-place-s).chain.there;
-        size = length-set c.loop-before.ids n _ ∙ i.size;
-        long = length-set c.loop-before.places n at ∙ i.long;
-        beside = beside-more s at i.beside i.size (accepts (goal.at.loop-before-preserved c).Else-place-s);
-        left = ap (λ (x : List ℕ). x ++ kept_from s (at + length_at s at) (plus t (row_at s at))) more ∙ append_assoc (take n c.loop-before.places) (at ∷ []) _ ∙ ap (λ (x : List ℕ). take n c.loop-before.places ++ x) (sym kept) ∙ i.left;
+        few = omega (arith, room (goal.at.loop-count-preserved c).Else-place-s);
+        all_few = omega (arith, (right (goal.at.loop-count-preserved c).Else-place-s).chain.head.all, i.beside.keeps.tasks);
+        inside = (right (goal.at.loop-count-preserved c).Else-place-s).chain.there;
+        size = length-set c.loop-count.ids n _ ∙ i.size;
+        long = length-set c.loop-count.places n at ∙ i.long;
+        beside = beside-more s at i.beside i.size (accepts (goal.at.loop-count-preserved c).Else-place-s);
+        left = ap (λ (x : List ℕ). x ++ kept_from s (at + length_at s at) (plus t (row_at s at))) more ∙ append_assoc (take n c.loop-count.places) (at ∷ []) _ ∙ ap (λ (x : List ℕ). take n c.loop-count.places ++ x) (sym kept) ∙ i.left;
       },
     )
 
 pub returns : goal.returns
-returns c = let i = c.loop-before.invariant.1 in
-    let full = from-full (bytes (goal.at.returns c).At-loop-before) c.loop-before.at (sofar (goal.at.returns c).At-loop-before) (omega (arith, i.few, c.loop-before-test.false, i.beside.keeps.count)) in
-    record { numbers = sym (append-nil _) ∙ ap (λ (x : List ℕ). take c.loop-before.before.count c.loop-before.places ++ x) (sym full) ∙ i.left; few = omega (arith, i.few, i.long); long = i.long }
+returns c = let i = c.loop-count.invariant.1 in
+    let s = c.args.s.now in
+    let end : c.loop-count.count ≡ max_chains = omega (arith, i.few, c.loop-count-test.false) in
+    let full = from-full s c.loop-count.at (sofar (goal.at.returns c).At-loop-count) (omega (arith, end, i.beside.keeps.count)) in
+    subst (Walked s c.loop-count.places) end
+    (record { numbers = sym (append-nil _) ∙ ap (λ (x : List ℕ). take c.loop-count.count c.loop-count.places ++ x) (sym full) ∙ i.left; few = omega (arith, i.few, i.long); long = i.long })

@@ -1,28 +1,24 @@
 -- The places found, with what is kept from `at` on beside their rows, are all that are kept.
-use Prim.Native.Nat.{ℕ, ◌-◌, ◌≤◌}
+use Prim.Native.Nat.{ℕ, ◌≤◌}
 use mathlib.Core.Path.{◌≡◌}
 use mathlib.Core.List.{List, ◌++◌}
 use lib.ListN.{length, take}
 use Rattle.table.specs.Limits.{max_chains, max_all_tasks}
 use Rattle.table.specs.declared.Table.{Table}
-use Rattle.table.specs.declared.before.Before.{Before}
 use Rattle.salvaging.specs.Kept.{kept_places}
 use Rattle.salvaging.specs.Code.Walk.{Knows}
 use Rattle.salvaging.proofs.Walks.{kept_from}
 use Rattle.salvaging.proofs.walk.walk.Given as goal
 
--- the rows kept so far make the table t
-pub record SoFar (s places ids : List ℕ) (before : Before) (form at : ℕ) (t : Table) : Type 0 where
-  pub few : before.count ≤ max_chains
-  pub all : before.tasks ≤ max_all_tasks
+-- the rows kept so far, so many with so many tasks, make the table t
+pub record SoFar (s places ids : List ℕ) (count all form at : ℕ) (t : Table) : Type 0 where
+  pub few : count ≤ max_chains
+  pub all_few : all ≤ max_all_tasks
   pub inside : at ≤ length s
   pub size : length ids ≡ max_chains
   pub long : length places ≡ max_chains
-  pub beside : Knows ids before form t
-  pub left : take before.count places ++ kept_from s at t ≡ kept_places s
+  pub beside : Knows ids (record { count = count; tasks = all }) form t
+  pub left : take count places ++ kept_from s at t ≡ kept_places s
 
-abbrev pub invariant-loop-before : goal.invariant-loop-before
-invariant-loop-before l = (t : Table) × SoFar l.s l.places l.ids l.before l.form l.at t
-
-abbrev pub decreases-loop-before : goal.decreases-loop-before
-decreases-loop-before l = max_chains - l.before.count
+abbrev pub invariant-loop-count : goal.invariant-loop-count
+invariant-loop-count l = (t : Table) × SoFar l.s l.places l.ids l.count l.all l.form l.at t
