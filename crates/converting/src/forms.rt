@@ -24,7 +24,7 @@ pub fn flag_in(s: &[u8], at: usize, to: To) -> u8
     ensures { result ≡ (converted to (row_at s.now at)).flag }
 {
     match to {
-        To::Largest => { if gap_at(s, at) == 0 { 0 } else { 1 } }
+        To::Largest => u8::from(gap_at(s, at) != 0),
         To::Gap => 0,
     }
 }
@@ -53,11 +53,9 @@ pub fn multiples(gap: u32, n: usize) -> [u32; Table::DISTANCES]
 {
     let mut list = [0u32; Table::DISTANCES];
     let mut distance = gap;
-    let mut i: usize = 0;
-    while i < n {
+    for i in 0..n {
         list[i] = distance;
-        distance = distance + gap;
-        i += 1;
+        distance += gap;
     }
     list
 }

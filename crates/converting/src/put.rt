@@ -22,14 +22,11 @@ fn put_records(s: &[u8], out: &mut [u8], to: To) -> usize
     requires { Taken s.now × (sum_of length_of (rows_in to s.now) ≤ length out.old) }
     ensures { Wrote out.old 0 (flatten (map row_bytes (rows_in to s.now))) out.new result }
 {
-    let chains = count(s);
     let mut next: usize = 0;
     let mut at: usize = 0;
-    let mut chain: usize = 0;
-    while chain < chains {
+    for _ in 0..count(s) {
         next = put_record(s, at, to, out, next);
-        at = at + record_length(s, at);
-        chain += 1;
+        at += record_length(s, at);
     }
     next
 }

@@ -21,12 +21,10 @@ fn are_multiples(s: &[u8], at: usize) -> bool
 {
     let listed = listed_at(s, at);
     let gap = largest_at(s, at, 0);
-    let mut i: usize = 0;
-    while i < listed {
+    for i in 0..listed {
         if largest_at(s, at, i) != gap * (i as u32 + 1) {
             return false;
         }
-        i += 1;
     }
     true
 }
@@ -61,15 +59,12 @@ pub fn all_fit(s: &[u8], to: To) -> bool
     requires { Taken s.now }
     ensures { result ≡ every (fits_form to) (rows (table_of s.now)) }
 {
-    let chains = count(s);
     let mut at: usize = 0;
-    let mut chain: usize = 0;
-    while chain < chains {
+    for _ in 0..count(s) {
         if !fits_form(s, at, to) {
             return false;
         }
-        at = at + record_length(s, at);
-        chain += 1;
+        at += record_length(s, at);
     }
     true
 }
@@ -98,14 +93,11 @@ pub fn records_length(s: &[u8], to: To) -> usize
     requires { Taken s.now }
     ensures { result ≡ sum_of length_of (map (converted to) (rows (table_of s.now))) }
 {
-    let chains = count(s);
     let mut n: usize = 0;
     let mut at: usize = 0;
-    let mut chain: usize = 0;
-    while chain < chains {
-        n = n + length_in(s, at, to);
-        at = at + record_length(s, at);
-        chain += 1;
+    for _ in 0..count(s) {
+        n += length_in(s, at, to);
+        at += record_length(s, at);
     }
     n
 }

@@ -1,5 +1,5 @@
 -- The records of the first chains are put; the record of `chain` starts at `at`.
-use Prim.Native.Nat.{◌-◌, ◌≤◌}
+use Prim.Native.Nat.{◌≤◌}
 use mathlib.Core.Path.{◌≡◌}
 use Rattle.table.specs.Place.{place_of}
 use Rattle.table.specs.Read.{table_of}
@@ -8,8 +8,5 @@ use Rattle.writing.specs.Code.Put.{row_records}
 use Rattle.converting.specs.Convert.{rows_in}
 use Rattle.converting.proofs.put.put_records.Given as goal
 
-abbrev pub invariant-loop-chain : goal.invariant-loop-chain
-invariant-loop-chain l = (l.chain ≤ (table_of l.s).count) × (l.at ≡ place_of (table_of l.s) l.chain) × Wrote l.initial.out 0 (row_records (rows_in l.to l.s) l.chain) l.out l.next
-
-abbrev pub decreases-loop-chain : goal.decreases-loop-chain
-decreases-loop-chain l = (table_of l.s).count - l.chain
+abbrev pub invariant-loop : goal.invariant-loop
+invariant-loop l = (l.counter ≤ (table_of l.s).count) × (l.at ≡ place_of (table_of l.s) l.counter) × Wrote l.initial.out 0 (row_records (rows_in l.to l.s) l.counter) l.out l.next

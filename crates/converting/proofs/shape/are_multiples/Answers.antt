@@ -25,7 +25,7 @@ known c = known-there c.requires.0 c.requires.1
 -- the loop's number is one of the listed
 below : (c : In-loop-i) → c.loop-i.i < max_distances
 unfolding row_at
-below c = omega (arith, (let it : (known_at c.args.s.now c.args.at ≡ listed_at c.args.s.now c.args.at) × (0 < listed_at c.args.s.now c.args.at) × (listed_at c.args.s.now c.args.at ≤ max_distances) = known-there c.requires.0 c.requires.1 in it), c.listed_at-listed.ensures.0, c.loop-i-test.true)
+below c = omega (arith, known-there c.requires.0 c.requires.1, c.listed_at-listed.ensures.0, c.loop-i-test.true)
 
 pub listed_at-listed-requires : goal.listed_at-listed-requires
 listed_at-listed-requires c = omega (arith, c.requires.0.there)
@@ -56,12 +56,6 @@ returns-then-largest_at-gap c = let l = c.loop-i in
     let h : l.i < (row (goal.at.returns-then-largest_at-gap c).Start).listed = omega (arith, c.listed_at-listed.ensures.0, c.loop-i-test.true) in
     sym (same_no (largests (row (goal.at.returns-then-largest_at-gap c).Start)) (multiples (first_largest (row (goal.at.returns-then-largest_at-gap c).Start)) (row (goal.at.returns-then-largest_at-gap c).Start).listed)
     (λ e. c.if-largest_at-gap.true (c.largest_at.ensures ∙ multiples-each c.requires.0.good c.requires.1 e l.i h ∙ ap (λ g. g * (l.i + 1)) (sym c.largest_at-gap.ensures))))
-
-pub overflow_add-i-in-loop-i : goal.overflow_add-i-in-loop-i
-overflow_add-i-in-loop-i c = omega (arith, below (goal.at.overflow_add-i-in-loop-i c).In-loop-i)
-
-pub loop-i-smaller : goal.loop-i-smaller
-loop-i-smaller c = omega (arith, c.loop-i-test.true)
 
 pub loop-i-preserved : goal.loop-i-preserved
 loop-i-preserved c = let l = c.loop-i in (

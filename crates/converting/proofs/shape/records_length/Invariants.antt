@@ -1,5 +1,5 @@
 -- At the loop's head n and the lengths from `chain` on make all; its record starts at `at`.
-use Prim.Native.Nat.{◌+◌, ◌-◌, ◌≤◌}
+use Prim.Native.Nat.{◌+◌, ◌≤◌}
 use mathlib.Core.Path.{◌≡◌}
 use mathlib.Core.List.{map}
 use lib.ListN.{drop}
@@ -10,9 +10,6 @@ use Rattle.table.specs.Read.{table_of}
 use Rattle.converting.specs.Forms.{converted}
 use Rattle.converting.proofs.shape.records_length.Given as goal
 
-abbrev pub invariant-loop-chain : goal.invariant-loop-chain
-invariant-loop-chain l = (l.chain ≤ (table_of l.s).count) × (l.at ≡ place_of (table_of l.s) l.chain)
-    × (l.n + sum_of length_of (map (converted l.to) (drop l.chain (rows (table_of l.s)))) ≡ sum_of length_of (map (converted l.to) (rows (table_of l.s))))
-
-abbrev pub decreases-loop-chain : goal.decreases-loop-chain
-decreases-loop-chain l = (table_of l.s).count - l.chain
+abbrev pub invariant-loop : goal.invariant-loop
+invariant-loop l = (l.counter ≤ (table_of l.s).count) × (l.at ≡ place_of (table_of l.s) l.counter)
+    × (l.n + sum_of length_of (map (converted l.to) (drop l.counter (rows (table_of l.s)))) ≡ sum_of length_of (map (converted l.to) (rows (table_of l.s))))
