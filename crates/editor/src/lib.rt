@@ -7,12 +7,12 @@ ghost use Rattle.misses.specs.Misses.{number_of as missesNumber, values_of as mi
 ghost use Rattle.merging.specs.Merge.{versions};
 ghost use Rattle.writing.specs.Fill.{number_of as filledNumber, values_of as filledValues};
 ghost use Rattle.writing.specs.Write.{number_of as writtenNumber, values_of as writtenValues};
-ghost use Rattle.editor.specs.Entry.{unsigned as unsignedOf, figure_bytes, starting_with, Answered, LatencyEntry, MissesEntry, PlainEntry, AtMostEntry, SegmentEntry, SaveEntry, CheckEntry, MergeEntry, ConflictEntry, ReadEntry, WriteEntry, RecordEntry, ConvertEntry, SalvageEntry, ReportEntry, version};
+ghost use Rattle.editor.specs.Entry.{figure_bytes, starting_with, Answered, LatencyEntry, MissesEntry, PlainEntry, AtMostEntry, SegmentEntry, SaveEntry, CheckEntry, MergeEntry, ConflictEntry, ReadEntry, WriteEntry, RecordEntry, ConvertEntry, SalvageEntry, ReportEntry, version};
 ghost use Rattle.converting.specs.declared.To.TheVariants.{Largest, Gap};
 ghost use Rattle.editor.specs.Code.Single.{single_of};
 
 use merging::{Found, Merged};
-use report_text::{LONGEST, magnitude};
+use report_text::LONGEST;
 use salvaging::Salvaged;
 use saving::Saved;
 use table::{Row, Verdict, put_u32};
@@ -24,27 +24,13 @@ const ANSWERED: u32 = 0;
 // Raised by each change that a caller can see, in the header and in specs/ too.
 const VERSION: u32 = 9;
 
-// A signed number in two's complement.
-fn unsigned(x: i32) -> u32
-    ensures { result ≡ unsignedOf x }
-{
-    let size = magnitude(x);
-    if x >= 0 {
-        size
-    } else {
-        4_294_967_295 - (size - 1)
-    }
-}
-
 // The figures, four bytes each, at the start of an answer buffer.
 fn put_figures(answer: &mut [u8], figures: &[u32])
     requires { 4 * length figures.now ≤ length answer.old }
     ensures { answer.new ≡ starting_with (figure_bytes figures.now) answer.old }
 {
-    let mut i: usize = 0;
-    while i < figures.len() {
-        put_u32(answer, 4 * i, figures[i]);
-        i += 1;
+    for (i, figure) in figures.iter().enumerate() {
+        put_u32(answer, 4 * i, *figure);
     }
 }
 
@@ -62,7 +48,7 @@ pub fn mishtodran_latency(table: &[u8], id: u32, answer: &mut [u8]) -> u32
             late,
             margin,
         } => {
-            let figures = [close, latency, late, unsigned(margin)];
+            let figures = [close, latency, late, margin.cast_unsigned()];
             put_figures(answer, &figures);
             ANSWERED
         }

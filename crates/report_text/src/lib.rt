@@ -13,7 +13,6 @@ ghost use Rattle.report_text.specs.Code.Writing.{lines_in};
 
 use lines::put_line;
 use table::{Table, Verdict, count, judge};
-pub use text::magnitude;
 use text::{put_byte, put_decimal, put_number, put_text};
 
 // The longest line, and the longest report: the header and a line for each chain.
@@ -37,12 +36,9 @@ fn put_lines(out: &mut [u8], s: &[u8]) -> usize
     requires { (longest ≤ length out.old) × Taken s.now }
     ensures { Wrote out.old 0 (header ++ lines_in (table_of s.now) (table_of s.now).count) out.new result }
 {
-    let chains = count(s);
     let mut at = put_text(out, 0, b"chain K latency late margin miss10\n");
-    let mut chain: usize = 0;
-    while chain < chains {
+    for chain in 0..count(s) {
         at = put_line(out, at, s, chain);
-        chain += 1;
     }
     at
 }

@@ -8,7 +8,7 @@ ghost use Rattle.report_text.specs.Code.Writing.{Bounded, line_in};
 
 use crate::text::{put_byte, put_decimal, put_number, put_refusal, put_signed, put_text};
 use misses::{Answer as Missed, misses_with};
-use table::{id_at, place, u32_from_u16};
+use table::{id_at, place};
 use windows::{Answer as Latency, bound};
 
 // The run of activations whose misses the report gives.
@@ -66,7 +66,7 @@ pub fn put_line(out: &mut [u8], at: usize, s: &[u8], chain: usize) -> usize
     let w = bound(s, chain);
     let missed = misses_with(s, chain, MISS_RUN, w);
     let id = id_at(s, place(s, chain));
-    let after_id = put_decimal(out, at, u32_from_u16(id));
+    let after_id = put_decimal(out, at, u32::from(id));
     let answer = w.answer;
     let end = put_answers(out, after_id, answer, missed);
     put_byte(out, end, b'\n')

@@ -1,6 +1,6 @@
 // Text in a lent buffer: each function writes a piece from a place on, and answers the place after it. A number of 32 bits has
 // at most 10 digits, which bounds every piece.
-ghost use Rattle.std.specs.Prelude.{◌≡◌, [], ◌∷◌, ◌+◌, ◌%◌, ◌≤◌, nat_abs, length};
+ghost use Rattle.std.specs.Prelude.{◌≡◌, [], ◌∷◌, ◌+◌, ◌%◌, ◌≤◌, length};
 ghost use Rattle.report_text.specs.Numbers.{decimal, signed};
 ghost use Rattle.report_text.specs.Report.{after_space, refusal_text};
 ghost use Rattle.slices.specs.Code.Wrote.{Wrote};
@@ -41,17 +41,6 @@ pub fn put_decimal(out: &mut [u8], at: usize, n: u32) -> usize
     put_byte(out, last, digit(n))
 }
 
-// A signed number without its sign.
-pub fn magnitude(x: i32) -> u32
-    ensures { result ≡ nat_abs x }
-{
-    if x >= 0 {
-        x as u32
-    } else {
-        (-1 - x) as u32 + 1
-    }
-}
-
 // A space and a number.
 pub fn put_number(out: &mut [u8], at: usize, n: u32) -> usize
     requires { at + 11 ≤ length out.old }
@@ -67,10 +56,10 @@ pub fn put_signed(out: &mut [u8], at: usize, x: i32) -> usize
     ensures { Wrote out.old at (after_space (signed x)) out.new result × (result ≤ at + 12) }
 {
     if x >= 0 {
-        return put_number(out, at, magnitude(x));
+        return put_number(out, at, x.unsigned_abs());
     }
     let next = put_text(out, at, b" -");
-    put_decimal(out, next, magnitude(x))
+    put_decimal(out, next, x.unsigned_abs())
 }
 
 // A space, `r` and a refusal's number.

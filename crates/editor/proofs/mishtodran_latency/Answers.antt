@@ -1,13 +1,21 @@
 -- Each way the entry ends, by its law.
-use mathlib.Core.Path.{refl, ap, sym, ◌∙◌}
+use mathlib.Core.Path.{◌≡◌, refl, ap, sym, ◌∙◌}
 use mathlib.Core.List.{List, [], ◌∷◌}
 use Prim.Native.Nat.{ℕ}
 use mir.Syntax.{w32}
 use mir.Facts.{to_z-of_z}
+use mir.Val.{of_z}
+use lib.IntN.{ℤ, pos, negsuc}
+use native.Mathlib.Omega.{arith}
 use Rattle.windows.specs.Latency.{number_of, latency_of}
 use Rattle.editor.specs.Entry.{unsigned, latency_figures, figure_bytes, starting_with}
 use Rattle.editor.proofs.Writing.{answered-short, answered-refusal, answered-figures}
 use Rattle.editor.proofs.mishtodran_latency.Goals as goal
+
+-- the bits of a signed number are its two's complement
+as_unsigned : (x : ℤ) → of_z w32 x ≡ unsigned x
+as_unsigned (pos n) = refl
+as_unsigned (negsuc n) = omega arith
 
 pub returns-then-answer-lt16 : goal.returns-then-answer-lt16
 returns-then-answer-lt16 c = let a = c.args in
@@ -21,7 +29,7 @@ returns-in-Figures c = let a = c.args in
     let late = c.in-Figures.late in
     let margin = c.in-Figures.margin in
     let before : List ℕ = a.answer.now in
-    let signed = c.unsigned.ensures ∙ ap unsigned (to_z-of_z {w = w32} {z = margin} (record { sfits = c.in-Figures.known_told-1-own.given.1.1.1.0.1 })) in
+    let signed = c.cast_unsigned.ensures ∙ ap (of_z w32) (to_z-of_z {w = w32} {z = margin} (record { sfits = c.in-Figures.known_told-1-own.given.1.1.1.0.1 })) ∙ as_unsigned margin in
     let held = c.put_figures.ensures ∙ ap (λ (m : ℕ). starting_with (figure_bytes (close ∷ latency ∷ late ∷ m ∷ [])) before) signed in
     let e = sym c.latency.ensures ∙ c.in-Figures.is in
     record { answers = rw e (answered-figures 4 0 (close ∷ latency ∷ late ∷ unsigned margin ∷ []) before c.if-answer-lt16.false c.put_figures.new.answer refl held) }

@@ -14,7 +14,7 @@ use Rattle.report_text.proofs.put_lines.Goals.{In-loop-chain}
 
 -- that chain is there
 within : (c : In-loop-chain) → c.loop-chain.chain < (table_of c.args.s.now).count
-within c = omega (arith, c.count-chains.ensures, c.loop-chain-test.true)
+within c = omega (arith, c.count-chain-end.ensures, c.loop-chain-test.true)
 
 pub put_text-at-requires : goal.put_text-at-requires
 put_text-at-requires c = omega (arith, c.requires.0)
@@ -28,12 +28,6 @@ put_line-at-requires c = let h = c.put_text-at.ensures in
     let l = c.loop-chain in
     (omega (arith, l.invariant.1, l.invariant.2.long, h.ends, h.long, c.requires.0, c.requires.1.good.few, within (goal.at.put_line-at-requires c).In-loop-chain), c.requires.1, within (goal.at.put_line-at-requires c).In-loop-chain)
 
-pub overflow_add-chain : goal.overflow_add-chain
-overflow_add-chain c = omega (arith, c.requires.1.good.few, within (goal.at.overflow_add-chain c).In-loop-chain)
-
-pub loop-chain-smaller : goal.loop-chain-smaller
-loop-chain-smaller c = omega (arith, c.loop-chain-test.true)
-
 pub loop-chain-preserved : goal.loop-chain-preserved
 loop-chain-preserved c = let l = c.loop-chain in
     let w = c.put_line-at.ensures in
@@ -42,5 +36,5 @@ loop-chain-preserved c = let l = c.loop-chain in
 pub returns : goal.returns
 returns c = let l = c.loop-chain in
     let t = table_of c.args.s.now in
-    let e : l.chain ≡ t.count = omega (arith, c.loop-chain-test.false, l.invariant.0, c.count-chains.ensures) in
+    let e : l.chain ≡ t.count = omega (arith, c.loop-chain-test.false, l.invariant.0, c.count-chain-end.ensures) in
     subst (λ n. Wrote c.args.out.now 0 (header ++ lines_in t n) l.out l.at) e (wrote_on c.put_text-at.ensures l.invariant.2)

@@ -19,43 +19,43 @@ use Rattle.report_text.proofs.Decimals.{decimal-fits}
 use Rattle.report_text.proofs.Refusals.{bounded}
 use Rattle.slices.proofs.Writes.{wrote_on}
 use Rattle.report_text.proofs.lines.put_line.Goals as goal
-use Rattle.report_text.proofs.lines.put_line.Goals.{After-u32_from_u16}
+use Rattle.report_text.proofs.lines.put_line.Goals.{After-from}
 
 -- the id that was read is the chain's
-id-is : (c : After-u32_from_u16) → c.u32_from_u16.result ≡ (row_of (table_of c.args.s.now) c.args.chain).id
+id-is : (c : After-from) → c.from.result ≡ (row_of (table_of c.args.s.now) c.args.chain).id
 unfolding row_at
-id-is c = c.u32_from_u16.ensures.0 ∙ c.id_at-id.ensures
+id-is c = c.from.ensures ∙ c.id_at-id.ensures
     ∙ ap (λ (r : Row). r.id) (row-there c.requires.1 c.place.ensures c.requires.2)
 
 pub id_at-id-requires : goal.id_at-id-requires
 id_at-id-requires c = omega (arith, (stands c.requires.1 c.place.ensures c.requires.2).there)
 
 pub put_decimal-after_id-requires : goal.put_decimal-after_id-requires
-put_decimal-after_id-requires c = omega (arith, c.requires.0, decimal-fits c.u32_from_u16.result (omega (arith, c.u32_from_u16.ensures.1)))
+put_decimal-after_id-requires c = omega (arith, c.requires.0, decimal-fits c.from.result (omega (arith, c.from.type_inv)))
 
 pub put_answers-end-requires : goal.put_answers-end-requires
 put_answers-end-requires c = let w = c.put_decimal-after_id.ensures in
-    let id = c.u32_from_u16 in (
-      omega (arith, c.requires.0, w.ends, w.long, decimal-fits id.result (omega (arith, id.ensures.1))),
+    let id = c.from in (
+      omega (arith, c.requires.0, w.ends, w.long, decimal-fits id.result (omega (arith, id.type_inv))),
       subst (λ (a : Windows). Bounded a.answer) (sym c.bound-w.ensures) (bounded _ _),
     )
 
 pub put_byte-requires : goal.put_byte-requires
 put_byte-requires c = let w = c.put_decimal-after_id.ensures in
     let a = c.put_answers-end.ensures in
-    let id = c.u32_from_u16 in
-    omega (arith, c.requires.0, w.ends, w.long, a.0.long, a.1, decimal-fits id.result (omega (arith, id.ensures.1)))
+    let id = c.from in
+    omega (arith, c.requires.0, w.ends, w.long, a.0.long, a.1, decimal-fits id.result (omega (arith, id.type_inv)))
 
 pub returns : goal.returns
 returns c = let t = table_of c.args.s.now in
     let chain = c.args.chain in
-    let id = c.u32_from_u16 in
+    let id = c.from in
     let x = c.bound-w in
     let m = c.misses_with-missed in
     let w = c.put_decimal-after_id.ensures in
     let a = c.put_answers-end.ensures in
     let e : line_text id.result x.result.answer m.result ≡ line_text (row_of t chain).id (bound_of δ (row_of t chain) (views_of t chain)).answer (misses_at t chain miss_run) =
-    ap₂ (λ (k : ℕ) (q : Windows). line_text k q.answer m.result) (id-is (goal.at.returns c).After-u32_from_u16) x.ensures ∙ ap (line_text (row_of t chain).id (bound_of δ (row_of t chain) (views_of t chain)).answer) m.ensures in (
+    ap₂ (λ (k : ℕ) (q : Windows). line_text k q.answer m.result) (id-is (goal.at.returns c).After-from) x.ensures ∙ ap (line_text (row_of t chain).id (bound_of δ (row_of t chain) (views_of t chain)).answer) m.ensures in (
       subst (λ l. Wrote c.args.out.now c.args.at l c.put_byte.new.out c.put_byte.result) e (wrote_on (wrote_on w a.0) c.put_byte.ensures),
-      omega (arith, w.ends, a.1, c.put_byte.ensures.ends, decimal-fits id.result (omega (arith, id.ensures.1))),
+      omega (arith, w.ends, a.1, c.put_byte.ensures.ends, decimal-fits id.result (omega (arith, id.type_inv))),
     )

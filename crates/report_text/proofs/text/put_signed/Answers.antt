@@ -20,19 +20,19 @@ down : (c : Else-x-ge0) → Lower c.args.x
 down c = lower c.args.x c.ranges.x c.if-x-ge0.false
 
 pub returns-then-x-ge0 : goal.returns-then-x-ge0
-returns-then-x-ge0 c = let m = c.magnitude in (
-  subst (λ l. Wrote c.args.out.now c.args.at (after_space l) c.put_number.new.out c.put_number.result) (ap decimal (m.ensures ∙ ap nat_abs (to_z-of_z c.ranges.x)) ∙ sym (ap signed (up (goal.at.returns-then-x-ge0 c).Then-x-ge0).is)) c.put_number.ensures.0,
+returns-then-x-ge0 c = let m = c.unsigned_abs in (
+  subst (λ l. Wrote c.args.out.now c.args.at (after_space l) c.put_number.new.out c.put_number.result) (ap decimal (m.ensures.value ∙ ap nat_abs (to_z-of_z c.ranges.x)) ∙ sym (ap signed (up (goal.at.returns-then-x-ge0 c).Then-x-ge0).is)) c.put_number.ensures.0,
   omega (arith, c.put_number.ensures.1),
 )
 
 pub put_decimal-requires : goal.put_decimal-requires
 put_decimal-requires c = let w = c.put_text-next.ensures in
-    omega (arith, c.requires, w.ends, w.long, decimal-fits c.magnitude-2.result c.magnitude-2.type_inv)
+    omega (arith, c.requires, w.ends, w.long, decimal-fits c.unsigned_abs-2.result c.unsigned_abs-2.type_inv)
 
 pub returns : goal.returns
-returns c = let m = c.magnitude-2 in
+returns c = let m = c.unsigned_abs-2 in
     let w = c.put_text-next.ensures in
     let x = (down (goal.at.returns c).Else-x-ge0).is in (
-      subst (λ l. Wrote c.args.out.now c.args.at (after_space l) c.put_decimal.new.out c.put_decimal.result) (ap (λ n. 45 ∷ decimal n) (m.ensures ∙ ap nat_abs (to_z-of_z c.ranges.x ∙ x)) ∙ sym (ap signed x)) (wrote_on w c.put_decimal.ensures),
+      subst (λ l. Wrote c.args.out.now c.args.at (after_space l) c.put_decimal.new.out c.put_decimal.result) (ap (λ n. 45 ∷ decimal n) (m.ensures.value ∙ ap nat_abs (to_z-of_z c.ranges.x ∙ x)) ∙ sym (ap signed x)) (wrote_on w c.put_decimal.ensures),
       omega (arith, w.ends, c.put_decimal.ensures.ends, decimal-fits m.result m.type_inv),
     )
