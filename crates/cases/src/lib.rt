@@ -2,13 +2,13 @@
 // them. What could not be written is not told.
 #![tactic(auto)]
 
-ghost use Rattle.std.specs.Prelude.{◌≡◌, ◌≤◌, length, take};
+ghost use Rattle.std.specs.Prelude.{◌≡◌, ◌≤◌, ◌↔◌, IsTrue, length, take};
 
 pub use input::read_full;
 use std::io::Read;
 
-// More cases than a program is ever given: with a bound, its loop is known to end.
-pub const MOST: u64 = 1_000_000;
+// More cases than a program is ever given: with a bound, the loop over them is known to end.
+const MOST: u64 = 1_000_000;
 
 // How a case went; `End` where none is left.
 #[derive(Clone, Copy)]
@@ -38,7 +38,9 @@ pub fn filled(from: &mut impl Read, buffer: &mut [u8], n: usize) -> usize
 }
 
 // Whether the bytes are the same.
-pub fn same(a: &[u8], b: &[u8]) -> bool {
+pub fn same(a: &[u8], b: &[u8]) -> bool
+    ensures { IsTrue result ↔ a.now ≡ b.now }
+{
     a == b
 }
 
@@ -47,8 +49,8 @@ pub fn scribbled() -> [u8; 65536]
     ensures { 65536 ≡ length result }
 {
     let mut bytes = [0u8; 65536];
-    for i in 0..65536 {
-        bytes[i] = (i % 251 + 1) as u8;
+    for (i, byte) in bytes.iter_mut().enumerate() {
+        *byte = (i % 251 + 1) as u8;
     }
     bytes
 }
@@ -69,7 +71,7 @@ fn say_wrong(out: &impl Print, case: u64) {
 }
 
 // How many more cases are right with this one, which is named where it is not.
-pub fn told(out: &impl Print, case: u64, outcome: Outcome) -> u64
+fn told(out: &impl Print, case: u64, outcome: Outcome) -> u64
     ensures { result ≤ 1 }
 {
     match outcome {
@@ -82,7 +84,24 @@ pub fn told(out: &impl Print, case: u64, outcome: Outcome) -> u64
     }
 }
 
-pub fn say_counts(out: &impl Print, cases: u64, right: u64) {
+// Runs the cases, which count from 1, until none is left.
+pub fn run<R: Read, Case: Fn(&mut R) -> Outcome>(from: &mut R, out: &impl Print, case: Case)
+    requires { Case.IsAlwaysCallable case }
+{
+    let mut cases: u64 = 0;
+    let mut right: u64 = 0;
+    for number in 1..=MOST {
+        let outcome = case(from);
+        if let Outcome::End = outcome {
+            break;
+        }
+        cases = number;
+        right += told(out, number, outcome);
+    }
+    say_counts(out, cases, right);
+}
+
+fn say_counts(out: &impl Print, cases: u64, right: u64) {
     say_number(out, b"", cases);
     say_number(out, b" cases, ", right);
     say(out, b" as expected\n");

@@ -2,7 +2,7 @@
 // case that is not as expected and a last line with the counts.
 #![tactic(auto)]
 
-use cases::{MOST, Outcome, filled, read_full, same, say_counts, scribbled, told, went};
+use cases::{Outcome, filled, read_full, same, scribbled, went};
 use std::io::Read;
 use writing::Written;
 
@@ -76,19 +76,6 @@ fn case(from: &mut impl Read) -> Outcome {
     went(as_expected(from, head[0], &table[..n]))
 }
 
-// The cases count from 1.
 fn main(rt: HostRuntime) {
-    let out = &rt.stdout();
-    let mut from = rt.stdin();
-    let mut cases: u64 = 0;
-    let mut right: u64 = 0;
-    while cases < MOST {
-        let outcome = case(&mut from);
-        if let Outcome::End = outcome {
-            break;
-        }
-        cases += 1;
-        right += told(out, cases, outcome);
-    }
-    say_counts(out, cases, right);
+    cases::run(&mut rt.stdin(), &rt.stdout(), case);
 }

@@ -5,7 +5,7 @@
 
 ghost use Rattle.std.specs.Prelude.{◌≡◌, ◌≤◌, length, take};
 
-use cases::{MOST, Outcome, filled, read_full, same, say_counts, scribbled, told, went};
+use cases::{Outcome, filled, read_full, same, scribbled, went};
 use merging::{Found, Merged};
 use std::io::Read;
 
@@ -120,7 +120,7 @@ fn records_as_expected<'a>(
     let mut count = [0u8; 1];
     let mut are_right = read_full(from, &mut count) == 1;
     for _ in 0..count[0] {
-        are_right = record_as_expected(from, ancestor, first, second) && are_right;
+        are_right &= record_as_expected(from, ancestor, first, second);
     }
     are_right
 }
@@ -196,19 +196,6 @@ fn case(from: &mut impl Read) -> Outcome {
     went(as_expected(from, &ancestor[..a], &first[..f], &second[..s]))
 }
 
-// The cases count from 1.
 fn main(rt: HostRuntime) {
-    let out = &rt.stdout();
-    let mut from = rt.stdin();
-    let mut cases: u64 = 0;
-    let mut right: u64 = 0;
-    while cases < MOST {
-        let outcome = case(&mut from);
-        if let Outcome::End = outcome {
-            break;
-        }
-        cases += 1;
-        right += told(out, cases, outcome);
-    }
-    say_counts(out, cases, right);
+    cases::run(&mut rt.stdin(), &rt.stdout(), case);
 }

@@ -2,7 +2,7 @@
 // case that is not as expected and a last line with the counts.
 #![tactic(auto)]
 
-use cases::{MOST, Outcome, filled, read_full, same, say_counts, scribbled, told, went};
+use cases::{Outcome, filled, read_full, same, scribbled, went};
 use salvaging::Salvaged;
 use std::io::Read;
 
@@ -12,13 +12,6 @@ struct Expected {
     number: u32,
     table: u32,
     list: u32,
-}
-
-// What was read to the start of a buffer: so many bytes, or not all of them were there.
-#[derive(Clone, Copy)]
-enum Part {
-    Bytes(u32),
-    Missing,
 }
 
 // Whether the answer has the expected number, and lengths where it is accepted.
@@ -44,18 +37,18 @@ fn leaves_as_expected(
     answers(salvaged, expected) && same(table, table_after) && same(list, list_after)
 }
 
-// Reads a length and so many bytes.
-fn take_part(from: &mut impl Read, buffer: &mut [u8]) -> Part {
+// Reads a length and so many bytes to the start of the buffer: how many, unless not all of them were there.
+fn take_part(from: &mut impl Read, buffer: &mut [u8]) -> Option<u32> {
     let mut head = [0u8; 2];
     if read_full(from, &mut head) < 2 {
-        return Part::Missing;
+        return None;
     }
     let length = table::u16_at(&head, 0);
-    let n = length as usize;
+    let n = usize::from(length);
     if filled(from, buffer, n) < n {
-        return Part::Missing;
+        return None;
     }
-    Part::Bytes(table::u32_from_u16(length))
+    Some(u32::from(length))
 }
 
 // Reads what is expected of the salvage, and looks whether it is so. Each result stands before the bytes that stay.
@@ -68,11 +61,11 @@ fn as_expected(from: &mut impl Read, s: &[u8]) -> bool {
     let list_room = table::u16_at(&head, 2) as usize;
     let number = table::u32_at(&head, 4);
     let mut table_after = scribbled();
-    let Part::Bytes(table) = take_part(from, &mut table_after) else {
+    let Some(table) = take_part(from, &mut table_after) else {
         return false;
     };
     let mut list_after = scribbled();
-    let Part::Bytes(list) = take_part(from, &mut list_after) else {
+    let Some(list) = take_part(from, &mut list_after) else {
         return false;
     };
     let mut table_buffer = scribbled();
@@ -102,19 +95,6 @@ fn case(from: &mut impl Read) -> Outcome {
     went(as_expected(from, &input[..n]))
 }
 
-// The cases count from 1.
 fn main(rt: HostRuntime) {
-    let out = &rt.stdout();
-    let mut from = rt.stdin();
-    let mut cases: u64 = 0;
-    let mut right: u64 = 0;
-    while cases < MOST {
-        let outcome = case(&mut from);
-        if let Outcome::End = outcome {
-            break;
-        }
-        cases += 1;
-        right += told(out, cases, outcome);
-    }
-    say_counts(out, cases, right);
+    cases::run(&mut rt.stdin(), &rt.stdout(), case);
 }

@@ -2,7 +2,7 @@
 // case that is not as expected and a last line with the counts.
 #![tactic(auto)]
 
-use cases::{MOST, Outcome, filled, read_full, same, say_counts, told, went};
+use cases::{Outcome, filled, read_full, same, went};
 use saving::Saved;
 use std::io::Read;
 
@@ -34,10 +34,7 @@ fn as_expected(
     after: &[u8],
 ) -> bool {
     let saved = saving::save(buffer, used, old, new);
-    if !answers(saved, expected) {
-        return false;
-    }
-    same(buffer, after)
+    answers(saved, expected) && same(buffer, after)
 }
 
 // Reads the bytes of a case and runs it.
@@ -77,8 +74,8 @@ fn case(from: &mut impl Read) -> Outcome {
         return Outcome::End;
     }
     let n = table::u32_at(&head, 0) as usize;
-    let used = table::u64_from_u32(table::u32_at(&head, 4))
-        + table::u64_from_u32(table::u32_at(&head, 8)) * 4_294_967_296;
+    let used = u64::from(table::u32_at(&head, 4))
+        + u64::from(table::u32_at(&head, 8)) * 4_294_967_296;
     let o = table::u32_at(&head, 12) as usize;
     let m = table::u32_at(&head, 16) as usize;
     let number = table::u32_at(&head, 20);
@@ -86,19 +83,6 @@ fn case(from: &mut impl Read) -> Outcome {
     run(from, n, used, o, m, Expected { number, length })
 }
 
-// The cases count from 1.
 fn main(rt: HostRuntime) {
-    let out = &rt.stdout();
-    let mut from = rt.stdin();
-    let mut cases: u64 = 0;
-    let mut right: u64 = 0;
-    while cases < MOST {
-        let outcome = case(&mut from);
-        if let Outcome::End = outcome {
-            break;
-        }
-        cases += 1;
-        right += told(out, cases, outcome);
-    }
-    say_counts(out, cases, right);
+    cases::run(&mut rt.stdin(), &rt.stdout(), case);
 }

@@ -6,7 +6,7 @@ ghost use Rattle.std.specs.Prelude.{◌≡◌, ◌≤◌, length, take, drop};
 ghost use Rattle.writing.specs.Write.{Writes};
 ghost use Rattle.writing.specs.Fill.{Fills};
 
-use cases::{MOST, Outcome, filled, read_full, same, say_counts, scribbled, told, went};
+use cases::{Outcome, filled, read_full, same, scribbled, went};
 use std::io;
 use table::{Row, Table};
 use writing::{Filled, Written};
@@ -148,26 +148,13 @@ fn next_rows(from: &mut impl io::Read, n: usize) -> [Row; ROWS]
 // ---- Rows, compared ----
 
 // Whether the first n of `a` stand in b, and 0 past them.
-fn longs_come_back(a: &[u32], n: usize, b: &[u32]) -> bool {
+fn numbers_come_back<T: Copy + Default + PartialEq>(a: &[T], n: usize, b: &[T]) -> bool {
     if a.len() != b.len() {
         return false;
     }
-    for i in 0..b.len() {
-        let x = if i < n { a[i] } else { 0 };
-        if b[i] != x {
-            return false;
-        }
-    }
-    true
-}
-
-fn shorts_come_back(a: &[u16], n: usize, b: &[u16]) -> bool {
-    if a.len() != b.len() {
-        return false;
-    }
-    for i in 0..b.len() {
-        let x = if i < n { a[i] } else { 0 };
-        if b[i] != x {
+    for (i, found) in b.iter().enumerate() {
+        let expected = if i < n { a[i] } else { T::default() };
+        if *found != expected {
             return false;
         }
     }
@@ -197,26 +184,26 @@ fn known_back(form: u16, flag: u8, listed: usize) -> usize {
 fn list_comes_back(row: Row, found: Row) -> bool {
     let list = row.list;
     let found_list = found.list;
-    longs_come_back(&list, row.listed, &found_list)
+    numbers_come_back(&list, row.listed, &found_list)
 }
 
 fn largest_comes_back(row: Row, found: Row) -> bool {
     let known = known_back(row.form, row.flag, row.listed);
     let largest = row.largest;
     let found_largest = found.largest;
-    longs_come_back(&largest, known, &found_largest)
+    numbers_come_back(&largest, known, &found_largest)
 }
 
 fn priority_comes_back(row: Row, found: Row) -> bool {
     let priority = row.priority;
     let found_priority = found.priority;
-    shorts_come_back(&priority, row.tasks, &found_priority)
+    numbers_come_back(&priority, row.tasks, &found_priority)
 }
 
 fn cost_comes_back(row: Row, found: Row) -> bool {
     let cost = row.cost;
     let found_cost = found.cost;
-    longs_come_back(&cost, row.tasks, &found_cost)
+    numbers_come_back(&cost, row.tasks, &found_cost)
 }
 
 // Whether what was found is the row, with 0 for what its form lacks and in the places past its counts.
@@ -374,19 +361,6 @@ fn case(from: &mut impl io::Read) -> Outcome {
     went(as_expected(from, rows, n))
 }
 
-// The cases count from 1.
 fn main(rt: HostRuntime) {
-    let out = &rt.stdout();
-    let mut from = rt.stdin();
-    let mut cases: u64 = 0;
-    let mut right: u64 = 0;
-    while cases < MOST {
-        let outcome = case(&mut from);
-        if let Outcome::End = outcome {
-            break;
-        }
-        cases += 1;
-        right += told(out, cases, outcome);
-    }
-    say_counts(out, cases, right);
+    cases::run(&mut rt.stdin(), &rt.stdout(), case);
 }
