@@ -19,7 +19,7 @@ use Rattle.arrivals.proofs.head.find_useful.Goals.{After-below, At-loop-m, Start
 abbrev ds : (c : Start) → List ℕ
 ds c = distances_from c.args.s.now c.args.list
 
-listed-is : (c : At-loop-m) → c.listed_from-listed.result ≡ length ((distances_from c.args.s.now c.args.list))
+listed-is : (c : At-loop-m) → c.listed_from-listed.result ≡ length (distances_from c.args.s.now c.args.list)
 listed-is c = c.listed_from-listed.ensures.0 ∙ sym (lists_length c.requires.0)
 
 few : (c : At-loop-m) → c.loop-m.m ≤ max_distances + 1
@@ -28,17 +28,17 @@ few c = omega (arith, (listed-is c), c.requires.0.good.few, c.loop-m.invariant.1
 abbrev shortest : (c : After-below) → ℕ
 shortest c = c.greatest_to-shorter.result
 
-more : (c : After-below) → c.loop-m.m ≤ length ((distances_from c.args.s.now c.args.list))
+more : (c : After-below) → c.loop-m.m ≤ length (distances_from c.args.s.now c.args.list)
 more c = omega (arith, c.listed_from-listed.ensures.0, lists_length c.requires.0, c.loop-m-test.true)
 
-tried : (c : After-below) → GreatestTo ((distances_from c.args.s.now c.args.list)) c.loop-m.m c.loop-m.m (shortest c)
-tried c = let e : c.loop-m.m - 1 + 1 ≡ c.loop-m.m = omega (arith, c.loop-m.invariant.0) in subst (λ j. GreatestTo ((distances_from c.args.s.now c.args.list)) c.loop-m.m j (shortest c)) e c.greatest_to-shorter.ensures
+tried : (c : After-below) → GreatestTo (distances_from c.args.s.now c.args.list) c.loop-m.m c.loop-m.m (shortest c)
+tried c = let e : c.loop-m.m - 1 + 1 ≡ c.loop-m.m = omega (arith, c.loop-m.invariant.0) in subst (λ j. GreatestTo (distances_from c.args.s.now c.args.list) c.loop-m.m j (shortest c)) e c.greatest_to-shorter.ensures
 
-found-is : (c : After-below) → c.loop-m.n + c.below.result ≡ c.loop-m.n + (1 when ltb (shortest c) (as_listed ((distances_from c.args.s.now c.args.list)) c.loop-m.m) else 0)
+found-is : (c : After-below) → c.loop-m.n + c.below.result ≡ c.loop-m.n + (1 when ltb (shortest c) (as_listed (distances_from c.args.s.now c.args.list) c.loop-m.m) else 0)
 found-is c = ap (λ x. c.loop-m.n + x) (c.below.ensures ∙ ap (λ d. 1 when ltb (shortest c) d else 0) c.as_listed-own.ensures)
 
-useful : (c : After-below) → UsefulIn ((distances_from c.args.s.now c.args.list)) c.loop-m.m (set c.loop-m.steps c.loop-m.n c.loop-m.m) (c.loop-m.n + c.below.result)
-useful c = useful_next ((distances_from c.args.s.now c.args.list)) c.loop-m.m c.loop-m.n (c.loop-m.n + c.below.result) (shortest c) c.loop-m.steps c.loop-m.invariant.0 (more c) c.requires.0.good.few c.loop-m.invariant.3 (tried c) (found-is c)
+useful : (c : After-below) → UsefulIn (distances_from c.args.s.now c.args.list) c.loop-m.m (set c.loop-m.steps c.loop-m.n c.loop-m.m) (c.loop-m.n + c.below.result)
+useful c = useful_next (distances_from c.args.s.now c.args.list) c.loop-m.m c.loop-m.n (c.loop-m.n + c.below.result) (shortest c) c.loop-m.steps c.loop-m.invariant.0 (more c) c.requires.0.good.few c.loop-m.invariant.3 (tried c) (found-is c)
 
 pub listed_from-listed-requires : goal.listed_from-listed-requires
 listed_from-listed-requires c = lists-inside c.requires.0
@@ -80,16 +80,21 @@ pub bounds-sums-m : goal.bounds-sums-m
 bounds-sums-m c = inside c.loop-m.m
 
 pub loop-m-preserved : goal.loop-m-preserved
-loop-m-preserved c = let e : c.loop-m.m ≡ c.loop-m.m + 1 - 1 = omega arith in (
-  omega (arith, c.loop-m.invariant.0),
-  omega arith,
-  subst (λ n. SumsAt (ds (goal.at.loop-m-preserved c).Start) n (set c.loop-m.sums (c.loop-m.m % max_distances) c.max.result)) e
-      (sums_next (ds (goal.at.loop-m-preserved c).Start) c.loop-m.m c.max.result c.loop-m.sums (omega (arith, c.loop-m.invariant.0)) c.loop-m.invariant.2
-      (c.max.ensures ∙ ap (max (shortest (goal.at.loop-m-preserved c).After-below)) c.as_listed-own.ensures
-      ∙ sum_is (ds (goal.at.loop-m-preserved c).Start) c.loop-m.m c.loop-m.n (c.loop-m.n + c.below.result) (shortest (goal.at.loop-m-preserved c).After-below) c.loop-m.steps c.loop-m.invariant.0 (more (goal.at.loop-m-preserved c).After-below) c.requires.0.good.few c.loop-m.invariant.3 (tried (goal.at.loop-m-preserved c).After-below) (found-is (goal.at.loop-m-preserved c).After-below))),
-  subst (λ n. UsefulIn (ds (goal.at.loop-m-preserved c).Start) n (set c.loop-m.steps c.loop-m.n c.loop-m.m) (c.loop-m.n + c.below.result)) e (useful (goal.at.loop-m-preserved c).After-below),
-)
+loop-m-preserved c =
+    let w = (goal.at.loop-m-preserved c).After-below in
+    let d = distances_from c.args.s.now c.args.list in
+    let e : c.loop-m.m ≡ c.loop-m.m + 1 - 1 = omega arith in (
+      omega (arith, c.loop-m.invariant.0),
+      omega arith,
+      subst (λ n. SumsAt d n (set c.loop-m.sums (c.loop-m.m % max_distances) c.max.result)) e
+          (sums_next d c.loop-m.m c.max.result c.loop-m.sums (omega (arith, c.loop-m.invariant.0)) c.loop-m.invariant.2
+          (c.max.ensures ∙ ap (max (shortest w)) c.as_listed-own.ensures
+          ∙ sum_is d c.loop-m.m c.loop-m.n (c.loop-m.n + c.below.result) (shortest w) c.loop-m.steps c.loop-m.invariant.0 (more w) c.requires.0.good.few c.loop-m.invariant.3 (tried w) (found-is w))),
+      subst (λ n. UsefulIn d n (set c.loop-m.steps c.loop-m.n c.loop-m.m) (c.loop-m.n + c.below.result)) e (useful w),
+    )
 
 pub returns : goal.returns
-returns c = let e : c.loop-m.m - 1 ≡ listed_from c.args.s.now c.args.list = omega (arith, listed-is (goal.at.returns c).At-loop-m, lists_length c.requires.0, c.loop-m.invariant.1) in
-    (subst (λ n. SumsAt (ds (goal.at.returns c).Start) n c.loop-m.sums) e c.loop-m.invariant.2, subst (λ n. UsefulIn (ds (goal.at.returns c).Start) n c.loop-m.steps c.loop-m.n) e c.loop-m.invariant.3)
+returns c =
+    let d = distances_from c.args.s.now c.args.list in
+    let e : c.loop-m.m - 1 ≡ listed_from c.args.s.now c.args.list = omega (arith, listed-is (goal.at.returns c).At-loop-m, lists_length c.requires.0, c.loop-m.invariant.1) in
+    (subst (λ n. SumsAt d n c.loop-m.sums) e c.loop-m.invariant.2, subst (λ n. UsefulIn d n c.loop-m.steps c.loop-m.n) e c.loop-m.invariant.3)
