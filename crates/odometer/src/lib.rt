@@ -25,7 +25,7 @@ pub struct Odometer {
     pub over: bool, // whether every packing has been gone through
 }
 
-// 1 if the active segment i is in the combination m, else 0.
+// 1 if the active segment i is in the combination m, else 0. This and `spend` are not those of `packing`, since no code is shared with it.
 fn has(m: usize, i: usize) -> u8
     requires { i < max_overloads }
     ensures { result ≡ bit i m }
