@@ -1,5 +1,5 @@
 // The window of a demand, found from below.
-ghost use Rattle.std.specs.Prelude.{◌≡◌, ◌-◌, ◌≤◌, eqb};
+ghost use Rattle.std.specs.Prelude.{◌≡◌, ◌≤◌, eqb};
 ghost use Rattle.search.specs.Choice.{◌when◌else◌};
 ghost use Rattle.table.specs.Limits.{horizon};
 ghost use Rattle.table.specs.Code.Listed.{distances_from, Lists};
