@@ -1,5 +1,5 @@
 -- Case by case.
-use mathlib.Core.Path.{sym, ◌∙◌}
+use mathlib.Core.Path.{sym}
 use native.Mathlib.Omega.{arith}
 use Rattle.merging.proofs.Leasts.{lesser-left, lesser-right, lesser-both}
 use Rattle.merging.proofs.conflicts.lesser.Goals as goal

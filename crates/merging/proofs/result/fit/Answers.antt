@@ -14,10 +14,17 @@ use Rattle.merging.specs.Versions.{Versions}
 use Rattle.merging.specs.Rule.{taken_of}
 use Rattle.merging.specs.Merge.{versions, is_record}
 use Rattle.merging.specs.declared.result.Size.{Size}
-use Rattle.merging.specs.Code.Size.{states_of, result_from}
+use Rattle.merging.specs.Code.Size.{states_of, least_of, result_from}
 use Rattle.merging.proofs.Results.{result-length, states-short, fits-conflict, fits_not, fits-long, fits_refused, fits-accepted}
 use Rattle.merging.proofs.result.fit.Goals as goal
-use Rattle.merging.proofs.result.fit.Goals.{After-build, Start}
+use Rattle.merging.proofs.result.fit.Goals.{After-build, After-size_of-size, Start}
+
+-- as it was measured: the smallest id in conflict, and how long the result is
+conflict : (c : After-size_of-size) → least_of (versions c.args.ancestor c.args.first c.args.second) c.args.ids.now ≡ c.size_of-size.result.conflict
+conflict c = sym (ap (λ (x : Size). x.conflict) c.size_of-size.ensures)
+
+long : (c : After-size_of-size) → length (result_from (states_of (versions c.args.ancestor c.args.first c.args.second) c.args.ids.now)) ≡ c.size_of-size.result.bytes + 4
+long c = result-length (states_of (versions c.args.ancestor c.args.first c.args.second) c.args.ids.now) ∙ ap (λ (x : Size). x.bytes + 4) (sym c.size_of-size.ensures)
 
 -- the three tables
 abbrev of : (c : Start) → Versions
@@ -30,10 +37,10 @@ abbrev array : (c : After-build) → List ℕ
 array c = c.build.new.out
 
 abbrev whole : (c : After-build) → List ℕ
-whole c = result_from (states_of ((versions c.args.ancestor c.args.first c.args.second)) c.args.ids.now)
+whole c = result_from (states_of (versions c.args.ancestor c.args.first c.args.second) c.args.ids.now)
 
 whole_length : (c : After-build) → length (whole c) ≡ bytes c + 4
-whole_length c = result-length (states_of ((versions c.args.ancestor c.args.first c.args.second)) c.args.ids.now) ∙ ap (λ (x : Size). x.bytes + 4) (sym c.size_of-size.ensures)
+whole_length c = result-length (states_of (versions c.args.ancestor c.args.first c.args.second) c.args.ids.now) ∙ ap (λ (x : Size). x.bytes + 4) (sym c.size_of-size.ensures)
 
 built : (c : After-build) → take (bytes c + 4) (array c) ≡ whole c
 built c = let z = c.size_of-size in
@@ -44,28 +51,25 @@ length-take-n : (c : After-build) → length (take (bytes c + 4) (array c)) ≡ 
 length-take-n c = ap length (built c) ∙ whole_length c
 
 pub returns-then-size-ne0 : goal.returns-then-size-ne0
-returns-then-size-ne0 c = let v = of (goal.at.returns-then-size-ne0 c).Start in
-    let ids = c.args.ids.now in
-    let size = c.size_of-size.ensures in
-    let long : length (result_from (states_of v ids)) ≡ c.size_of-size.result.bytes + 4 = result-length (states_of v ids) ∙ ap (λ (x : Size). x.bytes + 4) (sym size) in
-    fits-conflict v ids c.args.out.now c.size_of-size.result.conflict (sym (ap (λ (x : Size). x.conflict) size)) c.if-size-ne0.true
+returns-then-size-ne0 c =
+    let here = goal.at.returns-then-size-ne0 c in
+    fits-conflict (of here.Start) c.args.ids.now c.args.out.now c.size_of-size.result.conflict (conflict here.After-size_of-size) c.if-size-ne0.true
 
 pub overflow_add-n : goal.overflow_add-n
 overflow_add-n c = omega (arith, ap (λ (x : Size). x.bytes) c.size_of-size.ensures, states-short c.requires.0 c.args.ids.now, c.requires.1)
 
 pub returns-then-out-n : goal.returns-then-out-n
-returns-then-out-n c = let v = of (goal.at.returns-then-out-n c).Start in
-    let ids = c.args.ids.now in
-    let size = c.size_of-size.ensures in
-    let long : length (result_from (states_of v ids)) ≡ c.size_of-size.result.bytes + 4 = result-length (states_of v ids) ∙ ap (λ (x : Size). x.bytes + 4) (sym size) in
-    fits_not v ids c.args.out.now (sym (ap (λ (x : Size). x.conflict) c.size_of-size.ensures) ∙ c.if-size-ne0.false) (omega (arith, long, c.if-out-n.true))
+returns-then-out-n c =
+    let here = goal.at.returns-then-out-n c in
+    let none = conflict here.After-size_of-size ∙ c.if-size-ne0.false in
+    fits_not (of here.Start) c.args.ids.now c.args.out.now none (omega (arith, long here.After-size_of-size, c.if-out-n.true))
 
 pub returns-then-n-gt-BYTES : goal.returns-then-n-gt-BYTES
-returns-then-n-gt-BYTES c = let v = of (goal.at.returns-then-n-gt-BYTES c).Start in
-    let ids = c.args.ids.now in
-    let size = c.size_of-size.ensures in
-    let long : length (result_from (states_of v ids)) ≡ c.size_of-size.result.bytes + 4 = result-length (states_of v ids) ∙ ap (λ (x : Size). x.bytes + 4) (sym size) in
-    fits-long v ids c.args.out.now (sym (ap (λ (x : Size). x.conflict) c.size_of-size.ensures) ∙ c.if-size-ne0.false) (omega (arith, long, c.if-out-n.false)) (omega (arith, long, c.if-n-gt-BYTES.true))
+returns-then-n-gt-BYTES c =
+    let here = goal.at.returns-then-n-gt-BYTES c in
+    let none = conflict here.After-size_of-size ∙ c.if-size-ne0.false in
+    let size = long here.After-size_of-size in
+    fits-long (of here.Start) c.args.ids.now c.args.out.now none (omega (arith, size, c.if-out-n.false)) (omega (arith, size, c.if-n-gt-BYTES.true))
 
 pub build-requires : goal.build-requires
 build-requires c = let v = of (goal.at.build-requires c).Start in
@@ -86,12 +90,18 @@ pub put-requires : goal.put-requires
 put-requires c = omega (arith, length-take-n (goal.at.put-requires c).After-build, c.if-out-n.false)
 
 pub returns-in-Accepted : goal.returns-in-Accepted
-returns-in-Accepted c = let is : (read_table (whole (goal.at.returns-in-Accepted c).After-build)).verdict ≡ Accepted = ap (λ (l : List ℕ). (read_table l).verdict) (sym (built (goal.at.returns-in-Accepted c).After-build)) ∙ sym c.judge.ensures ∙ c.in-Accepted.is in
-    let left = c.put.ensures ∙ ap (λ (l : List ℕ). splice c.args.out.now 0 (length l) l) (built (goal.at.returns-in-Accepted c).After-build) ∙ splice-first c.args.out.now (whole (goal.at.returns-in-Accepted c).After-build) in
-    let none = sym (ap (λ (x : Size). x.conflict) c.size_of-size.ensures) ∙ c.if-size-ne0.false in
-    rw (← whole_length (goal.at.returns-in-Accepted c).After-build, left) (fits-accepted (of (goal.at.returns-in-Accepted c).Start) c.args.ids.now c.args.out.now none (omega (arith, whole_length (goal.at.returns-in-Accepted c).After-build, c.if-out-n.false)) is)
+returns-in-Accepted c =
+    let here = goal.at.returns-in-Accepted c in
+    let made = here.After-build in
+    let is : (read_table (whole made)).verdict ≡ Accepted = ap (λ (l : List ℕ). (read_table l).verdict) (sym (built made)) ∙ sym c.judge.ensures ∙ c.in-Accepted.is in
+    let left = c.put.ensures ∙ ap (λ (l : List ℕ). splice c.args.out.now 0 (length l) l) (built made) ∙ splice-first c.args.out.now (whole made) in
+    let none = conflict here.After-size_of-size ∙ c.if-size-ne0.false in
+    rw (← whole_length made, left) (fits-accepted (of here.Start) c.args.ids.now c.args.out.now none (omega (arith, whole_length made, c.if-out-n.false)) is)
 
 pub returns-in-Refused : goal.returns-in-Refused
-returns-in-Refused c = let is = ap (λ (l : List ℕ). (read_table l).verdict) (sym (built (goal.at.returns-in-Refused c).After-build)) ∙ sym c.judge.ensures ∙ c.in-Refused.is in
-    let none = sym (ap (λ (x : Size). x.conflict) c.size_of-size.ensures) ∙ c.if-size-ne0.false in
-    fits_refused (of (goal.at.returns-in-Refused c).Start) c.args.ids.now c.args.out.now none (omega (arith, whole_length (goal.at.returns-in-Refused c).After-build, c.if-out-n.false)) is
+returns-in-Refused c =
+    let here = goal.at.returns-in-Refused c in
+    let made = here.After-build in
+    let is = ap (λ (l : List ℕ). (read_table l).verdict) (sym (built made)) ∙ sym c.judge.ensures ∙ c.in-Refused.is in
+    let none = conflict here.After-size_of-size ∙ c.if-size-ne0.false in
+    fits_refused (of here.Start) c.args.ids.now c.args.out.now none (omega (arith, whole_length made, c.if-out-n.false)) is
