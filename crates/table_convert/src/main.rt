@@ -8,7 +8,7 @@ ghost use Rattle.table.specs.Code.Taken.{Taken};
 use converting::{To, convert, fits_gap};
 use input::{Input, has_argument, take_file};
 use std::rt::Env;
-use table::{Table, Verdict, count, id_at, place, u32_from_u16};
+use table::{Table, Verdict, count, id_at, place};
 use verdict_text::{put, put_number, put_refused, put_sentence};
 use writing::Written;
 
@@ -35,11 +35,10 @@ fn put_result(out: &impl Print, err: &impl Print, res: &[u8]) -> bool {
 fn first_unfit(s: &[u8]) -> u32
     requires { Taken s.now }
 {
-    let chains = count(s);
-    for chain in 0..chains {
+    for chain in 0..count(s) {
         let at = place(s, chain);
         if !fits_gap(s, at) {
-            return u32_from_u16(id_at(s, at));
+            return u32::from(id_at(s, at));
         }
     }
     0

@@ -13,7 +13,7 @@ use counting::{Count, Extent, counted};
 use input::{Input, has_argument, take_in};
 use misses::{Answer, Sieved, at_most, misses};
 use std::rt::Env;
-use table::{Table, Verdict, id_at, place, u32_from_u16};
+use table::{Table, Verdict, id_at, place};
 use verdict_text::{put, put_number, put_refused};
 
 // ---- The arguments ----
@@ -104,7 +104,7 @@ fn put_line(out: &impl Print, err: &impl Print, s: &[u8], id: u32, k: u32, exten
 fn id_of(s: &[u8], chain: usize) -> u32
     requires { Taken s.now × (chain < (table_of s.now).count) }
 {
-    u32_from_u16(id_at(s, place(s, chain)))
+    u32::from(id_at(s, place(s, chain)))
 }
 
 // A line for each chain, in the table's order.

@@ -6,7 +6,7 @@ use Rattle.table_convert.proofs.first_unfit.Goals as goal
 use Rattle.table_convert.proofs.first_unfit.Goals.{After-place-at}
 
 standing : (c : After-place-at) → Stands c.args.s.now c.place-at.result
-standing c = stands c.requires c.place-at.ensures (omega (arith, c.loop-chain-test.true, c.count-chains.ensures))
+standing c = stands c.requires c.place-at.ensures (omega (arith, c.loop-chain-test.true, c.count-chain-end.ensures))
 
 pub fits_gap-requires : goal.fits_gap-requires
 fits_gap-requires c = standing c
