@@ -6,9 +6,9 @@ use Rattle.table.specs.Record.{form_at}
 use Rattle.table.specs.Find.{rows}
 use Rattle.table.specs.Read.{by_verdict, read_table, table_of}
 use Rattle.table.specs.declared.Row.{Row}
-use Rattle.writing.specs.Write.{written_of, buffer_after}
-use Rattle.writing.specs.declared.Written.{Written}
-use Rattle.writing.specs.declared.Written.TheVariants.{Refused}
+use Rattle.writing.specs.Write.{Written, written_of, buffer_after}
+use Rattle.std.specs.declared.result.Result.TheVariants.{Err}
+use Rattle.table.specs.declared.refusal.Refusal.TheVariants.{NoSuchForm}
 use Rattle.converting.specs.Forms.{form_of, fits_form, converted}
 use Rattle.converting.specs.declared.To.{To}
 
@@ -20,8 +20,8 @@ rows_in to s = map (converted to) (rows (table_of s))
 -- is room
 unfoldable pub converted_of : To → ℕ → List ℕ → Written
 converted_of to room s =
-    by_verdict Refused (read_table s).verdict
-    (Refused 34 when eqb (form_at s 0) (form_of to) || not (every (fits_form to) (rows (table_of s))) else
+    by_verdict Err (read_table s).verdict
+    (Err NoSuchForm when eqb (form_at s 0) (form_of to) || not (every (fits_form to) (rows (table_of s))) else
     written_of room (rows_in to s))
 
 -- what a conversion does

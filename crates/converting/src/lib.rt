@@ -12,7 +12,7 @@ mod shape;
 
 pub use put::convert;
 pub use shape::fits_gap;
-use writing::Written;
+use table::Refusal;
 
 // The form asked.
 #[derive(Clone, Copy)]
@@ -22,14 +22,14 @@ pub enum To {
 }
 
 // The table with largest distances becomes the first bytes of `out`; refused, every byte stays.
-pub fn to_largest(s: &[u8], out: &mut [u8]) -> Written
+pub fn to_largest(s: &[u8], out: &mut [u8]) -> Result<u32, Refusal>
     ensures { Converts Largest s.now out.old result out.new }
 {
     convert(s, out, To::Largest)
 }
 
 // The table with gaps becomes the first bytes of `out`; refused, every byte stays.
-pub fn to_gap(s: &[u8], out: &mut [u8]) -> Written
+pub fn to_gap(s: &[u8], out: &mut [u8]) -> Result<u32, Refusal>
     ensures { Converts Gap s.now out.old result out.new }
 {
     convert(s, out, To::Gap)

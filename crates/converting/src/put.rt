@@ -14,8 +14,8 @@ use crate::To;
 use crate::forms::form_of;
 use crate::record::put_record;
 use crate::shape::{all_fit, records_length};
-use table::{Verdict, count, form_at, record_length};
-use writing::{Written, put_end};
+use table::{Refusal, count, form_at, record_length};
+use writing::put_end;
 
 // The records of all chains, in the form asked; answers where they end.
 fn put_records(s: &[u8], out: &mut [u8], to: To) -> usize
@@ -32,7 +32,7 @@ fn put_records(s: &[u8], out: &mut [u8], to: To) -> usize
 }
 
 // 34 or 24, or the table is put, where it is accepted.
-fn put_table(s: &[u8], out: &mut [u8], to: To) -> Written
+fn put_table(s: &[u8], out: &mut [u8], to: To) -> Result<u32, Refusal>
     requires { Taken s.now × ((read_table s.now).verdict ≡ Accepted) }
     ensures { Converts to s.now out.old result out.new }
 {
@@ -52,7 +52,7 @@ fn put_table(s: &[u8], out: &mut [u8], to: To) -> Written
 }
 
 // The table's own number comes first.
-pub fn convert(s: &[u8], out: &mut [u8], to: To) -> Written
+pub fn convert(s: &[u8], out: &mut [u8], to: To) -> Result<u32, Refusal>
     ensures { Converts to s.now out.old result out.new }
 {
     match table::judge(s) {

@@ -5,12 +5,11 @@
 use Rattle.std.specs.Prelude.{ℕ, zero, suc, ◌*◌, ◌-◌, ◌≡◌, List, [], ◌∷◌, ◌++◌, map, Bool, length, drop, ltb, ℤ, pos, negsuc}
 use Rattle.search.specs.Choice.{◌when◌else◌}
 use Rattle.table.specs.Bytes.{bytes_of}
-use Rattle.table.specs.Read.{read_table, number_of, fault_place}
+use Rattle.table.specs.Refusal.{Verdict, number_of, part_values, one_value}
+use Rattle.table.specs.Read.{read_table, refused_by, fault_place}
 use Rattle.table.specs.declared.Row.{Row}
-use Rattle.table.specs.declared.Verdict.{Verdict}
 use Rattle.segments.specs.Query as segment
 use Rattle.windows.specs.Latency as latency
-use Rattle.windows.specs.declared.Answer.{Answer as Latency}
 use Rattle.misses.specs.Misses as misses
 use Rattle.misses.specs.Sieve as sieve
 use Rattle.slices.specs.Locate as locate
@@ -53,71 +52,71 @@ pub record Answered (n number : ℕ) (figures before after : List ℕ) (r : ℕ)
   pub leaves : after ≡ left_by r (figure_bytes figures) before
 
 -- latency: K, latency, late, and the margin in two's complement
-abbrev pub latency_figures : Latency → List ℕ
+abbrev pub latency_figures : latency.Answer → List ℕ
 latency_figures answer = map unsigned (latency.values_of answer)
 
 pub record LatencyEntry (table : List ℕ) (id : ℕ) (before after : List ℕ) (r : ℕ) : Type 0 where
-  pub answers : Answered 4 (latency.number_of (latency.latency_of table id)) (latency_figures (latency.latency_of table id)) before after r
+  pub answers : Answered 4 (number_of (latency.latency_of table id)) (latency_figures (latency.latency_of table id)) before after r
 
 -- misses: how many deadlines are missed
 pub record MissesEntry (table : List ℕ) (id k : ℕ) (before after : List ℕ) (r : ℕ) : Type 0 where
-  pub answers : Answered 1 (misses.number_of (misses.misses_of table id k)) (misses.values_of (misses.misses_of table id k)) before after r
+  pub answers : Answered 1 (number_of (misses.misses_of table id k)) (one_value (misses.misses_of table id k)) before after r
 
 -- misses by the plain engine: the same
 pub record PlainEntry (table : List ℕ) (id k : ℕ) (before after : List ℕ) (r : ℕ) : Type 0 where
-  pub answers : Answered 1 (misses.number_of (misses.misses_of table id k)) (misses.values_of (misses.misses_of table id k)) before after r
+  pub answers : Answered 1 (number_of (misses.misses_of table id k)) (one_value (misses.misses_of table id k)) before after r
 
 -- misses by the sieve: how many deadlines are missed at most
 pub record AtMostEntry (table : List ℕ) (id k : ℕ) (before after : List ℕ) (r : ℕ) : Type 0 where
-  pub answers : Answered 1 (sieve.number_of (sieve.at_most_of table id k)) (sieve.values_of (sieve.at_most_of table id k)) before after r
+  pub answers : Answered 1 (number_of (sieve.at_most_of table id k)) (sieve.values_of (sieve.at_most_of table id k)) before after r
 
 -- segment: offset and length
 pub record SegmentEntry (table : List ℕ) (id against number : ℕ) (before after : List ℕ) (r : ℕ) : Type 0 where
-  pub answers : Answered 2 (segment.number_of (segment.segment_of table id against number)) (segment.values_of (segment.segment_of table id against number)) before after r
+  pub answers : Answered 2 (number_of (segment.segment_of table id against number)) (part_values (segment.segment_of table id against number)) before after r
 
 -- save: the new used length, and the table's buffer as the save leaves it; 27 leaves that too
 pub record SaveEntry (buffer : List ℕ) (used : ℕ) (old new answer buffer_after answerAfter : List ℕ) (r : ℕ) : Type 0 where
-  pub answers : Answered 1 (save.number_of (save.saved_of buffer used old new)) (save.values_of (save.saved_of buffer used old new)) answer answerAfter r
+  pub answers : Answered 1 (number_of (save.saved_of buffer used old new)) (one_value (save.saved_of buffer used old new)) answer answerAfter r
   pub leaves : buffer_after ≡ (buffer when ltb (length answer) 4 else save.buffer_after buffer used old new)
 
 -- check: what the reader says of the table, the number and the place of its first fault, 0 and 0 where it is accepted
 abbrev pub verdict_figures : Verdict → List ℕ
-verdict_figures v = number_of v ∷ fault_place v ∷ []
+verdict_figures v = number_of (refused_by v) ∷ fault_place v ∷ []
 
 pub record CheckEntry (table : List ℕ) (before after : List ℕ) (r : ℕ) : Type 0 where
   pub answers : Answered 2 0 (verdict_figures (read_table table).verdict) before after r
 
 -- merge: the used length, and the buffer as the merge leaves it; 27 leaves that too
 pub record MergeEntry (v : Versions) (buffer answer buffer_after answerAfter : List ℕ) (r : ℕ) : Type 0 where
-  pub answers : Answered 1 (merge.number_of (merge.merged_of (length buffer) v)) (merge.values_of (merge.merged_of (length buffer) v)) answer answerAfter r
+  pub answers : Answered 1 (number_of (merge.as_refused (merge.merged_of (length buffer) v))) (one_value (merge.as_refused (merge.merged_of (length buffer) v))) answer answerAfter r
   pub leaves : buffer_after ≡ (buffer when ltb (length answer) 4 else merge.buffer_after (merge.merged_of (length buffer) v) (merge.result_of v) buffer)
 
 -- conflict: the smallest id greater than `above` that is in conflict, 0 if there is none
 pub record ConflictEntry (v : Versions) (above : ℕ) (before after : List ℕ) (r : ℕ) : Type 0 where
-  pub answers : Answered 1 (merge.found_number (merge.found_of v above)) (merge.found_values (merge.found_of v above)) before after r
+  pub answers : Answered 1 (number_of (merge.found_of v above)) (one_value (merge.found_of v above)) before after r
 
 -- read: how many chains there are, and the rows as reading leaves them; 27 leaves those too
 pub record ReadEntry (table : List ℕ) (rows : List Row) (answer : List ℕ) (rows_after : List Row) (answerAfter : List ℕ) (r : ℕ) : Type 0 where
-  pub answers : Answered 1 (fill.number_of (fill.filled_of (length rows) table)) (fill.values_of (fill.filled_of (length rows) table)) answer answerAfter r
+  pub answers : Answered 1 (number_of (fill.filled_of (length rows) table)) (one_value (fill.filled_of (length rows) table)) answer answerAfter r
   pub leaves : rows_after ≡ (rows when ltb (length answer) 4 else fill.rows_after (fill.filled_of (length rows) table) table rows)
 
 -- write: the used length, and the buffer as the write leaves it; 27 leaves that too
 pub record WriteEntry (rows : List Row) (buffer answer buffer_after answerAfter : List ℕ) (r : ℕ) : Type 0 where
-  pub answers : Answered 1 (write.number_of (write.written_of (length buffer) rows)) (write.values_of (write.written_of (length buffer) rows)) answer answerAfter r
+  pub answers : Answered 1 (number_of (write.written_of (length buffer) rows)) (one_value (write.written_of (length buffer) rows)) answer answerAfter r
   pub leaves : buffer_after ≡ (buffer when ltb (length answer) 4 else write.buffer_after (write.written_of (length buffer) rows) rows buffer)
 
 -- record: offset and length
 pub record RecordEntry (table : List ℕ) (id : ℕ) (before after : List ℕ) (r : ℕ) : Type 0 where
-  pub answers : Answered 2 (locate.number_of (locate.located_of table id)) (locate.values_of (locate.located_of table id)) before after r
+  pub answers : Answered 2 (number_of (locate.located_of table id)) (part_values (locate.located_of table id)) before after r
 
 -- convert, to either form: the used length, and the buffer as the conversion leaves it; 27 leaves that too
 pub record ConvertEntry (to : To) (table buffer answer buffer_after answerAfter : List ℕ) (r : ℕ) : Type 0 where
-  pub answers : Answered 1 (write.number_of (converted_of to (length buffer) table)) (write.values_of (converted_of to (length buffer) table)) answer answerAfter r
+  pub answers : Answered 1 (number_of (converted_of to (length buffer) table)) (one_value (converted_of to (length buffer) table)) answer answerAfter r
   pub leaves : buffer_after ≡ (buffer when ltb (length answer) 4 else write.buffer_after (converted_of to (length buffer) table) (rows_in to table) buffer)
 
 -- salvage: the used lengths of the table and of the list, and both buffers as the salvage leaves them; 27 leaves those too
 pub record SalvageEntry (input table list answer tableAfter listAfter answerAfter : List ℕ) (r : ℕ) : Type 0 where
-  pub answers : Answered 2 (salvage.number_of (salvage.salvaged_of (length table) (length list) input)) (salvage.values_of (salvage.salvaged_of (length table) (length list) input)) answer answerAfter r
+  pub answers : Answered 2 (number_of (salvage.salvaged_of (length table) (length list) input)) (salvage.values_of (salvage.salvaged_of (length table) (length list) input)) answer answerAfter r
   pub leaves_table : tableAfter ≡ (table when ltb (length answer) 8 else salvage.buffer_after (salvage.salvaged_of (length table) (length list) input) (salvage.table_kept input) table)
   pub leaves_list : listAfter ≡ (list when ltb (length answer) 8 else salvage.buffer_after (salvage.salvaged_of (length table) (length list) input) (salvage.list_skipped input) list)
 

@@ -1,5 +1,5 @@
 -- Merge of two edited tables, given their common ancestor (02, request 4): the result, the refusals in order, and what the calls hand back.
-use Rattle.std.specs.Prelude.{ℕ, ◌+◌, ◌≡◌, Bool, length, drop, eqb, ltb}
+use Rattle.std.specs.Prelude.{ℕ, ◌+◌, ◌≡◌, Bool, length, drop, ltb, is_ok}
 use mathlib.Core.List.{List, [], ◌∷◌, ◌++◌, map, flatten}
 use Rattle.std.specs.Borrow.{Bor}
 use Rattle.search.specs.Choice.{◌when◌else◌, by_number}
@@ -8,32 +8,44 @@ use Rattle.table.specs.Record.{end_record}
 use Rattle.table.specs.Read.{unless, read_table}
 use Rattle.merging.specs.Versions.{Versions, three, by_versions, start_of, ids_of}
 use Rattle.merging.specs.Rule.{by_rule, taken_of, order, conflict_above}
-use Rattle.merging.specs.declared.Merged.{Merged}
-use Rattle.merging.specs.declared.Merged.TheVariants.{Used, Ancestor, First, Second, Conflict, NoRoom, Result}
-use Rattle.merging.specs.declared.Found.{Found}
-use Rattle.merging.specs.declared.Found.TheVariants.{Id, Refused}
+use Rattle.std.specs.declared.result.Result.{Result}
+use Rattle.std.specs.declared.result.Result.TheVariants.{Ok, Err}
+use Rattle.table.specs.declared.refusal.Refusal.{Refusal}
+use Rattle.table.specs.declared.refusal.Refusal.TheVariants.{BufferShort, Conflicting}
+use Rattle.merging.specs.declared.Unmerged.{Unmerged}
+use Rattle.merging.specs.declared.Unmerged.TheVariants.{Ancestor, First, Second, Conflict, NoRoom, Merged}
 
 -- The merge
 
--- the documents' number for each answer, 0 where the merge is accepted
-abbrev pub number_of : Merged → ℕ
-number_of (Used n) = 0
-number_of (Ancestor n place) = n
-number_of (First n place) = n
-number_of (Second n place) = n
-number_of (Conflict id) = 32
-number_of NoRoom = 24
-number_of (Result n place) = n
+-- what a merge answers: the used length, or why there is none
+abbrev pub Answer : Type 0
+Answer = Result ℕ Unmerged
 
--- and its figures: the used length, or none
-abbrev pub values_of : Merged → List ℕ
-values_of (Used n) = n ∷ []
-values_of (Ancestor n place) = []
-values_of (First n place) = []
-values_of (Second n place) = []
-values_of (Conflict id) = []
-values_of NoRoom = []
-values_of (Result n place) = []
+-- the refusal that each is
+abbrev pub refusal_of : Unmerged → Refusal
+refusal_of (Ancestor f) = f.0
+refusal_of (First f) = f.0
+refusal_of (Second f) = f.0
+refusal_of (Conflict id) = Conflicting
+refusal_of NoRoom = BufferShort
+refusal_of (Merged f) = f.0
+
+abbrev pub as_refused : Answer → Result ℕ Refusal
+as_refused (Ok n) = Ok n
+as_refused (Err e) = Err (refusal_of e)
+
+-- a table's fault, as that of one of the three or of the result
+abbrev pub of_ancestor : {A : Type 0} → Refusal → ℕ → Result A Unmerged
+of_ancestor n place = Err (Ancestor (n, place))
+
+abbrev pub of_first : {A : Type 0} → Refusal → ℕ → Result A Unmerged
+of_first n place = Err (First (n, place))
+
+abbrev pub of_second : {A : Type 0} → Refusal → ℕ → Result A Unmerged
+of_second n place = Err (Second (n, place))
+
+abbrev pub of_merged : {A : Type 0} → Refusal → ℕ → Result A Unmerged
+of_merged n place = Err (Merged (n, place))
 
 -- a state that is a record's bytes, not that it is missing
 abbrev pub is_record : List ℕ → Bool
@@ -52,40 +64,31 @@ unfoldable pub result_of : Versions → List ℕ
 result_of v = flatten (taken_records v) ++ end_record (length (taken_records v))
 
 -- into a buffer with that much room: 24, then a table's numbers on the result
-unfoldable pub fitted : ℕ → List ℕ → Merged
-fitted room result = NoRoom when ltb room (length result) else unless Result (read_table result).verdict (Used (length result))
+unfoldable pub fitted : ℕ → List ℕ → Answer
+fitted room result = Err NoRoom when ltb room (length result) else unless of_merged (read_table result).verdict (Ok (length result))
 
 -- the three tables' own numbers, 32 with the smallest id in conflict, and then those
-unfoldable pub merged_of : ℕ → Versions → Merged
+unfoldable pub merged_of : ℕ → Versions → Answer
 merged_of room v =
-    unless Ancestor (read_table v.ancestor).verdict
-    (unless First (read_table v.first).verdict
-    (unless Second (read_table v.second).verdict
-    (by_number Conflict (conflict_above v 0) (fitted room (result_of v)))))
+    unless of_ancestor (read_table v.ancestor).verdict
+    (unless of_first (read_table v.first).verdict
+    (unless of_second (read_table v.second).verdict
+    (by_number (λ id. Err (Conflict id)) (conflict_above v 0) (fitted room (result_of v)))))
 
 -- the whole buffer after an answer: the result first, and its rest stays; refused, every byte stays
-abbrev pub buffer_after : Merged → List ℕ → List ℕ → List ℕ
-buffer_after answer result buffer = result ++ drop (length result) buffer when eqb (number_of answer) 0 else buffer
+abbrev pub buffer_after : Answer → List ℕ → List ℕ → List ℕ
+buffer_after answer result buffer = result ++ drop (length result) buffer when is_ok answer else buffer
 
 -- what a merge does
-pub record Merges (v : Versions) (buffer : List ℕ) (answer : Merged) (after : List ℕ) : Type 0 where
+pub record Merges (v : Versions) (buffer : List ℕ) (answer : Answer) (after : List ℕ) : Type 0 where
   pub answers : answer ≡ merged_of (length buffer) v
   pub leaves : after ≡ buffer_after answer (result_of v) buffer
 
 -- The conflicts
 
--- the documents' number, and the figure: the smallest id in conflict that is greater than `above`, 0 if there is none
-abbrev pub found_number : Found → ℕ
-found_number (Id id) = 0
-found_number (Refused n) = n
-
-abbrev pub found_values : Found → List ℕ
-found_values (Id id) = id ∷ []
-found_values (Refused n) = []
-
--- only the three tables refuse
-unfoldable pub found_of : Versions → ℕ → Found
-found_of v above = by_versions Refused v (Id (conflict_above v above))
+-- the smallest id in conflict that is greater than `above`, 0 if there is none; only the three tables refuse
+unfoldable pub found_of : Versions → ℕ → Result ℕ Refusal
+found_of v above = by_versions Err v (Ok (conflict_above v above))
 
 -- The record taken for an id
 

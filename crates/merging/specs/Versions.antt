@@ -4,6 +4,7 @@ use Rattle.search.specs.Choice.{◌when◌else◌}
 use Rattle.table.specs.Find.{rows, find_of, used}
 use Rattle.table.specs.Place.{place_of}
 use Rattle.table.specs.Read.{by_verdict, read_table, table_of}
+use Rattle.table.specs.declared.refusal.Refusal.{Refusal}
 use Rattle.table.specs.declared.Row.{Row}
 use Rattle.slices.specs.Stored.{record_of}
 
@@ -21,7 +22,7 @@ swapped v = record { ancestor = v.ancestor; first = v.second; second = v.first }
 
 -- a refused table refuses with its number, the ancestor's before the first copy's and that before the second's, each query in its own
 -- way; three accepted ones are asked
-abbrev pub by_versions : {A : Type 0} → (ℕ → A) → Versions → A → A
+abbrev pub by_versions : {A : Type 0} → (Refusal → A) → Versions → A → A
 by_versions refuse v answer =
     by_verdict refuse (read_table v.ancestor).verdict
     (by_verdict refuse (read_table v.first).verdict

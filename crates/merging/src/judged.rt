@@ -3,19 +3,11 @@ ghost use Rattle.std.specs.Prelude.{◌≡◌};
 ghost use Rattle.merging.specs.Merge.{versions};
 ghost use Rattle.merging.specs.Code.Judged.{judged_of};
 
-use table::{Verdict, judge};
-
-// All three are accepted, or the first that is not, with its number and place.
-#[derive(Clone, Copy)]
-pub enum Judged {
-    Accepted,
-    Ancestor(u32, usize),
-    First(u32, usize),
-    Second(u32, usize),
-}
+use crate::Unmerged;
+use table::judge;
 
 // Judges the ancestor, the first copy and the second, in this order, as far as each before it is accepted.
-pub fn judge_all(ancestor: &[u8], first: &[u8], second: &[u8]) -> Judged
+pub fn judge_all(ancestor: &[u8], first: &[u8], second: &[u8]) -> Result<(), Unmerged>
     ensures { result ≡ judged_of (versions ancestor.entry first.entry second.entry) }
 {
     match judge(ancestor) {

@@ -16,29 +16,22 @@ mod result;
 mod states;
 
 use conflicts::least_conflict;
-use judged::{Judged, judge_all};
+use judged::judge_all;
+use table::{Fault, Refusal};
 use order::{MOST, ids_in_order};
 use result::fit;
 use states::taken;
 
-// What a merge answers: the used length; which of the three tables is refused, with its number and place; the smallest id in conflict;
-// that the result is longer than the buffer; or the number and place with which the result is refused.
-#[derive(Clone, Copy)]
-pub enum Merged {
-    Used(u32),
-    Ancestor(u32, usize),
-    First(u32, usize),
-    Second(u32, usize),
+// Why there is no merge: which of the three tables is refused, the smallest id in conflict, that the result is longer than the buffer, or how
+// the result is refused.
+#[derive(Clone, Copy, Debug, PartialEq, Eq)]
+pub enum Unmerged {
+    Ancestor(Fault),
+    First(Fault),
+    Second(Fault),
     Conflict(u32),
     NoRoom,
-    Result(u32, usize),
-}
-
-// What a query for conflicts answers: an id, 0 if there is none, or the refusal.
-#[derive(Clone, Copy)]
-pub enum Found {
-    Id(u32),
-    Refused(u32),
+    Merged(Fault),
 }
 
 // The record taken for an id, as part of the copy that holds it, the first if both do; empty where nothing is taken: the id is missing, in
@@ -65,7 +58,7 @@ fn conflict_above(ancestor: &[u8], first: &[u8], second: &[u8], above: u32) -> u
 }
 
 // Asked with 0, then with each answer, it gives all ids in conflict, rising.
-pub fn conflict(ancestor: &[u8], first: &[u8], second: &[u8], above: u32) -> Found
+pub fn conflict(ancestor: &[u8], first: &[u8], second: &[u8], above: u32) -> Result<u32, Refusal>
     ensures { result ≡ found_of (versions ancestor.entry first.entry second.entry) above }
 {
     match judge_all(ancestor, first, second) {
@@ -77,7 +70,7 @@ pub fn conflict(ancestor: &[u8], first: &[u8], second: &[u8], above: u32) -> Fou
 }
 
 // The merge of three accepted tables.
-fn merge_accepted<'a>(ancestor: &[u8], first: &'a [u8], second: &'a [u8], out: &mut [u8]) -> Merged
+fn merge_accepted<'a>(ancestor: &[u8], first: &'a [u8], second: &'a [u8], out: &mut [u8]) -> Result<u32, Unmerged>
     requires { AllAccepted (three ancestor.now first.now second.now) }
     ensures { Merges (versions ancestor.entry first.entry second.entry) out.old result out.new }
 {
@@ -87,7 +80,7 @@ fn merge_accepted<'a>(ancestor: &[u8], first: &'a [u8], second: &'a [u8], out: &
 }
 
 // The result becomes the first bytes of `out`; refused, every byte stays.
-pub fn merge<'a>(ancestor: &[u8], first: &'a [u8], second: &'a [u8], out: &mut [u8]) -> Merged
+pub fn merge<'a>(ancestor: &[u8], first: &'a [u8], second: &'a [u8], out: &mut [u8]) -> Result<u32, Unmerged>
     ensures { Merges (versions ancestor.entry first.entry second.entry) out.old result out.new }
 {
     match judge_all(ancestor, first, second) {

@@ -9,7 +9,7 @@ ghost use Rattle.merging.specs.Code.Parts.{AllTaken};
 ghost use Rattle.merging.specs.Code.Ids.{most_ids};
 ghost use Rattle.merging.specs.Code.Size.{states_of, size_of, PutThere, Fits};
 
-use crate::Merged;
+use crate::Unmerged;
 use crate::conflicts::lesser;
 use crate::states::{step_past, taken, weigh};
 use slices::put;
@@ -97,7 +97,7 @@ pub fn fit<'a>(
     second: &'a [u8],
     ids: &[u32],
     out: &mut [u8],
-) -> Merged
+) -> Result<u32, Unmerged>
     requires { AllTaken ancestor.now first.now second.now × (length ids.now ≤ most_ids) }
     ensures { Fits (versions ancestor.entry first.entry second.entry) ids.now out.old result out.new }
 {

@@ -1,7 +1,7 @@
 -- The miss query (01, 'Misses' and 'Numbers given back'; 02, requests 3 and 7), by a rule for distances, and for any test that says which costs are
 -- bad: by δ and by windows it is the miss count, by δ and the sieve (Sieve.antt) a number that this does not exceed.
-use Rattle.std.specs.Prelude.{ℕ, ◌+◌, ◌*◌, min, Bool, not, List, [], ◌∷◌, eqb, ltb, length, get_or}
-use Rattle.search.specs.Choice.{◌when◌else◌, by_number}
+use Rattle.std.specs.Prelude.{ℕ, ◌+◌, ◌*◌, min, Bool, not, List, eqb, ltb, length, get_or, ⊤}
+use Rattle.search.specs.Choice.{◌when◌else◌}
 use Rattle.table.specs.Limits.{max_run, max_overloads, max_capacity}
 use Rattle.table.specs.Fault.{outside}
 use Rattle.table.specs.Find.{row_of, find_of}
@@ -12,32 +12,27 @@ use Rattle.arrivals.specs.Arrivals.{Rule, δ, count_by, largest, unknown}
 use Rattle.segments.specs.View.{View}
 use Rattle.windows.specs.Demand.{others, views_of}
 use Rattle.windows.specs.Latency.{bound_of}
-use Rattle.windows.specs.declared.Answer.{Answer as Bound}
-use Rattle.windows.specs.declared.Answer.TheVariants.{Figures, Refused as Unbounded}
+use Rattle.windows.specs.declared.Windows.{Windows}
 use Rattle.packing.specs.Most.{most_uses}
 use Rattle.search.specs.Lists.{some}
 use Rattle.misses.specs.Overloads.{Overload, overloads, pieces_of, capacities_of}
 use Rattle.misses.specs.Bad.{bad, Test, windows_by, by_windows}
-use Rattle.misses.specs.declared.Answer.{Answer}
-use Rattle.misses.specs.declared.Answer.TheVariants.{Misses, Refused}
+use Rattle.std.specs.declared.result.Result.{Result}
+use Rattle.std.specs.declared.result.Result.TheVariants.{Ok, Err}
+use Rattle.table.specs.declared.refusal.Refusal.{Refusal}
+use Rattle.table.specs.declared.refusal.Refusal.TheVariants.{NoChain, BadRun, OverloadAsked, GapUnknown, TooManySegments, StartsAgain, CapacityAbove}
 
--- the documents' number for each answer, 0 or the refusal, and its value: how many deadlines are missed
-abbrev pub number_of : Answer → ℕ
-number_of (Misses n) = 0
-number_of (Refused n) = n
+-- what the miss query answers: how many deadlines are missed, or the refusal
+abbrev pub Answer : Type 0
+Answer = Result ℕ Refusal
 
-abbrev pub values_of : Answer → List ℕ
-values_of (Misses n) = n ∷ []
-values_of (Refused n) = []
-
--- before any window: k outside 1..1,000; an overload chain; a chain whose largest distances are unknown, by gap 0 or flag 0; 0 for none of
--- these
-unfoldable pub early_of : Row → ℕ → ℕ
+-- before any window: k outside 1..1,000; an overload chain; a chain whose largest distances are unknown, by gap 0 or flag 0
+unfoldable pub early_of : Row → ℕ → Result ⊤ Refusal
 early_of b k =
-    13 when outside 1 max_run k else
-    14 when not (eqb b.overload 0) else
-    15 when unknown b else
-    0
+    Err BadRun when outside 1 max_run k else
+    Err OverloadAsked when not (eqb b.overload 0) else
+    Err GapUnknown when unknown b else
+    Ok tt
 
 -- the overload chains beside a chain of a table
 abbrev pub overloads_of : Table → ℕ → List Overload
@@ -69,20 +64,24 @@ module _ (rule : Rule) (test : Test) where
     -- than once in the last window; a capacity above 40; else so many are missed
     unfoldable pub by_figures : ℕ → ℕ → ℕ → ℕ → Answer
     by_figures close latency late last =
-        Misses 0 when eqb late 0 else
-        Refused 18 when ltb max_overloads (length (pieces_of os)) else
-        Refused 19 when some (λ o. ltb 1 (count_by rule o.list last)) os else
-        Refused 21 when some (ltb max_capacity) (room_of rule b os k latency) else
-        Misses (missed_of close latency late)
+        Ok 0 when eqb late 0 else
+        Err TooManySegments when ltb max_overloads (length (pieces_of os)) else
+        Err StartsAgain when some (λ o. ltb 1 (count_by rule o.list last)) os else
+        Err CapacityAbove when some (ltb max_capacity) (room_of rule b os k latency) else
+        Ok (missed_of close latency late)
 
     -- 16 or 17, or the figures of the full analysis beside its last window
-    abbrev pub by_bound : Bound → ℕ → Answer
-    by_bound (Figures close latency late margin) last = by_figures close latency late last
-    by_bound (Unbounded n) last = Refused n
+    abbrev pub by_bound : Result Windows Refusal → Answer
+    by_bound (Ok w) = by_figures w.figures.close w.figures.latency w.figures.late w.last
+    by_bound (Err n) = Err n
 
     -- what is refused before any window, or the windows decide
+    abbrev pub unless_early : Result ⊤ Refusal → Answer
+    unless_early (Ok u) = by_bound (bound_of rule b views)
+    unless_early (Err n) = Err n
+
     unfoldable pub tested_beside : Answer
-    tested_beside = by_number Refused (early_of b k) (by_bound (bound_of rule b views).answer (bound_of rule b views).last)
+    tested_beside = unless_early (early_of b k)
 
   -- of a chain of a table, by its number there
   unfoldable pub tested_at : Table → ℕ → ℕ → Answer
@@ -90,11 +89,11 @@ module _ (rule : Rule) (test : Test) where
 
   -- of the chain with the id, 12 if there is none
   unfoldable pub tested_in : Table → ℕ → ℕ → Answer
-  tested_in t id k = Refused 12 when eqb (find_of t id) t.count else tested_at t (find_of t id) k
+  tested_in t id k = Err NoChain when eqb (find_of t id) t.count else tested_at t (find_of t id) k
 
   -- of a stored table, whose own refusals come first
   unfoldable pub tested_of : List ℕ → ℕ → ℕ → Answer
-  tested_of s id k = by_verdict Refused (read_table s).verdict (tested_in (table_of s) id k)
+  tested_of s id k = by_verdict Err (read_table s).verdict (tested_in (table_of s) id k)
 
 -- what the miss query answers for a run of k activations: bad is tested by windows, and distances are those of δ
 abbrev pub misses_beside : Row → List View → List Overload → ℕ → Answer

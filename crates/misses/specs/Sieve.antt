@@ -6,11 +6,11 @@ use Rattle.arrivals.specs.Arrivals.{δ}
 use Rattle.windows.specs.Demand.{demand_of, typical}
 use Rattle.windows.specs.Sieve.{any_above}
 use Rattle.misses.specs.Bad.{with_cost, Test}
-use Rattle.misses.specs.Misses.{tested_of}
-use Rattle.misses.specs.declared.Answer.{Answer}
-use Rattle.misses.specs.declared.Answer.TheVariants.{Misses, Refused}
-use Rattle.misses.specs.declared.Sieved.{Sieved}
-use Rattle.misses.specs.declared.Sieved.TheVariants.{AtMost, Refused as NoBound}
+use Rattle.std.specs.declared.result.Result.{Result}
+use Rattle.std.specs.declared.result.Result.TheVariants.{Ok, Err}
+use Rattle.table.specs.declared.refusal.Refusal.{Refusal}
+use Rattle.misses.specs.Misses.{Answer, tested_of}
+use Rattle.misses.specs.declared.AtMost.{AtMost}
 
 -- a set that costs so much is called bad: for some q ≤ K, which is `close`, the demand at t = δ(q) + deadline plus its costs is above t
 unfoldable pub called : (ℕ → ℕ → ℕ) → (ℕ → ℕ) → ℕ → ℕ → ℕ → Bool
@@ -21,19 +21,15 @@ abbrev pub by_sieve : Test
 by_sieve b views close cost = called (demand_of δ b (typical views)) (δ (distances b)) b.deadline close cost
 
 -- an answer by the sieve, told as such
-abbrev pub as_sieved : Answer → Sieved
-as_sieved (Misses n) = AtMost n
-as_sieved (Refused n) = NoBound n
+abbrev pub as_sieved : Answer → Result AtMost Refusal
+as_sieved (Ok n) = Ok (record { most = n })
+as_sieved (Err n) = Err n
 
 -- what the sieve answers: the miss query, K, late, capacities and refusals included, with this test
-unfoldable pub at_most_of : List ℕ → ℕ → ℕ → Sieved
+unfoldable pub at_most_of : List ℕ → ℕ → ℕ → Result AtMost Refusal
 at_most_of s id k = as_sieved (tested_of δ by_sieve s id k)
 
--- the documents' number for each answer, 0 or the refusal, and its value: how many deadlines are missed at most
-abbrev pub number_of : Sieved → ℕ
-number_of (AtMost n) = 0
-number_of (NoBound n) = n
-
-abbrev pub values_of : Sieved → List ℕ
-values_of (AtMost n) = n ∷ []
-values_of (NoBound n) = []
+-- its value: how many deadlines are missed at most, or none
+abbrev pub values_of : Result AtMost Refusal → List ℕ
+values_of (Ok a) = a.most ∷ []
+values_of (Err n) = []

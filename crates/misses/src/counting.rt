@@ -9,10 +9,10 @@ ghost use Rattle.misses.specs.Sieve.{as_sieved, at_most_of};
 ghost use Rattle.misses.specs.Code.Packings.{packed_answer, Sized, LeadsTo};
 
 use crate::asking::{packings_in, packings_of, packings_with};
-use crate::{Answer, How, Packings, Sieved};
+use crate::{AtMost, How, Packings};
 use odometer::most_uses;
 use packing::uses_up_to;
-use table::{Verdict, judge};
+use table::{Refusal, judge};
 use windows::Windows;
 
 // Late times the uses, up to k.
@@ -39,7 +39,7 @@ fn packed(k: u32, p: Packings) -> Answer
 }
 
 // The misses of the chain of that number in a run of k activations, where its windows are worked out already.
-pub fn misses_with(s: &[u8], chain: usize, k: u32, w: Windows) -> Answer
+pub fn misses_with(s: &[u8], chain: usize, k: u32, w: Result<Windows, Refusal>) -> Result<u32, Refusal>
     requires { Taken s.now × (chain < (table_of s.now).count) × (w ≡ bound_at δ (table_of s.now) chain) }
     ensures { result ≡ misses_at (table_of s.now) chain k }
 {
@@ -48,7 +48,7 @@ pub fn misses_with(s: &[u8], chain: usize, k: u32, w: Windows) -> Answer
 
 // The misses of the chain with the id in a run of k activations, of a stored table. It is asked most, so it does without
 // `packings_of`, whose result would be copied once more.
-pub fn misses(table: &[u8], id: u32, k: u32) -> Answer
+pub fn misses(table: &[u8], id: u32, k: u32) -> Result<u32, Refusal>
     ensures { result ≡ misses_of table.now id k }
 {
     match judge(table) {
@@ -65,7 +65,7 @@ pub fn packings_for(table: &[u8], id: u32, k: u32) -> Packings
 }
 
 // The misses of the chain with the id in a run of k activations, of a stored table. It may take very long.
-pub fn misses_plain(table: &[u8], id: u32, k: u32) -> Answer
+pub fn misses_plain(table: &[u8], id: u32, k: u32) -> Result<u32, Refusal>
     ensures { result ≡ misses_of table.now id k }
 {
     let p = packings_for(table, id, k);
@@ -88,7 +88,7 @@ fn as_sieved(answer: Answer) -> Sieved
 }
 
 // How many deadlines the chain with the id misses at most in a run of k activations, of a stored table.
-pub fn at_most(table: &[u8], id: u32, k: u32) -> Sieved
+pub fn at_most(table: &[u8], id: u32, k: u32) -> Result<AtMost, Refusal>
     ensures { result ≡ at_most_of table.now id k }
 {
     as_sieved(packed(k, packings_of(table, id, k, How::Sieve)))

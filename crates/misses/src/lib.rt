@@ -13,18 +13,10 @@ pub use counting::{at_most, figure, misses, misses_plain, misses_with, packings_
 use packing::COMBINATIONS;
 use table::Table;
 
-// What the miss query answers: how many deadlines are missed, or the refusal's number.
-#[derive(Clone, Copy)]
-pub enum Answer {
-    Misses(u32),
-    Refused(u32),
-}
-
-// What the sieve answers: a number that the misses do not exceed, or the refusal's number. It is no miss count.
-#[derive(Clone, Copy)]
-pub enum Sieved {
-    AtMost(u32),
-    Refused(u32),
+// What the sieve answers: a number that the misses do not exceed. It is no miss count.
+#[derive(Clone, Copy, Debug, PartialEq, Eq)]
+pub struct AtMost {
+    pub most: u32,
 }
 
 // The figures of the full analysis that misses go by: K, latency, late, and the last window B(K).

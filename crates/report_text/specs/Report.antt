@@ -5,12 +5,11 @@ use Rattle.table.specs.Find.{rows}
 use Rattle.table.specs.Limits.{max_chains}
 use Rattle.table.specs.Read.{unless, read_table, table_of}
 use Rattle.table.specs.declared.Row.{Row}
-use Rattle.windows.specs.Latency.{latency_of}
-use Rattle.windows.specs.declared.Answer.{Answer as Latency}
-use Rattle.windows.specs.declared.Answer.TheVariants.{Figures, Refused as Unbounded}
-use Rattle.misses.specs.Misses.{misses_of}
-use Rattle.misses.specs.declared.Answer.{Answer as Missed}
-use Rattle.misses.specs.declared.Answer.TheVariants.{Misses, Refused}
+use Rattle.std.specs.declared.result.Result.TheVariants.{Ok, Err}
+use Rattle.table.specs.Refusal.{numbered}
+use Rattle.table.specs.declared.refusal.Refusal.{Refusal}
+use Rattle.windows.specs.Latency.{latency_of, Answer as Latency}
+use Rattle.misses.specs.Misses.{misses_of, Answer as Missed}
 use Rattle.report_text.specs.Numbers.{decimal, signed}
 
 -- `chain K latency late margin miss10`, and a line feed
@@ -29,8 +28,8 @@ abbrev pub after_space : List ℕ → List ℕ
 after_space word = 32 ∷ word
 
 -- `r` and a number
-abbrev pub refusal_text : ℕ → List ℕ
-refusal_text n = 114 ∷ decimal n
+abbrev pub refusal_text : Refusal → List ℕ
+refusal_text n = 114 ∷ decimal (numbered n)
 
 -- the misses are those for k = 10
 abbrev pub miss_run : ℕ
@@ -38,14 +37,14 @@ miss_run = 10
 
 -- `r` and a number if refused
 abbrev pub missed_text : Missed → List ℕ
-missed_text (Misses n) = decimal n
-missed_text (Refused n) = refusal_text n
+missed_text (Ok n) = decimal n
+missed_text (Err n) = refusal_text n
 
 -- K, latency, late, margin, misses; a latency refusal stands alone
 abbrev pub answers_text : Latency → Missed → List ℕ
-answers_text (Figures close latency late margin) missed =
-    after_space (decimal close) ++ after_space (decimal latency) ++ after_space (decimal late) ++ after_space (signed margin) ++ after_space (missed_text missed)
-answers_text (Unbounded n) missed = after_space (refusal_text n)
+answers_text (Ok f) missed =
+    after_space (decimal f.close) ++ after_space (decimal f.latency) ++ after_space (decimal f.late) ++ after_space (signed f.margin) ++ after_space (missed_text missed)
+answers_text (Err n) missed = after_space (refusal_text n)
 
 -- a line: the id, and the two answers
 abbrev pub line_text : ℕ → Latency → Missed → List ℕ
@@ -56,8 +55,8 @@ abbrev pub line_of : List ℕ → Row → List ℕ
 line_of s r = line_text r.id (latency_of s r.id) (misses_of s r.id miss_run)
 
 -- a refused table prints only one line, `refused`, the number and the place (02, request 1), without the header
-abbrev pub refused_text : ℕ → ℕ → List ℕ
-refused_text n place = refused_word ++ decimal n ++ after_space (decimal place) ++ feed
+abbrev pub refused_text : Refusal → ℕ → List ℕ
+refused_text n place = refused_word ++ decimal (numbered n) ++ after_space (decimal place) ++ feed
 
 -- the whole text: header, then a line per chain in table order
 unfoldable pub report_of : List ℕ → List ℕ

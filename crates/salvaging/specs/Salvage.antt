@@ -1,5 +1,5 @@
 -- Salvage of a damaged table (02, request 8): what the call answers, and what it leaves in its two buffers.
-use Rattle.std.specs.Prelude.{ℕ, ◌≡◌, ◌||◌, length, take, drop, eqb, ltb}
+use Rattle.std.specs.Prelude.{ℕ, ◌≡◌, ◌||◌, length, take, drop, eqb, ltb, is_ok}
 use mathlib.Core.List.{List, [], ◌∷◌, ◌++◌, map, flatten}
 use Rattle.search.specs.Choice.{◌when◌else◌}
 use Rattle.table.specs.Limits.{max_chains, max_input}
@@ -7,17 +7,20 @@ use Rattle.table.specs.Bytes.{bytes_of}
 use Rattle.table.specs.Record.{length_at, end_record}
 use Rattle.salvaging.specs.Kept.{kept_places}
 use Rattle.salvaging.specs.Skipped.{Stretch, skipped_from}
-use Rattle.salvaging.specs.declared.Salvaged.{Salvaged}
-use Rattle.salvaging.specs.declared.Salvaged.TheVariants.{Used, Refused}
+use Rattle.std.specs.declared.result.Result.{Result}
+use Rattle.std.specs.declared.result.Result.TheVariants.{Ok, Err}
+use Rattle.table.specs.declared.refusal.Refusal.{Refusal}
+use Rattle.table.specs.declared.refusal.Refusal.TheVariants.{BufferShort, InputTooLong, NothingKept}
+use Rattle.salvaging.specs.declared.Lengths.{Lengths}
 
--- the documents' number for each answer, 0 or the refusal, and its figures: the used lengths of the table and of the list, or none
-abbrev pub number_of : Salvaged → ℕ
-number_of (Used table list) = 0
-number_of (Refused n) = n
+-- what a salvage answers: the used lengths of the table and of the list, or the refusal
+abbrev pub Answer : Type 0
+Answer = Result Lengths Refusal
 
-abbrev pub values_of : Salvaged → List ℕ
-values_of (Used table list) = table ∷ list ∷ []
-values_of (Refused n) = []
+-- its values: these two, or none
+abbrev pub values_of : Answer → List ℕ
+values_of (Ok used) = used.table ∷ used.list ∷ []
+values_of (Err n) = []
 
 -- the record at a place, byte for byte
 abbrev pub record_at : List ℕ → ℕ → List ℕ
@@ -41,24 +44,24 @@ abbrev pub list_skipped : List ℕ → List ℕ
 list_skipped s = list_with s (kept_places s)
 
 -- 24 where either result is longer than its buffer
-abbrev pub fitted : ℕ → ℕ → List ℕ → List ℕ → Salvaged
+abbrev pub fitted : ℕ → ℕ → List ℕ → List ℕ → Answer
 fitted tableRoom listRoom table list =
-    Refused 24 when ltb tableRoom (length table) || ltb listRoom (length list) else
-    Used (length table) (length list)
+    Err BufferShort when ltb tableRoom (length table) || ltb listRoom (length list) else
+    Ok (record { table = length table; list = length list })
 
 -- 35 for an input that is too long, 36 where nothing is kept, then whether the results fit
-unfoldable pub salvaged_of : ℕ → ℕ → List ℕ → Salvaged
+unfoldable pub salvaged_of : ℕ → ℕ → List ℕ → Answer
 salvaged_of tableRoom listRoom s =
-    Refused 35 when ltb max_input (length s) else
-    Refused 36 when eqb (length (kept_places s)) 0 else
+    Err InputTooLong when ltb max_input (length s) else
+    Err NothingKept when eqb (length (kept_places s)) 0 else
     fitted tableRoom listRoom (table_kept s) (list_skipped s)
 
 -- a whole buffer after an answer: its result first, and its rest stays; refused, every byte stays
-abbrev pub buffer_after : Salvaged → List ℕ → List ℕ → List ℕ
-buffer_after answer result buffer = result ++ drop (length result) buffer when eqb (number_of answer) 0 else buffer
+abbrev pub buffer_after : Answer → List ℕ → List ℕ → List ℕ
+buffer_after answer result buffer = result ++ drop (length result) buffer when is_ok answer else buffer
 
 -- what a salvage does
-pub record Salvages (s table list : List ℕ) (answer : Salvaged) (tableAfter listAfter : List ℕ) : Type 0 where
+pub record Salvages (s table list : List ℕ) (answer : Answer) (tableAfter listAfter : List ℕ) : Type 0 where
   pub answers : answer ≡ salvaged_of (length table) (length list) s
   pub leaves_table : tableAfter ≡ buffer_after answer (table_kept s) table
   pub leaves_list : listAfter ≡ buffer_after answer (list_skipped s) list

@@ -8,19 +8,19 @@ mod put;
 mod walk;
 
 use put::fit;
-use table::Table;
+use table::{Refusal, Table};
 use walk::walk;
 
-// What a salvage answers: the used lengths of the table and of the list, or the refusal's number.
-#[derive(Clone, Copy)]
-pub enum Salvaged {
-    Used { table: u32, list: u32 },
-    Refused(u32),
+// What a salvage answers: the used lengths of the table and of the list.
+#[derive(Clone, Copy, Debug, PartialEq, Eq)]
+pub struct Lengths {
+    pub table: u32,
+    pub list: u32,
 }
 
 // The table of the records kept becomes the first bytes of `table`, the list of the stretches skipped those of `list`; refused, every byte
 // of both stays.
-pub fn salvage(s: &[u8], table: &mut [u8], list: &mut [u8]) -> Salvaged
+pub fn salvage(s: &[u8], table: &mut [u8], list: &mut [u8]) -> Result<Lengths, Refusal>
     ensures { Salvages s.now table.old list.old result table.new list.new }
 {
     if Table::INPUT < s.len() {

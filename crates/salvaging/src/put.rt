@@ -8,9 +8,9 @@ ghost use Rattle.salvaging.specs.Skipped.{between};
 ghost use Rattle.salvaging.specs.Salvage.{record_at, stretch_bytes, list_with};
 ghost use Rattle.salvaging.specs.Code.Walk.{InOrder, size_of, Fits};
 
-use crate::Salvaged;
+use crate::Lengths;
 use slices::put;
-use table::{Table, put_u32, record_length};
+use table::{Refusal, Table, put_u32, record_length};
 
 // How long the records are in all, and how many stretches lie between them and at the end.
 #[derive(Clone, Copy)]
@@ -91,7 +91,7 @@ fn put_stretches(s: &[u8], places: &[usize], out: &mut [u8]) -> usize
 }
 
 // 24 where either result is longer than its buffer; else both are put, the table with its end record.
-pub fn fit(s: &[u8], places: &[usize], table: &mut [u8], list: &mut [u8]) -> Salvaged
+pub fn fit(s: &[u8], places: &[usize], table: &mut [u8], list: &mut [u8]) -> Result<Lengths, Refusal>
     requires { InOrder s.now 0 places.now × (length places.now ≤ max_chains) × (length s.now ≤ max_input) }
     ensures { Fits s.now places.now table.old list.old result table.new list.new }
 {

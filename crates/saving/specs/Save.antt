@@ -1,30 +1,27 @@
 -- Saving one record: given a buffer, the used length, the old record as the editor saw it, and the new (01, 'Saving one record').
-use Rattle.std.specs.Prelude.{ℕ, max, ◌-◌, ◌≡◌, List, [], ◌∷◌, ◌++◌, Bool, not, ◌||◌, length, take, drop, replicate, ltb, eqb}
-use Rattle.search.specs.Choice.{◌when◌else◌, by_number}
+use Rattle.std.specs.Prelude.{ℕ, max, ◌-◌, ◌≡◌, List, [], ◌∷◌, ◌++◌, Bool, not, ◌||◌, length, take, drop, replicate, ltb, eqb, is_ok, ⊤}
+use Rattle.search.specs.Choice.{◌when◌else◌}
 use Rattle.search.specs.Find.{first}
 use Rattle.table.specs.Record.{form_at, id_at, head_length, length_at}
 use Rattle.table.specs.Find.{row_of}
 use Rattle.table.specs.Fault.{mark_of, is_chain}
-use Rattle.table.specs.Read.{number_of as verdictNumber, by_verdict, read_table, table_of}
+use Rattle.table.specs.Refusal.{answering}
+use Rattle.table.specs.Read.{by_verdict, refused_by, read_table, table_of}
 use Rattle.table.specs.Place.{length_of, place_of}
 use Rattle.slices.specs.Slices.{same, splice}
 use Rattle.slices.specs.Stored.{record_of}
-use Rattle.saving.specs.declared.Saved.{Saved}
-use Rattle.saving.specs.declared.Saved.TheVariants.{Used, Refused}
+use Rattle.std.specs.declared.result.Result.{Result}
+use Rattle.std.specs.declared.result.Result.TheVariants.{Ok, Err}
+use Rattle.table.specs.declared.refusal.Refusal.{Refusal}
+use Rattle.table.specs.declared.refusal.Refusal.TheVariants.{BadLength, StaleRecord, BadRecord, BufferShort}
 
--- the documents' number for each answer, 0 where the save is accepted
-abbrev pub number_of : Saved → ℕ
-number_of (Used n) = 0
-number_of (Refused n) = n
+-- what a save answers: the new used length, or the refusal
+abbrev pub Saved : Type 0
+Saved = Result ℕ Refusal
 
--- and its figures: the new used length, or none
-abbrev pub values_of : Saved → List ℕ
-values_of (Used n) = n ∷ []
-values_of (Refused n) = []
-
--- the number with which the table that the bytes store is refused, 0 if it is accepted
-abbrev pub read_fault : List ℕ → ℕ
-read_fault s = verdictNumber (read_table s).verdict
+-- why the table that the bytes store is refused, if it is
+abbrev pub read_fault : List ℕ → Result ⊤ Refusal
+read_fault s = refused_by (read_table s).verdict
 
 -- the number of the first chain whose stored record equals the old one, the count of chains if none does
 unfoldable pub seen_of : List ℕ → List ℕ → ℕ
@@ -44,24 +41,24 @@ unfoldable pub result_of : List ℕ → List ℕ → List ℕ → List ℕ
 result_of s old new = splice s (place_of (table_of s) (seen_of s old)) (length_of (row_of (table_of s) (seen_of s old))) new
 
 -- the result is longer than the buffer, which has that much room; then a table's numbers on the result
-unfoldable pub result_fault : ℕ → List ℕ → ℕ
-result_fault room result = 24 when ltb room (length result) else read_fault result
+unfoldable pub result_fault : ℕ → List ℕ → Result ⊤ Refusal
+result_fault room result = Err BufferShort when ltb room (length result) else read_fault result
 
 -- on an accepted table: 22, 23, 24, then a table's numbers on the result
-unfoldable pub replace_fault : ℕ → List ℕ → List ℕ → List ℕ → ℕ
+unfoldable pub replace_fault : ℕ → List ℕ → List ℕ → List ℕ → Result ⊤ Refusal
 replace_fault room s old new =
-    22 when eqb (seen_of s old) (table_of s).count else
-    23 when unfit new (row_of (table_of s) (seen_of s old)).id else
+    Err StaleRecord when eqb (seen_of s old) (table_of s).count else
+    Err BadRecord when unfit new (row_of (table_of s) (seen_of s old)).id else
     result_fault room (result_of s old new)
 
 -- a refused table refuses the save with its own number
-unfoldable pub change_fault : ℕ → List ℕ → List ℕ → List ℕ → ℕ
-change_fault room s old new = by_verdict (λ n. n) (read_table s).verdict (replace_fault room s old new)
+unfoldable pub change_fault : ℕ → List ℕ → List ℕ → List ℕ → Result ⊤ Refusal
+change_fault room s old new = by_verdict Err (read_table s).verdict (replace_fault room s old new)
 
 -- the table is the first `used` bytes of the buffer; 1 where those are more than it has
-unfoldable pub save_fault : List ℕ → ℕ → List ℕ → List ℕ → ℕ
+unfoldable pub save_fault : List ℕ → ℕ → List ℕ → List ℕ → Result ⊤ Refusal
 save_fault buffer used old new =
-    1 when ltb (length buffer) used else change_fault (length buffer) (take used buffer) old new
+    Err BadLength when ltb (length buffer) used else change_fault (length buffer) (take used buffer) old new
 
 -- the result first; bytes between a shorter end and the former end become 0; bytes past both ends stay
 unfoldable pub written : List ℕ → ℕ → List ℕ → List ℕ
@@ -70,11 +67,11 @@ written buffer used result = result ++ replicate (used - length result) 0 ++ dro
 -- The answer, and the whole buffer afterwards: refused, every byte stays
 
 unfoldable pub saved_of : List ℕ → ℕ → List ℕ → List ℕ → Saved
-saved_of buffer used old new = by_number Refused (save_fault buffer used old new) (Used (length (result_of (take used buffer) old new)))
+saved_of buffer used old new = answering (save_fault buffer used old new) (length (result_of (take used buffer) old new))
 
 unfoldable pub buffer_after : List ℕ → ℕ → List ℕ → List ℕ → List ℕ
 buffer_after buffer used old new =
-    written buffer used (result_of (take used buffer) old new) when eqb (save_fault buffer used old new) 0 else buffer
+    written buffer used (result_of (take used buffer) old new) when is_ok (save_fault buffer used old new) else buffer
 
 -- what a save does
 pub record Saves (buffer : List ℕ) (used : ℕ) (old new : List ℕ) (answer : Saved) (after : List ℕ) : Type 0 where

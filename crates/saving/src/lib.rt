@@ -4,7 +4,7 @@
 
 ghost use Rattle.saving.specs.Save.{Saves};
 
-use table::Table;
+use table::{Refusal, Table};
 
 mod judge;
 mod writing;
@@ -12,15 +12,8 @@ mod writing;
 use judge::judged;
 use writing::store;
 
-// What a save answers: the new used length, or the refusal.
-#[derive(Clone, Copy)]
-pub enum Saved {
-    Used(u32),
-    Refused(u32),
-}
-
 // Replaces the record `old`, as the editor saw it, by `new`, in the table that is the first `used` bytes of the buffer.
-pub fn save(buffer: &mut [u8], used: u64, old: &[u8], new: &[u8]) -> Saved
+pub fn save(buffer: &mut [u8], used: u64, old: &[u8], new: &[u8]) -> Result<u32, Refusal>
     ensures { Saves buffer.old used old.now new.now result buffer.new }
 {
     let room = buffer.len();

@@ -12,17 +12,15 @@ use Rattle.table.specs.declared.Table.{Table}
 use Rattle.segments.specs.Tasks.{Task}
 use Rattle.segments.specs.Segments.{active_tasks}
 use Rattle.segments.specs.Actives.{Active, nothing, actives_of}
-use Rattle.segments.specs.declared.Answer.{Answer}
-use Rattle.segments.specs.declared.Answer.TheVariants.{Records, Refused}
+use Rattle.std.specs.declared.result.Result.{Result}
+use Rattle.std.specs.declared.result.Result.TheVariants.{Ok, Err}
+use Rattle.table.specs.declared.Part.{Part}
+use Rattle.table.specs.declared.refusal.Refusal.{Refusal}
+use Rattle.table.specs.declared.refusal.Refusal.TheVariants.{NoChain, SameChain, NoSuchSegment}
 
--- the documents' number for each answer, 0 or the refusal, and its values, offset and length
-abbrev pub number_of : Answer → ℕ
-number_of (Records offset len) = 0
-number_of (Refused n) = n
-
-abbrev pub values_of : Answer → List ℕ
-values_of (Records offset len) = offset ∷ len ∷ []
-values_of (Refused n) = []
+-- what the query answers: the part of the table's bytes that the task records are, or the refusal
+abbrev pub Answer : Type 0
+Answer = Result Part Refusal
 
 -- the active segments of one chain of a table against another
 abbrev pub actives_in : Table → ℕ → ℕ → List Active
@@ -30,33 +28,33 @@ actives_in t chain other = actives_of (row_of t chain) (row_of t other)
 
 -- the task records of an active segment of a chain, 8 bytes each: their offset from the table's first byte, and their length
 abbrev pub records_of : Table → ℕ → Active → Answer
-records_of t chain s = Records (place_of t chain + tasks_start (row_of t chain) + 8 * s.start) (8 * s.len)
+records_of t chain s = Ok (record { offset = place_of t chain + tasks_start (row_of t chain) + 8 * s.start; length = 8 * s.len })
 
 -- the active segment of that number, counted from 1; 26 if there is none
 unfoldable pub nth_of : Table → ℕ → ℕ → ℕ → Answer
 nth_of t chain other number =
-    Refused 26 when outside 1 (length (actives_in t chain other)) number else
+    Err NoSuchSegment when outside 1 (length (actives_in t chain other)) number else
     records_of t chain (get_or (actives_in t chain other) (number - 1) nothing)
 
 -- of the chain with one id against the chain with the other: 12 for either id, then 25, then 26
 unfoldable pub answer_of : Table → ℕ → ℕ → ℕ → Answer
 answer_of t id against number =
-    Refused 12 when not (used t id) || not (used t against) else
-    Refused 25 when eqb id against else
+    Err NoChain when not (used t id) || not (used t against) else
+    Err SameChain when eqb id against else
     nth_of t (find_of t id) (find_of t against) number
 
 -- over a stored table, whose own refusals come first
 unfoldable pub segment_of : List ℕ → ℕ → ℕ → ℕ → Answer
-segment_of s id against number = by_verdict Refused (read_table s).verdict (answer_of (table_of s) id against number)
+segment_of s id against number = by_verdict Err (read_table s).verdict (answer_of (table_of s) id against number)
 
 -- handed back as that part of the caller's own table bytes; a refusal hands back an empty part
 abbrev pub part_of : List ℕ → Answer → List ℕ
-part_of s (Records offset len) = take len (drop offset s)
-part_of s (Refused n) = []
+part_of s (Ok part) = take part.length (drop part.offset s)
+part_of s (Err n) = []
 
 abbrev pub offset_of : Answer → ℕ
-offset_of (Records offset len) = offset
-offset_of (Refused n) = 0
+offset_of (Ok part) = part.offset
+offset_of (Err n) = 0
 
 -- r is that part of the lent table: these bytes, where they stand in its memory (a block, and a place in it)
 pub record HandedBack (table r : Bor (List ℕ)) (answer : Answer) : Type 0 where

@@ -22,10 +22,3 @@ pub struct Actives {
     pub cost: [u32; Table::TASKS],
     pub segment: [usize; Table::TASKS],
 }
-
-// The task records of an active segment: their offset from the table's first byte and their length; or the refusal.
-#[derive(Clone, Copy)]
-pub enum Answer {
-    Records { offset: u32, length: u32 },
-    Refused(u32),
-}

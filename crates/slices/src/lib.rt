@@ -7,14 +7,7 @@ ghost use Rattle.table.specs.Code.Taken.{Taken};
 ghost use Rattle.slices.specs.Slices.{same as sameOf, splice};
 ghost use Rattle.slices.specs.Locate.{record_in, located_of};
 
-use table::{Verdict, u32_at, u64_at};
-
-// Where a record stands: its offset from the table's first byte and its length, or the refusal.
-#[derive(Clone, Copy)]
-pub enum Located {
-    Record { offset: u32, length: u32 },
-    Refused(u32),
-}
+use table::{Part, Refusal, u32_at, u64_at};
 
 // How far the two agree for certain: eight bytes at a time, and four at last, since a record's length is a multiple of four, or, in `CG`,
 // one more than that.
@@ -56,27 +49,22 @@ pub fn put(to: &mut [u8], at: usize, from: &[u8])
 }
 
 // The record of the chain that bears the id, in an accepted table.
-fn record_in(s: &[u8], id: u32) -> Located
+fn record_in(s: &[u8], id: u32) -> Result<Part, Refusal>
     requires { Taken s.now }
     ensures { result ≡ record_in (table_of s.now) id }
 {
-    let chain = table::find(s, id);
-    if chain < table::count(s) {
-        let at = table::place(s, chain);
-        return Located::Record {
-            offset: at as u32,
-            length: table::record_length(s, at) as u32,
-        };
-    }
-    Located::Refused(12)
+    let chain = table::find(s, id).ok_or(Refusal::NoChain)?;
+    let at = table::place(s, chain);
+    Ok(Part {
+        offset: at as u32,
+        length: table::record_length(s, at) as u32,
+    })
 }
 
 // Where the record of the chain that bears the id stands.
-pub fn record(s: &[u8], id: u32) -> Located
+pub fn record(s: &[u8], id: u32) -> Result<Part, Refusal>
     ensures { result ≡ located_of s.now id }
 {
-    match table::judge(s) {
-        Verdict::Accepted => record_in(s, id),
-        Verdict::Refused(n, _) => Located::Refused(n),
-    }
+    table::judge(s)?;
+    record_in(s, id)
 }

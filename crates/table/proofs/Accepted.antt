@@ -26,11 +26,13 @@ use Rattle.table.specs.Code.Good.{GoodRow, GoodTable}
 use Rattle.table.specs.Code.Taken.{Taken, Holds}
 use Rattle.table.specs.declared.Row.{Row}
 use Rattle.table.specs.declared.Table.{Table}
-use Rattle.table.specs.declared.Reading.{Reading}
+use Rattle.table.specs.Read.{Reading}
 use Rattle.table.specs.declared.Mark.{Mark}
 use Rattle.table.specs.declared.Mark.TheVariants.{Chain, Task, End, Unknown}
-use Rattle.table.specs.declared.Verdict.{Verdict}
-use Rattle.table.specs.declared.Verdict.TheVariants.{Accepted, Refused}
+use Rattle.table.specs.Refusal.{Verdict}
+use Rattle.std.specs.declared.result.Result.TheVariants.{Ok, Err}
+use Rattle.table.specs.declared.refusal.Refusal.{Refusal}
+use Rattle.table.specs.declared.refusal.Refusal.TheVariants.{BadLength, BytesMissing, BadMark, BadChainCount}
 use Rattle.table.proofs.Firsts.{or_right, not-accepted, when_none}
 use Rattle.table.proofs.Faultless.{chain-right, BesideRight, beside-right}
 use Rattle.table.proofs.Goods.{row-good}
@@ -80,7 +82,7 @@ fresh t id e chain h =
 
 -- one row more
 module _ (s : List ℕ) (at : ℕ) (t : Table) (g : RowsKept s at t) (bytes : Bytes s) (room : t.count < max_chains)
-    (mark : mark_of (word 2 s at) ≡ Chain) (form : form_at s at ≡ form_at s 0) (right : chain_fault s at t ≡ Accepted) where
+    (mark : mark_of (word 2 s at) ≡ Chain) (form : form_at s at ≡ form_at s 0) (right : chain_fault s at t ≡ Ok tt) where
   abbrev r : Row
   r = row_at s at
 
@@ -149,19 +151,19 @@ module _ (s : List ℕ) (at : ℕ) (t : Table) (g : RowsKept s at t) (bytes : By
 
 -- what is to be shown of a reading
 GoodReading : List ℕ → Reading → Type 0
-GoodReading s r = r.verdict ≡ Accepted → GoodTable r.table × Holds s r.table
+GoodReading s r = r.verdict ≡ Ok tt → GoodTable r.table × Holds s r.table
 
-refused : (s : List ℕ) (n place : ℕ) → GoodReading s (refusal n place)
+refused : (s : List ℕ) (n : Refusal) (place : ℕ) → GoodReading s (refusal n place)
 unfolding GoodReading
 refused s n place e = absurd (not-accepted e)
 
-unless-sound : (s : List ℕ) (v : Verdict) (r : Reading) → (v ≡ Accepted → GoodReading s r) → GoodReading s (unless refusal v r)
+unless-sound : (s : List ℕ) (v : Verdict) (r : Reading) → (v ≡ Ok tt → GoodReading s r) → GoodReading s (unless refusal v r)
 unfolding unless
-unless-sound s Accepted r f = f refl
-unless-sound s (Refused n place) r f = refused s n place
+unless-sound s (Ok u) r g = g refl
+unless-sound s (Err f) r g = refused s f.0 f.1
 
 -- the end record is whole, counts the rows, and is the last
-end-sound : (s : List ℕ) (at : ℕ) (t : Table) → RowsKept s at t → mark_of (word 2 s at) ≡ End → end_fault s at t ≡ Accepted → GoodReading s (accepted t)
+end-sound : (s : List ℕ) (at : ℕ) (t : Table) → RowsKept s at t → mark_of (word 2 s at) ≡ End → end_fault s at t ≡ Ok tt → GoodReading s (accepted t)
 unfolding end_fault GoodReading
 end-sound s at t g mark e a =
     let some = when_none _ _ _ _ (when_none _ _ _ _ e).1 in
@@ -184,33 +186,33 @@ start-sound : (s : List ℕ) (at : ℕ) (t : Table) (next : Reading) → RowsKep
     → GoodReading s (start s at t next)
 unfolding start
 start-sound s at t next g f =
-    when_cases (GoodReading s) (ltb (length s) (at + 2)) (λ e. refused s 2 (length s)) (λ e. by (mark_of (word 2 s at)) refl)
+    when_cases (GoodReading s) (ltb (length s) (at + 2)) (λ e. refused s BytesMissing (length s)) (λ e. by (mark_of (word 2 s at)) refl)
   where
     by : (m : Mark) → mark_of (word 2 s at) ≡ m → GoodReading s (by_mark at m (unless refusal (beside_fault s at (form_at s 0) t) next) (unless refusal (end_fault s at t) (accepted t)))
     by Chain e = unless-sound s (beside_fault s at (form_at s 0) t) next (λ h. f e (beside-right s at (form_at s 0) t h))
-    by Task e = refused s 3 at
+    by Task e = refused s BadMark at
     by End e = unless-sound s (end_fault s at t) (accepted t) (end-sound s at t g e)
-    by Unknown e = refused s 3 at
+    by Unknown e = refused s BadMark at
 
 records-sound : (left : ℕ) (s : List ℕ) (at : ℕ) (t : Table) → Bytes s → RowsKept s at t → t.count + left ≤ max_chains → GoodReading s (records left s at t)
 unfolding records
-records-sound zero s at t bytes g h = start-sound s at t (refusal 11 at) g (λ m r. refused s 11 at)
+records-sound zero s at t bytes g h = start-sound s at t (refusal BadChainCount at) g (λ m r. refused s BadChainCount at)
 records-sound (suc left) s at t bytes g h =
     start-sound s at t _ g
     (λ m r. records-sound left s (at + length_at s at) (plus t (row_at s at)) bytes (kept-plus s at t g bytes (omega arith) m r.form r.chain) (omega arith))
 
 sound : (s : List ℕ) → Bytes s → GoodReading s (read_table s)
 unfolding read_table
-sound s bytes = when_cases (GoodReading s) (eqb (length s) 0 || ltb (limit_of (word 2 s 0)) (length s)) (λ e. refused s 1 0)
+sound s bytes = when_cases (GoodReading s) (eqb (length s) 0 || ltb (limit_of (word 2 s 0)) (length s)) (λ e. refused s BadLength 0)
     (λ e. records-sound max_chains s 0 empty bytes (kept-empty s) (omega arith))
 
 -- the bytes of an accepted table: within every limit, and they hold it
-pub taken : (s : List ℕ) → Bytes s → (read_table s).verdict ≡ Accepted → Taken s
+pub taken : (s : List ℕ) → Bytes s → (read_table s).verdict ≡ Ok tt → Taken s
 unfolding GoodReading
 taken s bytes a = let x = sound s bytes a in record { good = x.0; holds = x.1 }
 
 -- an accepted table is within the limit by its first mark
-pub accepted-short : (s : List ℕ) → (read_table s).verdict ≡ Accepted → length s ≤ limit_of (word 2 s 0)
+pub accepted-short : (s : List ℕ) → (read_table s).verdict ≡ Ok tt → length s ≤ limit_of (word 2 s 0)
 accepted-short s e =
     ⊎_elim (λ h. absurd (not-accepted (sym (ap (λ (r : Reading). r.verdict) (read-long s (or_right (eqb (length s) 0) _ (lt-ltb _ _ h)))) ∙ e))) (λ h. h)
     (lt_or_le (limit_of (word 2 s 0)) (length s))

@@ -16,7 +16,8 @@ use Rattle.table.specs.Fault.{outside, mark_of, no_task, identity_fault, times_f
 use Rattle.table.specs.declared.Table.{Table}
 use Rattle.table.specs.declared.Mark.{Mark}
 use Rattle.table.specs.declared.Mark.TheVariants.{Chain, Task, End, Unknown}
-use Rattle.table.specs.declared.Verdict.TheVariants.{Accepted, Refused}
+use Rattle.std.specs.declared.result.Result.TheVariants.{Ok, Err}
+use Rattle.table.specs.declared.refusal.Refusal.TheVariants.{BadMark, BadChainCount}
 use Rattle.table.proofs.Firsts.{none_or, not-accepted, when_none, then_none}
 
 pub inside : (low high x : ℕ) → outside low high x ≡ false → (low ≤ x) × (x ≤ high)
@@ -39,7 +40,7 @@ pub record HeadRight (s : List ℕ) (at : ℕ) (t : Table) : Type 0 where
   pub tasks : (1 ≤ tasks_at s at) × (tasks_at s at ≤ max_tasks)
   pub all : t.tasks + tasks_at s at ≤ max_all_tasks
 
-pub head-right : (s : List ℕ) (at : ℕ) (t : Table) → head_fault s at t ≡ Accepted → HeadRight s at t
+pub head-right : (s : List ℕ) (at : ℕ) (t : Table) → head_fault s at t ≡ Ok tt → HeadRight s at t
 unfolding head_fault identity_fault times_fault counts_fault
 head-right s at t e =
     let there = when_none _ _ _ _ e in
@@ -69,11 +70,11 @@ head-right s at t e =
 
 pub record ListRight (s : List ℕ) (at : ℕ) : Type 0 where
   pub there : largest_place s at ≤ length s
-  pub rises : fall_fault 0 (distances_at s at) (list_place s at) ≡ Accepted
-  pub ends : last_fault (distances_at s at) (list_place s at) ≡ Accepted
-  pub gap : gap_fault (gap_at s at) (distances_at s at) (gap_place at) ≡ Accepted
+  pub rises : fall_fault 0 (distances_at s at) (list_place s at) ≡ Ok tt
+  pub ends : last_fault (distances_at s at) (list_place s at) ≡ Ok tt
+  pub gap : gap_fault (gap_at s at) (distances_at s at) (gap_place at) ≡ Ok tt
 
-pub list_right : (s : List ℕ) (at : ℕ) → list_fault s at ≡ Accepted → ListRight s at
+pub list_right : (s : List ℕ) (at : ℕ) → list_fault s at ≡ Ok tt → ListRight s at
 unfolding list_fault distances_fault
 list_right s at e =
     let there = when_none _ _ _ _ e in
@@ -84,9 +85,9 @@ list_right s at e =
 pub record LargestRight (s : List ℕ) (at : ℕ) : Type 0 where
   pub flag : flag_at s at ≤ 1
   pub there : first_task s at ≤ length s
-  pub long : short_fault 0 (distances_at s at) (largests_at s at) (largest_place s at) ≡ Accepted
+  pub long : short_fault 0 (distances_at s at) (largests_at s at) (largest_place s at) ≡ Ok tt
 
-pub largest-right : (s : List ℕ) (at : ℕ) → largest_fault s at ≡ Accepted → LargestRight s at
+pub largest-right : (s : List ℕ) (at : ℕ) → largest_fault s at ≡ Ok tt → LargestRight s at
 unfolding largest_fault
 largest-right s at e =
     let flag = when_none _ _ _ _ e in
@@ -94,7 +95,7 @@ largest-right s at e =
     record { flag = ltb-false _ _ flag.0; there = ltb-false _ _ there.0; long = there.1 }
 
 -- a mark that is refused nowhere a task stands is a task's
-mark-task : (m : Mark) (at : ℕ) → no_task m at ≡ Accepted → m ≡ Task
+mark-task : (m : Mark) (at : ℕ) → no_task m at ≡ Ok tt → m ≡ Task
 mark-task Task at e = refl
 mark-task Chain at e = absurd (not-accepted e)
 mark-task End at e = absurd (not-accepted e)
@@ -106,7 +107,7 @@ pub record TaskRight (s : List ℕ) (at : ℕ) : Type 0 where
   pub priority : 1 ≤ priority_at s at
   pub cost : (1 ≤ cost_at s at) × (cost_at s at ≤ max_cost)
 
-pub task-right : (s : List ℕ) (at : ℕ) → task_fault s at ≡ Accepted → TaskRight s at
+pub task-right : (s : List ℕ) (at : ℕ) → task_fault s at ≡ Ok tt → TaskRight s at
 unfolding task_fault task_mark_fault task_rest_fault values_fault
 task-right s at e =
     let mark = when_none _ _ _ _ (then_none _ _ e).0 in
@@ -120,7 +121,7 @@ task-right s at e =
       cost = inside 1 max_cost (cost_at s at) cost.0;
     }
 
-pub tasks-right : (s : List ℕ) (n at : ℕ) → tasks_fault s n at ≡ Accepted → (i : ℕ) → i < n → TaskRight s (at + 8 * i)
+pub tasks-right : (s : List ℕ) (n at : ℕ) → tasks_fault s n at ≡ Ok tt → (i : ℕ) → i < n → TaskRight s (at + 8 * i)
 unfolding tasks_fault
 tasks-right s zero at e i h = absurd (omega arith)
 tasks-right s (suc n) at e zero h =
@@ -137,7 +138,7 @@ pub record ChainRight (s : List ℕ) (at : ℕ) (t : Table) : Type 0 where
   pub tasks : (i : ℕ) → i < tasks_at s at → TaskRight s (first_task s at + 8 * i)
   pub there : at + length_at s at ≤ length s
 
-pub chain-right : (s : List ℕ) (at : ℕ) (t : Table) → chain_fault s at t ≡ Accepted → ChainRight s at t
+pub chain-right : (s : List ℕ) (at : ℕ) (t : Table) → chain_fault s at t ≡ Ok tt → ChainRight s at t
 unfolding chain_fault
 chain-right s at t e =
     let e1 = then_none _ _ e in
@@ -151,9 +152,9 @@ chain-right s at t e =
 pub record BesideRight (s : List ℕ) (at f : ℕ) (t : Table) : Type 0 where
   pub form : form_at s at ≡ f
   pub room : t.count ≡ max_chains → ⊥
-  pub chain : chain_fault s at t ≡ Accepted
+  pub chain : chain_fault s at t ≡ Ok tt
 
-pub beside-right : (s : List ℕ) (at f : ℕ) (t : Table) → beside_fault s at f t ≡ Accepted → BesideRight s at f t
+pub beside-right : (s : List ℕ) (at f : ℕ) (t : Table) → beside_fault s at f t ≡ Ok tt → BesideRight s at f t
 unfolding beside_fault
 beside-right s at f t e =
     let form = when_none _ _ _ _ e in
@@ -162,11 +163,11 @@ beside-right s at f t e =
 
 -- a fault of its form, one too many, and what is judged where there is neither
 module _ (s : List ℕ) (at f : ℕ) (t : Table) where
-  pub beside-other : (form_at s at ≡ f → ⊥) → beside_fault s at f t ≡ Refused 3 at
+  pub beside-other : (form_at s at ≡ f → ⊥) → beside_fault s at f t ≡ Err (BadMark, at)
   unfolding beside_fault
   beside-other h = when_yes _ _ (ap not (ne_eqb _ _ h))
 
-  pub beside-full : form_at s at ≡ f → t.count ≡ max_chains → beside_fault s at f t ≡ Refused 11 at
+  pub beside-full : form_at s at ≡ f → t.count ≡ max_chains → beside_fault s at f t ≡ Err (BadChainCount, at)
   unfolding beside_fault
   beside-full e n = when_no _ _ (ap not (eq-eqb _ _ e)) ∙ when_yes _ _ (eq-eqb _ _ n)
 

@@ -22,11 +22,14 @@ use Rattle.table.specs.Read.{empty, plus, refusal, accepted, unless, by_mark, st
 use Rattle.table.specs.Field.{record_start, tasks_before, ChainMark, Chains, EndMark, EndRecord, ChainRecord, ListThere, LargestThere, task_place, TaskThere, before_of, FirstFall, Rises, Blames, TableRefusal, Placed}
 use Rattle.table.specs.declared.Row.{Row}
 use Rattle.table.specs.declared.Table.{Table}
-use Rattle.table.specs.declared.Reading.{Reading}
+use Rattle.table.specs.Read.{Reading}
 use Rattle.table.specs.declared.Mark.{Mark}
 use Rattle.table.specs.declared.Mark.TheVariants.{Chain, Task, End, Unknown}
-use Rattle.table.specs.declared.Verdict.{Verdict}
-use Rattle.table.specs.declared.Verdict.TheVariants.{Accepted, Refused}
+use Rattle.table.specs.Refusal.{Verdict, numbered}
+use Rattle.std.specs.declared.result.Result.TheVariants.{Ok, Err}
+use Rattle.table.specs.declared.refusal.Fault.{Fault}
+use Rattle.table.specs.declared.refusal.Refusal.{Refusal}
+use Rattle.table.specs.declared.refusal.Refusal.TheVariants.{BadLength, BadDistance, BadChainCount}
 use Rattle.table.proofs.Lists.{length-spaced}
 use Rattle.table.proofs.Firsts.{or_right, or_cases, not-accepted, when_none}
 use Rattle.table.proofs.Steps.{read-long}
@@ -35,13 +38,13 @@ use Rattle.table.proofs.Faultless.{head-right, list_right, largest-right, not-ze
 
 -- a verdict that refuses points at such a field
 abbrev Points : List ℕ → Verdict → Type 0
-Points s Accepted = Unit {0}
-Points s (Refused n place) = Blames s n place
+Points s (Ok u) = Unit {0}
+Points s (Err f) = Blames s (numbered f.0) f.1
 
-then_points : (s : List ℕ) (a b : Verdict) → Points s a → (a ≡ Accepted → Points s b) → Points s (a then b)
+then_points : (s : List ℕ) (a b : Verdict) → Points s a → (a ≡ Ok tt → Points s b) → Points s (a then b)
 unfolding ◌then◌
-then_points s Accepted b p q = q refl
-then_points s (Refused n place) b p q = p
+then_points s (Ok u) b p q = q refl
+then_points s (Err f) b p q = p
 
 -- what is known where the record after n chain records is looked at, the rows of these being those of t
 record Walked (s : List ℕ) (n : ℕ) (t : Table) : Type 0 where
@@ -52,7 +55,7 @@ record Walked (s : List ℕ) (n : ℕ) (t : Table) : Type 0 where
   size : length t.row ≡ max_chains
 
 -- the list
-module _ (all : List ℕ) (from : ℕ) (P : Verdict → Type 0) (none : Rises all → P Accepted) (found : (j : ℕ) → FirstFall all j → P (Refused 29 (from + 4 * j))) where
+module _ (all : List ℕ) (from : ℕ) (P : Verdict → Type 0) (none : Rises all → P (Ok tt)) (found : (j : ℕ) → FirstFall all j → P (Err (BadDistance, from + 4 * j))) where
   fall_from : (ds : List ℕ) (j before at : ℕ) → at ≡ from + 4 * j → before ≡ before_of all j → j + length ds ≡ length all → ((i : ℕ) → get_or ds i 0 ≡ get_or all (j + i) 0)
       → ((i : ℕ) → i < j → outside (before_of all i) max_distance (get_or all i 0) ≡ false) → P (fall_fault before ds at)
   unfolding fall_fault before_of
@@ -147,10 +150,10 @@ module _ (s : List ℕ) (n : ℕ) (t : Table) (w : Walked s n t) (room : n < max
     long : length ds ≡ listed_at s at
     long = length-spaced (word 4 s) 4 (listed_at s at) (list_place s at)
 
-    fall_points : Points s (fall_fault 0 ds (list_place s at)) × (fall_fault 0 ds (list_place s at) ≡ Accepted → Rises ds)
+    fall_points : Points s (fall_fault 0 ds (list_place s at)) × (fall_fault 0 ds (list_place s at) ≡ Ok tt → Rises ds)
     unfolding before_of
     fall_points =
-        fall_from ds (list_place s at) (λ v. Points s v × (v ≡ Accepted → Rises ds)) (λ r. (tt, λ e. r)) (λ j f. (Blames.at_distance n j l f, λ e. absurd (not-accepted e)))
+        fall_from ds (list_place s at) (λ v. Points s v × (v ≡ Ok tt → Rises ds)) (λ r. (tt, λ e. r)) (λ j f. (Blames.at_distance n j l f, λ e. absurd (not-accepted e)))
         ds 0 0 (list_place s at) (omega arith) refl (omega arith)
         (λ i. ap (λ k. get_or ds k 0) (omega arith)) (λ i h. absurd (omega arith))
 
@@ -158,7 +161,7 @@ module _ (s : List ℕ) (n : ℕ) (t : Table) (w : Walked s n t) (room : n < max
     unfolding last_fault
     last_points r = rw long (when_cases (Points s) (eqb (get_or ds (listed_at s at - 1) 0) 0) (λ e. Blames.at_last n l r (eqb-true _ _ e)) (λ e. tt))
 
-    last_some : last_fault ds (list_place s at) ≡ Accepted → 0 < get_or ds (listed_at s at - 1) 0
+    last_some : last_fault ds (list_place s at) ≡ Ok tt → 0 < get_or ds (listed_at s at - 1) 0
     unfolding last_fault
     last_some e = subst (λ m. 0 < get_or ds (m - 1) 0) long (not-zero _ (when_none _ _ _ _ e).0)
 
@@ -169,7 +172,7 @@ module _ (s : List ℕ) (n : ℕ) (t : Table) (w : Walked s n t) (room : n < max
         let j = short-at (gap_at s at) 1 ds b.1 in
         Blames.at_small_gap n j.0 l r some (not-zero _ (not-true _ b.0)) (omega (arith, j.1, long)) j.2) (λ e. tt)
 
-  list_points : head_fault s at t ≡ Accepted → Points s (list_fault s at)
+  list_points : head_fault s at t ≡ Ok tt → Points s (list_fault s at)
   unfolding list_fault distances_fault
   list_points e =
       let h = head-right s at t e in
@@ -292,10 +295,10 @@ end_points s n t w few mark =
 PointsAt : List ℕ → Reading → Type 0
 PointsAt s r = Points s r.verdict
 
-unless_points : (s : List ℕ) (v : Verdict) (r : Reading) → Points s v → (v ≡ Accepted → PointsAt s r) → PointsAt s (unless refusal v r)
+unless_points : (s : List ℕ) (v : Verdict) (r : Reading) → Points s v → (v ≡ Ok tt → PointsAt s r) → PointsAt s (unless refusal v r)
 unfolding unless PointsAt
-unless_points s Accepted r p q = q refl
-unless_points s (Refused n place) r p q = p
+unless_points s (Ok u) r p q = q refl
+unless_points s (Err f) r p q = p
 
 -- a chain beside those before it: its form, one too many, or itself
 beside_points : (s : List ℕ) (n : ℕ) (t : Table) → Walked s n t → n ≤ max_chains → record_start s n + 2 ≤ length s → mark_of (word 2 s (record_start s n)) ≡ Chain
@@ -328,7 +331,7 @@ start_points s n t next w few f =
 records_points : (left : ℕ) (s : List ℕ) (n : ℕ) (t : Table) → Walked s n t → n + left ≡ max_chains → PointsAt s (records left s (record_start s n) t)
 unfolding records record_start PointsAt
 records_points zero s n t w e =
-    start_points s n t (refusal 11 (record_start s n)) w (omega arith) (λ mark r. absurd (r.room (w.count ∙ omega arith)))
+    start_points s n t (refusal BadChainCount (record_start s n)) w (omega arith) (λ mark r. absurd (r.room (w.count ∙ omega arith)))
 records_points (suc left) s n t w e =
     start_points s n t _ w (omega arith)
     (λ mark r. records_points left s (suc n) (plus t (row_at s (record_start s n))) (walked_on s n t w (omega arith) mark) (omega arith))
@@ -345,7 +348,7 @@ table_points s =
     (λ e. records_points max_chains s 0 empty (walked_none s) refl)
 
 -- every refusal points at the field that its number names
-pub blames : (s : List ℕ) {n place : ℕ} → (read_table s).verdict ≡ Refused n place → Blames s n place
+pub blames : (s : List ℕ) {n : Refusal} {place : ℕ} → (read_table s).verdict ≡ Err (n, place) → Blames s (numbered n) place
 unfolding PointsAt
 blames s e = subst (Points s) e (table_points s)
 
@@ -390,17 +393,17 @@ placed s (Blames.at_seventeenth r h) = record { number = second (lit≤ tt) (lit
 placed s (Blames.at_count n r h) = record { number = second (lit≤ tt) (lit≤ tt); within = inl (omega (arith, r.there)) }
 placed s (Blames.at_trailing n r some g h) = record { number = second (lit≤ tt) (lit≤ tt); within = inl h }
 
-pub refused-placed : (s : List ℕ) {n place : ℕ} → (read_table s).verdict ≡ Refused n place → Placed s n place
+pub refused-placed : (s : List ℕ) {n : Refusal} {place : ℕ} → (read_table s).verdict ≡ Err (n, place) → Placed s (numbered n) place
 refused-placed s e = placed s (blames s e)
 
 -- no refusal has the number 0
-pub some_number : (s : List ℕ) {n place : ℕ} → (read_table s).verdict ≡ Refused n place → 0 < n
+pub some_number : (s : List ℕ) {n : Refusal} {place : ℕ} → (read_table s).verdict ≡ Err (n, place) → 0 < numbered n
 some_number s e = ⊎_elim (λ h. h.0) (λ g. ⊎_elim (λ h. omega (arith, h.0)) (λ k. ⊎_elim (λ h. omega (arith, h.0)) (λ h. omega (arith, h)) k) g) (refused-placed s e).number
 
 -- and no place is beyond the longest table
-pub small-place : (s : List ℕ) {n place : ℕ} → (read_table s).verdict ≡ Refused n place → place ≤ max_bytes
+pub small-place : (s : List ℕ) {n : Refusal} {place : ℕ} → (read_table s).verdict ≡ Err (n, place) → place ≤ max_bytes
 small-place s {n = n} {place = place} e = ⊎_elim
-    (λ h. let f : Refused 1 0 ≡ Refused n place = sym (ap (λ (r : Reading). r.verdict) (read-long s (or_right (eqb (length s) 0) _ (beyond-both s (word 2 s 0) h)))) ∙ e in
-    let z : 0 ≡ place = cc in omega arith)
+    (λ h. let f : ◌≡◌ {A = Verdict} (Err (BadLength, 0)) (Err (n, place)) = sym (ap (λ (r : Reading). r.verdict) (read-long s (or_right (eqb (length s) 0) _ (beyond-both s (word 2 s 0) h)))) ∙ e in
+    let g : ◌≡◌ {A = Fault} (BadLength, 0) (n, place) = cc in let z : 0 ≡ place = ap (λ (x : Fault). x.1) g in omega arith)
     (λ h. ⊎_elim (λ g. omega (arith, g)) (λ g. ⊎_elim (λ k. omega (arith, k.1)) (λ k. omega (arith, k.1)) g) (refused-placed s e).within)
     (lt_or_le max_bytes (length s))

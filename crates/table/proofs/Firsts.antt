@@ -8,8 +8,12 @@ use Rattle.search.specs.Choice.{◌when◌else◌}
 use Rattle.table.specs.Fault.{◌then◌}
 use Rattle.table.specs.Read.{unless, refusal, accepted}
 use Rattle.table.specs.declared.Table.{Table}
-use Rattle.table.specs.declared.Verdict.{Verdict}
-use Rattle.table.specs.declared.Verdict.TheVariants.{Accepted, Refused}
+use Rattle.table.specs.Refusal.{Verdict}
+use Rattle.std.specs.declared.result.Result.{Result}
+use Rattle.std.specs.declared.result.Result.TheVariants.{Ok, Err}
+use Rattle.std.specs.Result.{IsErrAnd}
+use Rattle.std.proofs.lemmas.Result.{err_from_is_err_and}
+use Rattle.table.specs.declared.refusal.Refusal.{Refusal}
 
 -- what a test gives where an earlier one has not
 pub or_left : (a b : Bool) → a ≡ true → (a || b) ≡ true
@@ -31,39 +35,43 @@ or_cases true b e = inl refl
 or_cases false b e = inr e
 
 -- a refusal is not accepted
-pub not-accepted : {n place : ℕ} → Refused n place ≡ Accepted → ⊥
+pub not-accepted : {n : Refusal} {place : ℕ} → ◌≡◌ {A = Verdict} (Err (n, place)) (Ok tt) → ⊥
 not-accepted e = let z : ◌≡◌ {A = ℕ} 0 1 = cc in omega arith
 
-pub then_stop : (a b : Verdict) {n place : ℕ} → a ≡ Refused n place → (a then b) ≡ a
+pub then_stop : (a b : Verdict) {n : Refusal} {place : ℕ} → a ≡ Err (n, place) → (a then b) ≡ a
 unfolding ◌then◌
 then_stop a b e = rw e
 
-pub then_go : (a b : Verdict) → a ≡ Accepted → (a then b) ≡ b
+pub then_go : (a b : Verdict) → a ≡ Ok tt → (a then b) ≡ b
 unfolding ◌then◌
 then_go a b e = rw e
 
 -- no fault: what it says
-pub when_none : (n place : ℕ) (v : Verdict) (t : Bool) → (Refused n place when t else v) ≡ Accepted → (t ≡ false) × (v ≡ Accepted)
+pub when_none : (n : Refusal) (place : ℕ) (v : Verdict) (t : Bool) → (Err (n, place) when t else v) ≡ Ok tt → (t ≡ false) × (v ≡ Ok tt)
 unfolding ◌when◌else◌
 when_none n place v true e = absurd (not-accepted e)
 when_none n place v false e = (refl, e)
 
-pub then_none : (a b : Verdict) → (a then b) ≡ Accepted → (a ≡ Accepted) × (b ≡ Accepted)
+pub then_none : (a b : Verdict) → (a then b) ≡ Ok tt → (a ≡ Ok tt) × (b ≡ Ok tt)
 unfolding ◌then◌
-then_none Accepted b e = (refl, e)
-then_none (Refused n place) b e = absurd (not-accepted e)
+then_none (Ok u) b e = (refl, e)
+then_none (Err f) b e = absurd (not-accepted e)
 
 -- a fault refuses; where there is none, what follows is the answer
-pub unless-fault : {A : Type 0} (refuse : ℕ → ℕ → A) (v : Verdict) (rest : A) {n place : ℕ} → v ≡ Refused n place → unless refuse v rest ≡ refuse n place
+pub unless-fault : {A : Type 0} (refuse : Refusal → ℕ → A) (v : Verdict) (rest : A) {n : Refusal} {place : ℕ} → v ≡ Err (n, place) → unless refuse v rest ≡ refuse n place
 unfolding unless
 unless-fault refuse v rest e = rw e
 
-pub unless-none : {A : Type 0} (refuse : ℕ → ℕ → A) (v : Verdict) (rest : A) → v ≡ Accepted → unless refuse v rest ≡ rest
+pub unless-none : {A : Type 0} (refuse : Refusal → ℕ → A) (v : Verdict) (rest : A) → v ≡ Ok tt → unless refuse v rest ≡ rest
 unfolding unless
 unless-none refuse v rest e = rw e
 
 -- the verdict of what ends there is that of the end record
 pub ends_verdict : (v : Verdict) (t : Table) → (unless refusal v (accepted t)).verdict ≡ v
 unfolding unless
-ends_verdict Accepted t = refl
-ends_verdict (Refused n place) t = refl
+ends_verdict (Ok u) t = refl
+ends_verdict (Err f) t = refl
+
+-- what a `?` hands on is the error that it met
+pub handed_on : {T E : Type 0} {e : E} (r : Result T E) → IsErrAnd r (λ y. y ≡ e) → r ≡ Err e
+handed_on r h = let p = err_from_is_err_and r h in rw (p.1, p.2)

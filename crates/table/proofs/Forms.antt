@@ -14,7 +14,8 @@ use Rattle.table.specs.Limits.{max_largest}
 use Rattle.table.specs.Bytes.{word, Bytes}
 use Rattle.table.specs.Record.{largest_form, form_at, flag_at, gap_place, gap_width, known, listed_place, listed_at, tasks_place, list_place, known_at, largest_place, spaced}
 use Rattle.table.specs.Fault.{outside, short_fault, largest_fault}
-use Rattle.table.specs.declared.Verdict.TheVariants.{Accepted, Refused}
+use Rattle.std.specs.declared.result.Result.TheVariants.{Ok, Err}
+use Rattle.table.specs.declared.refusal.Refusal.TheVariants.{BadLargest}
 
 -- the form with a gap has four bytes for it, the other one for its flag
 pub wide : (form : ℕ) → (form ≡ largest_form → ⊥) → gap_width form ≡ 4
@@ -68,7 +69,7 @@ flag-none : (s : List ℕ) (at : ℕ) → (form_at s at ≡ largest_form → ⊥
 unfolding flag_at ◌when◌else◌
 flag-none s at h = rw (ne_eqb _ _ h)
 
-pub largest-none : (s : List ℕ) (at : ℕ) → (form_at s at ≡ largest_form → ⊥) → largest_place s at ≤ length s → largest_fault s at ≡ Accepted
+pub largest-none : (s : List ℕ) (at : ℕ) → (form_at s at ≡ largest_form → ⊥) → largest_place s at ≤ length s → largest_fault s at ≡ Ok tt
 unfolding largest_fault short_fault spaced ◌when◌else◌
 largest-none s at h room =
     let fits : largest_place s at + 4 * 0 ≤ length s = omega (arith, room) in
@@ -81,7 +82,7 @@ known-cases form flag listed = when_cases (λ n. (n ≡ listed) ⊎ (n ≡ 0)) (
 
 -- the largest distances judged, one at a time
 module _ (before d : ℕ) (ds : List ℕ) (l : ℕ) (ls : List ℕ) (at : ℕ) where
-  pub short-here : outside (max before d) max_largest l ≡ true → short_fault before (d ∷ ds) (l ∷ ls) at ≡ Refused 33 at
+  pub short-here : outside (max before d) max_largest l ≡ true → short_fault before (d ∷ ds) (l ∷ ls) at ≡ Err (BadLargest, at)
   unfolding short_fault ◌when◌else◌
   short-here e = rw e
 
@@ -89,7 +90,7 @@ module _ (before d : ℕ) (ds : List ℕ) (l : ℕ) (ls : List ℕ) (at : ℕ) w
   unfolding short_fault ◌when◌else◌
   short_on e = rw e
 
-pub short-end : (before : ℕ) (ds : List ℕ) (at : ℕ) → short_fault before ds [] at ≡ Accepted
+pub short-end : (before : ℕ) (ds : List ℕ) (at : ℕ) → short_fault before ds [] at ≡ Ok tt
 unfolding short_fault
 short-end before ds at = refl
 

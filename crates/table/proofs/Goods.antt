@@ -17,7 +17,7 @@ use Rattle.table.specs.Fault.{mark_of, fall_fault, last_fault, gap_short, gap_fa
 use Rattle.table.specs.Code.Good.{GoodDistances, GoodLargests, GoodTasks, GoodRow}
 use Rattle.table.specs.declared.Table.{Table}
 use Rattle.table.specs.declared.Mark.TheVariants.{Chain}
-use Rattle.table.specs.declared.Verdict.TheVariants.{Accepted}
+use Rattle.std.specs.declared.result.Result.TheVariants.{Ok, Err}
 use Rattle.table.proofs.Words.{word_below}
 use Rattle.table.proofs.Lists.{length-spaced, spaced-at}
 use Rattle.table.proofs.Firsts.{none_or, when_none}
@@ -45,7 +45,7 @@ each P l z f i = ⊎_elim (λ h. f i h) (λ h. rw (get_or-eq_default l 0 {n = i}
 
 -- the list
 module _ where
-  rises : (before : ℕ) (ds : List ℕ) (at : ℕ) → fall_fault before ds at ≡ Accepted → (j : ℕ) → j + 1 < length ds → get_or ds j 0 ≤ get_or ds (j + 1) 0
+  rises : (before : ℕ) (ds : List ℕ) (at : ℕ) → fall_fault before ds at ≡ Ok tt → (j : ℕ) → j + 1 < length ds → get_or ds j 0 ≤ get_or ds (j + 1) 0
   unfolding fall_fault
   rises before [] at e j h = absurd (omega arith)
   rises before (d ∷ []) at e j h = absurd (omega arith)
@@ -56,7 +56,7 @@ module _ where
       let g : suc j + 1 ≡ suc (j + 1) = omega arith in
       rw g (rises d (f ∷ ds) (at + 4) (when_none _ _ _ _ e).1 j (omega arith))
 
-  near : (before : ℕ) (ds : List ℕ) (at : ℕ) → fall_fault before ds at ≡ Accepted → (j : ℕ) → get_or ds j 0 ≤ max_distance
+  near : (before : ℕ) (ds : List ℕ) (at : ℕ) → fall_fault before ds at ≡ Ok tt → (j : ℕ) → get_or ds j 0 ≤ max_distance
   unfolding fall_fault
   near before [] at e j = omega arith
   near before (d ∷ ds) at e zero = (inside before max_distance d (when_none _ _ _ _ e).0).1
@@ -75,12 +75,12 @@ module _ where
   if_known : (b : Bool) (c : Bool) → b ≡ false → (not b && c) ≡ false → c ≡ false
   if_known b c e f = rw e at f
 
-  pub distances-good : (ds : List ℕ) (at : ℕ) → 1 ≤ length ds → length ds ≤ max_distances → fall_fault 0 ds at ≡ Accepted → last_fault ds at ≡ Accepted → GoodDistances ds
+  pub distances-good : (ds : List ℕ) (at : ℕ) → 1 ≤ length ds → length ds ≤ max_distances → fall_fault 0 ds at ≡ Ok tt → last_fault ds at ≡ Ok tt → GoodDistances ds
   unfolding last_fault
   distances-good ds at some few e29 e30 =
       record { some = some; few = few; rises = rises 0 ds at e29; near = near 0 ds at e29; ends = not-zero _ (when_none _ _ _ _ e30).0 }
 
-  pub gap-good : (gap : ℕ) (ds : List ℕ) (place : ℕ) → gap_fault gap ds place ≡ Accepted → 0 < gap → (j : ℕ) → j < length ds → get_or ds j 0 ≤ gap * (j + 1)
+  pub gap-good : (gap : ℕ) (ds : List ℕ) (place : ℕ) → gap_fault gap ds place ≡ Ok tt → 0 < gap → (j : ℕ) → j < length ds → get_or ds j 0 ≤ gap * (j + 1)
   unfolding gap_fault
   gap-good gap ds place e g j h =
       let f = gaps gap 1 ds (if_known (eqb gap 0) (gap_short gap 1 ds) (ne_eqb gap 0 (λ z. omega arith)) (when_none _ _ _ _ e).0) j h in
@@ -88,7 +88,7 @@ module _ where
 
 -- the largest distances beside the smallest
 module _ where
-  long-rises : (before : ℕ) (ds ls : List ℕ) (at : ℕ) → length ls ≤ length ds → short_fault before ds ls at ≡ Accepted → (j : ℕ) → j + 1 < length ls → get_or ls j 0 ≤ get_or ls (j + 1) 0
+  long-rises : (before : ℕ) (ds ls : List ℕ) (at : ℕ) → length ls ≤ length ds → short_fault before ds ls at ≡ Ok tt → (j : ℕ) → j + 1 < length ls → get_or ls j 0 ≤ get_or ls (j + 1) 0
   unfolding short_fault
   long-rises before ds [] at n e j h = absurd (omega arith)
   long-rises before [] (l ∷ ls) at n e j h = absurd (omega arith)
@@ -101,21 +101,21 @@ module _ where
       let g : suc j + 1 ≡ suc (j + 1) = omega arith in
       rw g (long-rises l (f ∷ ds) (m ∷ ls) (at + 4) (omega arith) (when_none _ _ _ _ e).1 j (omega arith))
 
-  long-near : (before : ℕ) (ds ls : List ℕ) (at : ℕ) → length ls ≤ length ds → short_fault before ds ls at ≡ Accepted → (j : ℕ) → get_or ls j 0 ≤ max_largest
+  long-near : (before : ℕ) (ds ls : List ℕ) (at : ℕ) → length ls ≤ length ds → short_fault before ds ls at ≡ Ok tt → (j : ℕ) → get_or ls j 0 ≤ max_largest
   unfolding short_fault
   long-near before ds [] at n e j = omega arith
   long-near before [] (l ∷ ls) at n e j = absurd (omega arith)
   long-near before (d ∷ ds) (l ∷ ls) at n e zero = (inside (max before d) max_largest l (when_none _ _ _ _ e).0).1
   long-near before (d ∷ ds) (l ∷ ls) at n e (suc j) = long-near l ds ls (at + 4) (omega arith) (when_none _ _ _ _ e).1 j
 
-  long-above : (before : ℕ) (ds ls : List ℕ) (at : ℕ) → length ls ≤ length ds → short_fault before ds ls at ≡ Accepted → (j : ℕ) → j < length ls → get_or ds j 0 ≤ get_or ls j 0
+  long-above : (before : ℕ) (ds ls : List ℕ) (at : ℕ) → length ls ≤ length ds → short_fault before ds ls at ≡ Ok tt → (j : ℕ) → j < length ls → get_or ds j 0 ≤ get_or ls j 0
   unfolding short_fault
   long-above before ds [] at n e j h = absurd (omega arith)
   long-above before [] (l ∷ ls) at n e j h = absurd (omega arith)
   long-above before (d ∷ ds) (l ∷ ls) at n e zero h = omega (arith, (inside (max before d) max_largest l (when_none _ _ _ _ e).0).0)
   long-above before (d ∷ ds) (l ∷ ls) at n e (suc j) h = long-above l ds ls (at + 4) (omega arith) (when_none _ _ _ _ e).1 j (omega arith)
 
-  pub largests-good : (ds ls : List ℕ) (at : ℕ) → length ls ≤ length ds → short_fault 0 ds ls at ≡ Accepted → GoodLargests ds ls
+  pub largests-good : (ds ls : List ℕ) (at : ℕ) → length ls ≤ length ds → short_fault 0 ds ls at ≡ Ok tt → GoodLargests ds ls
   largests-good ds ls at n e = record { rises = long-rises 0 ds ls at n e; near = long-near 0 ds ls at n e; above = long-above 0 ds ls at n e }
 
 -- the tasks
@@ -163,7 +163,7 @@ largests-read s at =
     let n = length-spaced (word 4 s) 4 (known_at s at) (largest_place s at) in
     ap (λ m. take m (pad max_distances (largests_at s at))) (sym n) ∙ take-append_seam (largests_at s at) _
 
-pub row-good : (s : List ℕ) (at : ℕ) (t : Table) → Bytes s → mark_of (word 2 s at) ≡ Chain → chain_fault s at t ≡ Accepted → GoodRow (row_at s at)
+pub row-good : (s : List ℕ) (at : ℕ) (t : Table) → Bytes s → mark_of (word 2 s at) ≡ Chain → chain_fault s at t ≡ Ok tt → GoodRow (row_at s at)
 unfolding row_at
 row-good s at t bytes mark e =
     let r = chain-right s at t e in

@@ -13,7 +13,8 @@ use Rattle.search.specs.Choice.{◌when◌else◌}
 use Rattle.table.specs.Limits.{max_distance}
 use Rattle.table.specs.Fault.{◌then◌, outside, fall_fault, gap_short, task_fault, tasks_fault}
 use Rattle.table.specs.Record.{spaced, pad}
-use Rattle.table.specs.declared.Verdict.TheVariants.{Accepted, Refused}
+use Rattle.std.specs.declared.result.Result.TheVariants.{Ok, Err}
+use Rattle.table.specs.declared.refusal.Refusal.TheVariants.{BadDistance}
 
 module _ (f : ℕ → ℕ) (step : ℕ) where
   next : (at i : ℕ) → at + step * i + step ≡ at + step * (i + 1)
@@ -77,7 +78,7 @@ module _ (f : ℕ → ℕ) (step : ℕ) where
 
 -- the list judged, one distance at a time
 module _ (before d : ℕ) (ds : List ℕ) (at : ℕ) where
-  pub fall_here : outside before max_distance d ≡ true → fall_fault before (d ∷ ds) at ≡ Refused 29 at
+  pub fall_here : outside before max_distance d ≡ true → fall_fault before (d ∷ ds) at ≡ Err (BadDistance, at)
   unfolding fall_fault ◌when◌else◌
   fall_here e = rw e
 
@@ -94,7 +95,7 @@ module _ (gap n d : ℕ) (ds : List ℕ) where
   unfolding gap_short
   gap_no h = rw (le-ltb _ _ h)
 
-pub fall_end : (before at : ℕ) → fall_fault before [] at ≡ Accepted
+pub fall_end : (before at : ℕ) → fall_fault before [] at ≡ Ok tt
 unfolding fall_fault
 fall_end before at = refl
 
@@ -111,6 +112,6 @@ tasks-on s n i at h =
     let f : at + 8 * i + 8 ≡ at + 8 * (i + 1) = omega arith in
     rw (e, ← f)
 
-pub tasks-end : (s : List ℕ) (n i at : ℕ) → n ≤ i → tasks_fault s (n - i) at ≡ Accepted
+pub tasks-end : (s : List ℕ) (n i at : ℕ) → n ≤ i → tasks_fault s (n - i) at ≡ Ok tt
 unfolding tasks_fault
 tasks-end s n i at h = let e : n - i ≡ 0 = omega arith in rw e

@@ -12,7 +12,9 @@ use Rattle.search.specs.Choice.{◌when◌else◌}
 use Rattle.search.proofs.Choice.{true-not-false}
 use Rattle.table.specs.Bytes.{word, bytes_of, Bytes}
 use Rattle.table.specs.Record.{gap_form, largest_form, task_mark, end_mark, task_record, priority_at, cost_at}
-use Rattle.table.specs.Fault.{mark_of, is_chain}
+use Rattle.table.specs.Fault.{mark_of, is_chain, no_task}
+use Rattle.std.specs.declared.result.Result.TheVariants.{Err}
+use Rattle.table.specs.declared.refusal.Refusal.TheVariants.{BadMark}
 use Rattle.table.specs.declared.Mark.{Mark}
 use Rattle.table.specs.declared.Mark.TheVariants.{Chain, Task, End, Unknown}
 use Rattle.table.proofs.Firsts.{or_cases}
@@ -57,3 +59,10 @@ pub task-there : (s : List ℕ) (at : ℕ) → Bytes s → at + 8 ≤ length s �
 task-there s at bytes h m =
     let mark : bytes_of 2 task_mark ≡ take 2 (drop at s) = ap (bytes_of 2) (sym (mark-number (word 2 s at) m (omega arith))) ∙ word_back 2 s at bytes (omega arith) in
     rw (mark, word_back 2 s (at + 2) bytes (omega arith), word_back 4 s (at + 4) bytes (omega arith)) (take_next s at 4 4 ∙ rw (take_next s at 2 2))
+
+-- any other mark than a task's is a fault where a task's must stand
+pub no_task-other : (m : Mark) (at : ℕ) → (m ≡ Task → ⊥) → no_task m at ≡ Err (BadMark, at)
+no_task-other Task at h = absurd (h refl)
+no_task-other Chain at h = refl
+no_task-other End at h = refl
+no_task-other Unknown at h = refl

@@ -24,9 +24,11 @@ use Rattle.table.specs.declared.Row.{Row}
 use Rattle.table.specs.declared.Table.{Table}
 use Rattle.table.specs.declared.Mark.{Mark}
 use Rattle.table.specs.declared.Mark.TheVariants.{Chain, Task, End, Unknown}
-use Rattle.table.specs.declared.Verdict.{Verdict}
-use Rattle.table.specs.declared.Verdict.TheVariants.{Accepted, Refused}
-use Rattle.table.specs.declared.Reading.{Reading}
+use Rattle.table.specs.Refusal.{Verdict}
+use Rattle.std.specs.declared.result.Result.TheVariants.{Ok, Err}
+use Rattle.table.specs.declared.refusal.Refusal.TheVariants.{BadLength, BytesMissing, BadMark, BadChainCount}
+use Rattle.table.specs.declared.refusal.Refusal.{Refusal}
+use Rattle.table.specs.Read.{Reading}
 use Rattle.table.proofs.Firsts.{not-accepted}
 
 -- t has the first rows of all, and blank ones after them
@@ -78,35 +80,35 @@ module _ {all : Table} (good : GoodTable all) where
         ap (λ n. record { count = n; tasks = t.tasks; row = t.row }) e ∙ ap₂ (λ n l. record { count = all.count; tasks = n; row = l }) tasks rows
 
 -- what a reading can be: the empty table with a refusal, or a table that is accepted
-module _ (P : Reading → Type 0) (faulty : (n place : ℕ) → P (refusal n place)) (right : (t : Table) → P (accepted t)) where
+module _ (P : Reading → Type 0) (faulty : (n : Refusal) (place : ℕ) → P (refusal n place)) (right : (t : Table) → P (accepted t)) where
   unless-is : (v : Verdict) (r : Reading) → P r → P (unless refusal v r)
   unfolding unless
-  unless-is Accepted r p = p
-  unless-is (Refused n place) r p = faulty n place
+  unless-is (Ok u) r p = p
+  unless-is (Err f) r p = faulty f.0 f.1
 
   mark-is : (at : ℕ) (m : Mark) (chain end : Reading) → P chain → P end → P (by_mark at m chain end)
   mark-is at Chain chain end p q = p
-  mark-is at Task chain end p q = faulty 3 at
+  mark-is at Task chain end p q = faulty BadMark at
   mark-is at End chain end p q = q
-  mark-is at Unknown chain end p q = faulty 3 at
+  mark-is at Unknown chain end p q = faulty BadMark at
 
   start_is : (s : List ℕ) (at : ℕ) (t : Table) (next : Reading) → P next → P (start s at t next)
   unfolding start
   start_is s at t next p =
-      when_cases P (ltb (length s) (at + 2)) (λ e. faulty 2 (length s))
+      when_cases P (ltb (length s) (at + 2)) (λ e. faulty BytesMissing (length s))
       (λ e. mark-is at (mark_of (word 2 s at)) (unless refusal (beside_fault s at (form_at s 0) t) next) (unless refusal (end_fault s at t) (accepted t))
       (unless-is (beside_fault s at (form_at s 0) t) next p) (unless-is (end_fault s at t) (accepted t) (right t)))
 
   records_is : (left : ℕ) (s : List ℕ) (at : ℕ) (t : Table) → P (records left s at t)
   unfolding records
-  records_is zero s at t = start_is s at t (refusal 11 at) (faulty 11 at)
+  records_is zero s at t = start_is s at t (refusal BadChainCount at) (faulty BadChainCount at)
   records_is (suc left) s at t = start_is s at t _ (records_is left s (at + length_at s at) (plus t (row_at s at)))
 
   pub reading_is : (s : List ℕ) → P (read_table s)
   unfolding read_table
-  reading_is s = when_cases P (eqb (length s) 0 || ltb (limit_of (word 2 s 0)) (length s)) (λ e. faulty 1 0) (λ e. records_is max_chains s 0 empty)
+  reading_is s = when_cases P (eqb (length s) 0 || ltb (limit_of (word 2 s 0)) (length s)) (λ e. faulty BadLength 0) (λ e. records_is max_chains s 0 empty)
 
-pub refused_reading : (s : List ℕ) (n place : ℕ) → (read_table s).verdict ≡ Refused n place → read_table s ≡ refusal n place
+pub refused_reading : (s : List ℕ) (n : Refusal) (place : ℕ) → (read_table s).verdict ≡ Err (n, place) → read_table s ≡ refusal n place
 refused_reading s n place =
-    reading_is (λ r. r.verdict ≡ Refused n place → r ≡ refusal n place) (λ m at e. ap (λ (v : Verdict). record { verdict = v; table = empty }) e)
+    reading_is (λ r. r.verdict ≡ Err (n, place) → r ≡ refusal n place) (λ m at e. ap (λ (v : Verdict). record { verdict = v; table = empty }) e)
     (λ t e. absurd (not-accepted (sym e))) s

@@ -16,11 +16,13 @@ use Rattle.table.specs.Read.{empty, plus, refusal, accepted, unless, by_mark, st
 use Rattle.table.specs.declared.Table.{Table}
 use Rattle.table.specs.declared.Mark.{Mark}
 use Rattle.table.specs.declared.Mark.TheVariants.{Chain, Task, End, Unknown}
-use Rattle.table.specs.declared.Verdict.TheVariants.{Accepted, Refused}
+use Rattle.std.specs.declared.result.Result.TheVariants.{Ok, Err}
+use Rattle.table.specs.declared.refusal.Refusal.TheVariants.{BadLength, BytesMissing, BadChainCount}
+use Rattle.table.specs.declared.refusal.Refusal.{Refusal}
 use Rattle.table.proofs.Firsts.{unless-none}
 
 -- the length is judged first
-pub read-long : (s : List ℕ) → (eqb (length s) 0 || ltb (limit_of (word 2 s 0)) (length s)) ≡ true → read_table s ≡ refusal 1 0
+pub read-long : (s : List ℕ) → (eqb (length s) 0 || ltb (limit_of (word 2 s 0)) (length s)) ≡ true → read_table s ≡ refusal BadLength 0
 unfolding read_table ◌when◌else◌
 read-long s e = rw e
 
@@ -29,7 +31,7 @@ unfolding read_table ◌when◌else◌
 read-on s e = rw e
 
 module _ (s : List ℕ) (at : ℕ) (t : Table) where
-  pub records-short : (left : ℕ) → length s < at + 2 → records left s at t ≡ refusal 2 (length s)
+  pub records-short : (left : ℕ) → length s < at + 2 → records left s at t ≡ refusal BytesMissing (length s)
   unfolding records start ◌when◌else◌
   records-short zero h = rw (lt-ltb _ _ h)
   records-short (suc left) h = rw (lt-ltb _ _ h)
@@ -37,7 +39,7 @@ module _ (s : List ℕ) (at : ℕ) (t : Table) where
   module _ (there : at + 2 ≤ length s) where
     -- where the mark leads does not depend on the room, but for a chain
     pub records-mark : (left : ℕ) (m : Mark) → mark_of (word 2 s at) ≡ m → (m ≡ Chain → ⊥)
-        → records left s at t ≡ by_mark at m (refusal 11 at) (unless refusal (end_fault s at t) (accepted t))
+        → records left s at t ≡ by_mark at m (refusal BadChainCount at) (unless refusal (end_fault s at t) (accepted t))
     unfolding records start ◌when◌else◌
     records-mark left Chain e h = absurd (h refl)
     records-mark zero Task e h = rw (le-ltb _ _ there, e)
@@ -48,7 +50,7 @@ module _ (s : List ℕ) (at : ℕ) (t : Table) where
     records-mark (suc left) Unknown e h = rw (le-ltb _ _ there, e)
 
     module _ (chain : mark_of (word 2 s at) ≡ Chain) where
-      pub records-refused : (left : ℕ) {n place : ℕ} → beside_fault s at (form_at s 0) t ≡ Refused n place → records left s at t ≡ refusal n place
+      pub records-refused : (left : ℕ) {n : Refusal} {place : ℕ} → beside_fault s at (form_at s 0) t ≡ Err (n, place) → records left s at t ≡ refusal n place
       unfolding records start unless ◌when◌else◌
       records-refused zero h = rw (le-ltb _ _ there, chain, h)
       records-refused (suc left) h = rw (le-ltb _ _ there, chain, h)
@@ -60,6 +62,6 @@ module _ (s : List ℕ) (at : ℕ) (t : Table) where
           let e : max_chains - t.count ≡ suc (max_chains - (t.count + 1)) = omega arith in
           rw (e, le-ltb _ _ there, chain)
 
-      pub records-beside : beside_fault s at (form_at s 0) t ≡ Accepted → t.count < max_chains
+      pub records-beside : beside_fault s at (form_at s 0) t ≡ Ok tt → t.count < max_chains
           → records (max_chains - t.count) s at t ≡ records (max_chains - (t.count + 1)) s (at + length_at s at) (plus t (row_at s at))
       records-beside h l = records-chain l ∙ unless-none refusal (beside_fault s at (form_at s 0) t) _ h

@@ -1,3 +1,4 @@
+pub mod Refusal
 pub mod Limits
 pub mod Bytes
 pub mod Record

@@ -2,27 +2,25 @@
 ghost use Rattle.std.specs.Prelude.{◌≡◌, ◌+◌, ◌≤◌, ◌<◌, length, get_or, take, drop, ◌++◌};
 ghost use Rattle.table.specs.Bytes.{word, bytes_of};
 
-use crate::wide::{u16_from_u8, u32_from_u16, u64_from_u32};
-
 pub fn u16_at(s: &[u8], at: usize) -> u16
     requires { at + 2 ≤ length s.now }
     ensures { result ≡ word 2 s.now at }
 {
-    u16_from_u8(s[at]) + u16_from_u8(s[at + 1]) * 256
+    u16::from(s[at]) + u16::from(s[at + 1]) * 256
 }
 
 pub fn u32_at(s: &[u8], at: usize) -> u32
     requires { at + 4 ≤ length s.now }
     ensures { result ≡ word 4 s.now at }
 {
-    u32_from_u16(u16_at(s, at)) + u32_from_u16(u16_at(s, at + 2)) * 65536
+    u32::from(u16_at(s, at)) + u32::from(u16_at(s, at + 2)) * 65536
 }
 
 pub fn u64_at(s: &[u8], at: usize) -> u64
     requires { at + 8 ≤ length s.now }
     ensures { result ≡ word 8 s.now at }
 {
-    u64_from_u32(u32_at(s, at)) + u64_from_u32(u32_at(s, at + 4)) * 4_294_967_296
+    u64::from(u32_at(s, at)) + u64::from(u32_at(s, at + 4)) * 4_294_967_296
 }
 
 // A byte as a count.
@@ -30,7 +28,7 @@ pub fn count_at(s: &[u8], at: usize) -> usize
     requires { at < length s.now }
     ensures { (result ≡ get_or s.now at 0) × (result < 256) }
 {
-    s[at] as usize
+    usize::from(s[at])
 }
 
 // The two bytes of x from `at` on, the smaller first.

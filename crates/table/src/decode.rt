@@ -3,7 +3,7 @@ ghost use Rattle.std.specs.Prelude.{◌≡◌, ◌+◌, ◌*◌, ◌≤◌, leng
 ghost use Rattle.table.specs.Limits.{max_distances, max_tasks};
 ghost use Rattle.table.specs.Bytes.{word};
 ghost use Rattle.table.specs.Record.{spaced, pad, priority_at, cost_at, row_at};
-ghost use Rattle.table.specs.Read.{read_table, table_of};
+ghost use Rattle.table.specs.Read.{read_table, table_of, outcome_of};
 ghost use Rattle.table.specs.Code.Taken.{Taken, Stands};
 
 use crate::bytes::{u16_at, u32_at};
@@ -13,7 +13,7 @@ use crate::record::{
     deadline_at, first_task, flag_at, form_at, gap_at, id_at, kind_at, known_at, largest_place,
     list_place, listed_at, overload_at, record_length, tasks_at,
 };
-use crate::{Reading, Row, Table, Verdict};
+use crate::{Fault, Row, Table};
 
 // The n distances from `from` on, and 0 past them.
 fn list_of(s: &[u8], from: usize, n: usize) -> [u32; Table::DISTANCES]
@@ -21,10 +21,8 @@ fn list_of(s: &[u8], from: usize, n: usize) -> [u32; Table::DISTANCES]
     ensures { result ≡ pad max_distances (spaced (word 4 s.now) 4 n from) }
 {
     let mut list = [0u32; Table::DISTANCES];
-    let mut i: usize = 0;
-    while i < n {
+    for i in 0..n {
         list[i] = u32_at(s, from + 4 * i);
-        i += 1;
     }
     list
 }
@@ -43,11 +41,9 @@ fn tasks_of(s: &[u8], from: usize, n: usize) -> Tasks
 {
     let mut priority = [0u16; Table::TASKS];
     let mut cost = [0u32; Table::TASKS];
-    let mut i: usize = 0;
-    while i < n {
+    for i in 0..n {
         priority[i] = u16_at(s, from + 8 * i + 2);
         cost[i] = u32_at(s, from + 8 * i + 4);
-        i += 1;
     }
     Tasks { priority, cost }
 }
@@ -86,33 +82,22 @@ fn rows(s: &[u8]) -> Table
     requires { Taken s.now }
     ensures { result ≡ table_of s.now }
 {
-    let chains = count(s);
     let mut t = Table::empty();
     let mut at: usize = 0;
-    while t.count < chains {
-        let chain = t.count;
+    for chain in 0..count(s) {
         let row = row_at(s, at);
-        at = at + record_length(s, at);
-        t.tasks = t.tasks + row.tasks;
+        at += record_length(s, at);
+        t.tasks += row.tasks;
         t.row[chain] = row;
-        t.count = chain + 1;
+        t.count += 1;
     }
     t
 }
 
 // Reads a stored table. No byte past the slice is looked at.
-pub fn read(s: &[u8]) -> Reading
-    ensures { result ≡ read_table s.now }
+pub fn read(s: &[u8]) -> Result<Table, Fault>
+    ensures { result ≡ outcome_of (read_table s.now) }
 {
-    let verdict = judge(s);
-    match verdict {
-        Verdict::Accepted => Reading {
-            verdict,
-            table: rows(s),
-        },
-        Verdict::Refused(_, _) => Reading {
-            verdict,
-            table: Table::empty(),
-        },
-    }
+    judge(s)?;
+    Ok(rows(s))
 }

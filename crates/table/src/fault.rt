@@ -15,8 +15,7 @@ use crate::record::{
     deadline_at, first_task, flag_at, form_at, gap_at, has_flag, head_length, id_at, kind_at,
     known_at, listed_from, overload_at,
 };
-use crate::wide::u32_from_u8;
-use crate::{Mark, Table, Verdict};
+use crate::{Fault, Mark, Refusal, Table, Verdict};
 
 // The mark as a number: `CH` and `CG`, `TK`, `EN`, or none of them.
 pub fn mark_of(m: u16) -> Mark
@@ -38,44 +37,29 @@ pub fn outside(low: u32, high: u32, x: u32) -> bool
     x < low || high < x
 }
 
-// The number of the first of `count` ids that is this one, their count if none is.
-fn same_id(ids: &[u16; Table::CHAINS], count: usize, id: u16) -> usize
-    requires { count ≤ max_chains }
-    ensures { result ≡ first (λ i. eqb (get_or ids.now i 0) id) 0 count }
-{
-    let mut i: usize = 0;
-    while i < count {
-        if ids[i] == id {
-            return i;
-        }
-        i += 1;
-    }
-    i
-}
-
 // Whether the id is 0 or used earlier.
-fn id_wrong(id: u16, ids: &[u16; Table::CHAINS], before: Before) -> bool
-    requires { before.count ≤ max_chains }
-    ensures { (t : Table) → Keeps ids.now before t → result ≡ (eqb id 0 || used t id) }
+fn id_wrong(id: u16, before: &Before) -> bool
+    requires { before.now.count ≤ max_chains }
+    ensures { (t : Table) → Keeps before.now t → result ≡ (eqb id 0 || used t id) }
 {
-    id == 0 || same_id(ids, before.count, id) < before.count
+    id == 0 || before.ids[..before.count].contains(&id)
 }
 
 // 4 or 5: the id, the kind and the overload byte of the chain record at `at`.
-fn identity_fault(s: &[u8], at: usize, ids: &[u16; Table::CHAINS], before: Before) -> Verdict
-    requires { (at + head_length (form_at s.now at) ≤ length s.now) × (before.count ≤ max_chains) }
-    ensures { (t : Table) → Keeps ids.now before t → result ≡ identity_fault s.now at t }
+fn identity_fault(s: &[u8], at: usize, before: &Before) -> Verdict
+    requires { (at + head_length (form_at s.now at) ≤ length s.now) × (before.now.count ≤ max_chains) }
+    ensures { (t : Table) → Keeps before.now t → result ≡ identity_fault s.now at t }
 {
-    if id_wrong(id_at(s, at), ids, before) {
-        return Verdict::Refused(4, at + 2);
+    if id_wrong(id_at(s, at), before) {
+        return Err(Fault(Refusal::BadId, at + 2));
     }
     if 1 < kind_at(s, at) {
-        return Verdict::Refused(5, at + 4);
+        return Err(Fault(Refusal::BadKind, at + 4));
     }
     if 1 < overload_at(s, at) {
-        return Verdict::Refused(5, at + 5);
+        return Err(Fault(Refusal::BadKind, at + 5));
     }
-    Verdict::Accepted
+    Ok(())
 }
 
 // 6 or 7: its deadline and its gap.
@@ -84,12 +68,12 @@ fn times_fault(s: &[u8], at: usize, gap: u32) -> Verdict
     ensures { result ≡ times_fault s.now at }
 {
     if outside(1, Table::DEADLINE, deadline_at(s, at)) {
-        return Verdict::Refused(6, at + 6);
+        return Err(Fault(Refusal::BadDeadline, at + 6));
     }
     if Table::GAP < gap {
-        return Verdict::Refused(7, at + 10);
+        return Err(Fault(Refusal::BadGap, at + 10));
     }
-    Verdict::Accepted
+    Ok(())
 }
 
 // Whether the task count is out of its range, or too large after `before` tasks.
@@ -97,7 +81,8 @@ fn tasks_wrong(tasks: u8, before: usize) -> bool
     requires { before ≤ max_all_tasks }
     ensures { result ≡ (outsideOf 1 max_tasks tasks || ltb max_all_tasks (before + tasks)) }
 {
-    outside(1, Table::TASKS as u32, tasks as u32) || Table::ALL_TASKS < before + tasks as usize
+    outside(1, Table::TASKS as u32, u32::from(tasks))
+        || Table::ALL_TASKS < before + usize::from(tasks)
 }
 
 // 28 or 9: the list length and the task count of a record, after `before` tasks; they stand before its list.
@@ -105,38 +90,23 @@ fn counts_fault(s: &[u8], list: usize, before: usize) -> Verdict
     requires { (2 ≤ list) × (list ≤ length s.now) × (before ≤ max_all_tasks) }
     ensures { (at : ℕ) → list ≡ list_place s.now at → result ≡ counts_fault s.now at before }
 {
-    if outside(1, Table::DISTANCES as u32, u32_from_u8(s[list - 2])) {
-        return Verdict::Refused(28, list - 2);
+    if outside(1, Table::DISTANCES as u32, u32::from(s[list - 2])) {
+        return Err(Fault(Refusal::BadListLength, list - 2));
     }
     if tasks_wrong(s[list - 1], before) {
-        return Verdict::Refused(9, list - 1);
+        return Err(Fault(Refusal::BadTaskCount, list - 1));
     }
-    Verdict::Accepted
+    Ok(())
 }
 
 // 4 to 7, 28 or 9: the fixed part of the chain record at `at`, all of which is there; its list would start at `list`.
-fn head_fault(
-    s: &[u8],
-    at: usize,
-    list: usize,
-    gap: u32,
-    ids: &[u16; Table::CHAINS],
-    before: Before,
-) -> Verdict
-    requires { (list ≤ length s.now) × (list ≡ list_place s.now at) × (gap ≡ gap_at s.now at) × (before.count ≤ max_chains) × (before.tasks ≤ max_all_tasks) }
-    ensures { (t : Table) → Keeps ids.now before t → result ≡ head_fault s.now at t }
+fn head_fault(s: &[u8], at: usize, list: usize, gap: u32, before: &Before) -> Verdict
+    requires { (list ≤ length s.now) × (list ≡ list_place s.now at) × (gap ≡ gap_at s.now at) × (before.now.count ≤ max_chains) × (before.now.tasks ≤ max_all_tasks) }
+    ensures { (t : Table) → Keeps before.now t → result ≡ head_fault s.now at t }
 {
-    let identity = identity_fault(s, at, ids, before);
-    match identity {
-        Verdict::Accepted => {
-            let times = times_fault(s, at, gap);
-            match times {
-                Verdict::Accepted => counts_fault(s, list, before.tasks),
-                Verdict::Refused(_, _) => times,
-            }
-        }
-        Verdict::Refused(_, _) => identity,
-    }
+    identity_fault(s, at, before)?;
+    times_fault(s, at, gap)?;
+    counts_fault(s, list, before.tasks)
 }
 
 // 29: the first of the n distances from `at` on that falls, or exceeds the limit.
@@ -145,16 +115,14 @@ fn fall_fault(s: &[u8], at: usize, n: usize) -> Verdict
     ensures { result ≡ fall_fault 0 (spaced (word 4 s.now) 4 n at) at }
 {
     let mut before: u32 = 0;
-    let mut i: usize = 0;
-    while i < n {
+    for i in 0..n {
         let d = u32_at(s, at + 4 * i);
         if outside(before, Table::DISTANCE, d) {
-            return Verdict::Refused(29, at + 4 * i);
+            return Err(Fault(Refusal::BadDistance, at + 4 * i));
         }
         before = d;
-        i += 1;
     }
-    Verdict::Accepted
+    Ok(())
 }
 
 // 30: the last of the n distances from `at` on is 0.
@@ -164,9 +132,9 @@ fn last_fault(s: &[u8], at: usize, n: usize) -> Verdict
 {
     let last = at + 4 * (n - 1);
     if u32_at(s, last) == 0 {
-        return Verdict::Refused(30, last);
+        return Err(Fault(Refusal::LastIsZero, last));
     }
-    Verdict::Accepted
+    Ok(())
 }
 
 // Whether the gap is too small for one of the n distances from `at` on.
@@ -174,13 +142,11 @@ fn gap_short(s: &[u8], at: usize, n: usize, gap: u32) -> bool
     requires { (n ≤ max_distances) × (at + 4 * n ≤ length s.now) }
     ensures { result ≡ gap_short gap 1 (spaced (word 4 s.now) 4 n at) }
 {
-    let mut i: usize = 0;
-    while i < n {
+    for i in 0..n {
         let d = u32_at(s, at + 4 * i);
-        if (gap as u64) * (i as u64 + 1) < d as u64 {
+        if u64::from(gap) * (i as u64 + 1) < u64::from(d) {
             return true;
         }
-        i += 1;
     }
     false
 }
@@ -191,12 +157,12 @@ fn gap_fault(s: &[u8], at: usize, n: usize, gap: u32, place: usize) -> Verdict
     ensures { result ≡ gap_fault gap (spaced (word 4 s.now) 4 n at) place }
 {
     if gap == 0 {
-        return Verdict::Accepted;
+        return Ok(());
     }
     if gap_short(s, at, n, gap) {
-        return Verdict::Refused(31, place);
+        return Err(Fault(Refusal::GapTooSmall, place));
     }
-    Verdict::Accepted
+    Ok(())
 }
 
 // 29, 30 or 31: the n distances from `at` on, and the gap, which stands at `place`. The first two are both asked for, so that their
@@ -207,13 +173,9 @@ fn distances_fault(s: &[u8], at: usize, n: usize, gap: u32, place: usize) -> Ver
 {
     let falls = fall_fault(s, at, n);
     let last = last_fault(s, at, n);
-    match falls {
-        Verdict::Accepted => match last {
-            Verdict::Accepted => gap_fault(s, at, n, gap, place),
-            Verdict::Refused(_, _) => last,
-        },
-        Verdict::Refused(_, _) => falls,
-    }
+    falls?;
+    last?;
+    gap_fault(s, at, n, gap, place)
 }
 
 // 2, 29, 30 or 31: the list of the chain record at `at`, its fixed part without a fault.
@@ -223,16 +185,9 @@ fn list_fault(s: &[u8], at: usize, list: usize, gap: u32) -> Verdict
 {
     let n = listed_from(s, list);
     if s.len() < list + 4 * n {
-        return Verdict::Refused(2, s.len());
+        return Err(Fault(Refusal::BytesMissing, s.len()));
     }
     distances_fault(s, list, n, gap, at + 10)
-}
-
-// The larger of two numbers.
-fn larger(a: u32, b: u32) -> u32
-    ensures { result ≡ max a b }
-{
-    if a < b { b } else { a }
 }
 
 // 33: the first of the n largest distances from `at` on that falls, exceeds the limit or lies below the smallest for its count; those stand
@@ -242,17 +197,15 @@ fn short_fault(s: &[u8], from: usize, at: usize, n: usize) -> Verdict
     ensures { result ≡ short_fault 0 (spaced (word 4 s.now) 4 n from) (spaced (word 4 s.now) 4 n at) at }
 {
     let mut before: u32 = 0;
-    let mut i: usize = 0;
-    while i < n {
+    for i in 0..n {
         let d = u32_at(s, at + 4 * i);
-        let least = larger(before, u32_at(s, from + 4 * i));
+        let least = before.max(u32_at(s, from + 4 * i));
         if outside(least, Table::LARGEST, d) {
-            return Verdict::Refused(33, at + 4 * i);
+            return Err(Fault(Refusal::BadLargest, at + 4 * i));
         }
         before = d;
-        i += 1;
     }
-    Verdict::Accepted
+    Ok(())
 }
 
 // 33 or 2: the flag of the chain record at `at`, then its largest distances; its smallest ones are there.
@@ -261,15 +214,15 @@ fn largest_fault(s: &[u8], at: usize, list: usize) -> Verdict
     ensures { result ≡ largest_fault s.now at }
 {
     if !has_flag(form_at(s, at)) {
-        return Verdict::Accepted;
+        return Ok(());
     }
     if 1 < flag_at(s, at) {
-        return Verdict::Refused(33, at + 10);
+        return Err(Fault(Refusal::BadLargest, at + 10));
     }
     let n = known_at(s, at);
     let from = list + 4 * listed_from(s, list);
     if s.len() < from + 4 * n {
-        return Verdict::Refused(2, s.len());
+        return Err(Fault(Refusal::BytesMissing, s.len()));
     }
     short_fault(s, list, from, n)
 }
@@ -280,13 +233,11 @@ fn task_mark_fault(s: &[u8], at: usize) -> Verdict
     ensures { result ≡ task_mark_fault s.now at }
 {
     if s.len() < at + 2 {
-        return Verdict::Refused(2, s.len());
+        return Err(Fault(Refusal::BytesMissing, s.len()));
     }
     match mark_of(u16_at(s, at)) {
-        Mark::Task => Verdict::Accepted,
-        Mark::Chain => Verdict::Refused(3, at),
-        Mark::End => Verdict::Refused(3, at),
-        Mark::Unknown => Verdict::Refused(3, at),
+        Mark::Task => Ok(()),
+        _ => Err(Fault(Refusal::BadMark, at)),
     }
 }
 
@@ -296,12 +247,12 @@ fn values_fault(s: &[u8], at: usize) -> Verdict
     ensures { result ≡ values_fault s.now at }
 {
     if u16_at(s, at + 2) == 0 {
-        return Verdict::Refused(10, at + 2);
+        return Err(Fault(Refusal::BadTask, at + 2));
     }
     if outside(1, Table::COST, u32_at(s, at + 4)) {
-        return Verdict::Refused(10, at + 4);
+        return Err(Fault(Refusal::BadTask, at + 4));
     }
-    Verdict::Accepted
+    Ok(())
 }
 
 // 3 or 10: the task record at `at`, all of which is there.
@@ -311,9 +262,7 @@ fn whole_task_fault(s: &[u8], at: usize) -> Verdict
 {
     match mark_of(u16_at(s, at)) {
         Mark::Task => values_fault(s, at),
-        Mark::Chain => Verdict::Refused(3, at),
-        Mark::End => Verdict::Refused(3, at),
-        Mark::Unknown => Verdict::Refused(3, at),
+        _ => Err(Fault(Refusal::BadMark, at)),
     }
 }
 
@@ -322,11 +271,8 @@ fn cut_task_fault(s: &[u8], at: usize) -> Verdict
     requires { (at ≤ length s.now) × (length s.now < at + 8) }
     ensures { result ≡ task_fault s.now at }
 {
-    let mark = task_mark_fault(s, at);
-    match mark {
-        Verdict::Accepted => Verdict::Refused(2, s.len()),
-        Verdict::Refused(_, _) => mark,
-    }
+    task_mark_fault(s, at)?;
+    Err(Fault(Refusal::BytesMissing, s.len()))
 }
 
 // 2, 3 or 10: the task record at `at`. That all of it is there is asked once, since it mostly is.
@@ -346,73 +292,41 @@ fn tasks_fault(s: &[u8], at: usize, n: usize) -> Verdict
     requires { at ≤ length s.now }
     ensures { result ≡ tasks_fault s.now n at }
 {
-    let mut i: usize = 0;
-    while i < n {
-        let task = task_fault(s, at + 8 * i);
-        match task {
-            Verdict::Accepted => {
-                i += 1;
-            }
-            Verdict::Refused(_, _) => {
-                return task;
-            }
-        }
+    for i in 0..n {
+        task_fault(s, at + 8 * i)?;
     }
-    Verdict::Accepted
+    Ok(())
 }
 
 // The first fault of the chain record at `at`, its mark known, after the chains before it.
-fn chain_fault(s: &[u8], at: usize, ids: &[u16; Table::CHAINS], before: Before) -> Verdict
-    requires { (at + 2 ≤ length s.now) × (before.count ≤ max_chains) × (before.tasks ≤ max_all_tasks) }
-    ensures { (t : Table) → Keeps ids.now before t → result ≡ chain_fault s.now at t }
+fn chain_fault(s: &[u8], at: usize, before: &Before) -> Verdict
+    requires { (at + 2 ≤ length s.now) × (before.now.count ≤ max_chains) × (before.now.tasks ≤ max_all_tasks) }
+    ensures { (t : Table) → Keeps before.now t → result ≡ chain_fault s.now at t }
 {
     let list = at + head_length(form_at(s, at));
     if s.len() < list {
-        return Verdict::Refused(2, s.len());
+        return Err(Fault(Refusal::BytesMissing, s.len()));
     }
     let gap = gap_at(s, at);
-    let head = head_fault(s, at, list, gap, ids, before);
-    match head {
-        Verdict::Accepted => {
-            let distances = list_fault(s, at, list, gap);
-            match distances {
-                Verdict::Accepted => {
-                    let largest = largest_fault(s, at, list);
-                    match largest {
-                        Verdict::Accepted => tasks_fault(
-                            s,
-                            first_task(s, at),
-                            count_at(s, list - 1),
-                        ),
-                        Verdict::Refused(_, _) => largest,
-                    }
-                }
-                Verdict::Refused(_, _) => distances,
-            }
-        }
-        Verdict::Refused(_, _) => head,
-    }
+    head_fault(s, at, list, gap, before)?;
+    list_fault(s, at, list, gap)?;
+    largest_fault(s, at, list)?;
+    tasks_fault(s, first_task(s, at), count_at(s, list - 1))
 }
 
 // The first fault of the chain record at `at`, its mark known, beside the chains before it, which have this form. Whatever takes a chain
 // from bytes asks this.
-pub fn beside_fault(
-    s: &[u8],
-    at: usize,
-    form: u16,
-    ids: &[u16; Table::CHAINS],
-    before: Before,
-) -> Verdict
-    requires { (at + 2 ≤ length s.now) × (before.count ≤ max_chains) × (before.tasks ≤ max_all_tasks) }
-    ensures { (t : Table) → Keeps ids.now before t → result ≡ beside_fault s.now at form t }
+pub fn beside_fault(s: &[u8], at: usize, form: u16, before: &Before) -> Verdict
+    requires { (at + 2 ≤ length s.now) × (before.now.count ≤ max_chains) × (before.now.tasks ≤ max_all_tasks) }
+    ensures { (t : Table) → Keeps before.now t → result ≡ beside_fault s.now at form t }
 {
     if form_at(s, at) != form {
-        return Verdict::Refused(3, at);
+        return Err(Fault(Refusal::BadMark, at));
     }
     if before.count == Table::CHAINS {
-        return Verdict::Refused(11, at);
+        return Err(Fault(Refusal::BadChainCount, at));
     }
-    chain_fault(s, at, ids, before)
+    chain_fault(s, at, before)
 }
 
 // The fault of the end record at `at`, its mark known, after so many chains.
@@ -421,16 +335,16 @@ pub fn end_fault(s: &[u8], at: usize, count: usize) -> Verdict
     ensures { (t : Table) → t.count ≡ count → result ≡ end_fault s.now at t }
 {
     if s.len() < at + 4 {
-        return Verdict::Refused(2, s.len());
+        return Err(Fault(Refusal::BytesMissing, s.len()));
     }
     if count == 0 {
-        return Verdict::Refused(11, at + 2);
+        return Err(Fault(Refusal::BadChainCount, at + 2));
     }
-    if u16_at(s, at + 2) as usize != count {
-        return Verdict::Refused(11, at + 2);
+    if usize::from(u16_at(s, at + 2)) != count {
+        return Err(Fault(Refusal::BadChainCount, at + 2));
     }
     if s.len() != at + 4 {
-        return Verdict::Refused(11, at + 4);
+        return Err(Fault(Refusal::BadChainCount, at + 4));
     }
-    Verdict::Accepted
+    Ok(())
 }

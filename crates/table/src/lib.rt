@@ -14,7 +14,7 @@ mod fault;
 mod places;
 mod reader;
 mod record;
-mod wide;
+mod refusal;
 
 pub use before::Before;
 pub use bytes::{put_u16, put_u32, u16_at, u32_at, u64_at};
@@ -27,7 +27,7 @@ pub use record::{
     head_length, id_at, kind_at, known_at, largest_at, list_place, listed_at, listed_from,
     overload_at, priority_at, record_length, tasks_at, tasks_part,
 };
-pub use wide::{u16_from_u8, u32_from_u8, u32_from_u16, u64_from_u8, u64_from_u32};
+pub use refusal::{Fault, Refusal, Verdict};
 
 // A chain as it is stored. Places past a count, and what its form lacks, are 0 in a row that was read; in one that a caller lends anything
 // may stand there. C callers lend rows too, so the layout is C's.
@@ -57,18 +57,11 @@ pub struct Table {
     pub row: [Row; Table::CHAINS],
 }
 
-// Accepted, or the first fault: its number, and the offset of the first byte of the field at fault.
-#[derive(Clone, Copy)]
-pub enum Verdict {
-    Accepted,
-    Refused(u32, usize),
-}
-
-// The table beside its verdict; a refusal carries the empty table.
-#[derive(Clone, Copy)]
-pub struct Reading {
-    pub verdict: Verdict,
-    pub table: Table,
+// Part of a table's bytes: its offset from the first byte, and its length.
+#[derive(Clone, Copy, Debug, PartialEq, Eq)]
+pub struct Part {
+    pub offset: u32,
+    pub length: u32,
 }
 
 // The limits of documents 01 and 02.
@@ -95,7 +88,7 @@ pub struct Limits {
 }
 
 // What the two bytes of a mark, as a number, stand for.
-#[derive(Clone, Copy)]
+#[derive(Clone, Copy, Debug, PartialEq, Eq)]
 pub enum Mark {
     Chain,
     Task,

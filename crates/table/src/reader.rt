@@ -7,7 +7,7 @@ use crate::before::Before;
 use crate::bytes::u16_at;
 use crate::fault::{beside_fault, end_fault, mark_of};
 use crate::record::{form_at, has_flag, id_at, tasks_part};
-use crate::{Mark, Table, Verdict};
+use crate::{Fault, Mark, Refusal, Table, Verdict};
 
 // How many bytes a table may have, by its first mark.
 pub fn limit(s: &[u8]) -> usize
@@ -27,31 +27,21 @@ pub fn judge(s: &[u8]) -> Verdict
     ensures { result ≡ (read_table s.now).verdict }
 {
     if s.len() == 0 || limit(s) < s.len() {
-        return Verdict::Refused(1, 0);
+        return Err(Fault(Refusal::BadLength, 0));
     }
-    let mut ids = [0u16; Table::CHAINS];
-    let mut before = Before { count: 0, tasks: 0 };
+    let mut before = Before::nothing();
     let mut at: usize = 0;
     while at + 2 <= s.len() {
         match mark_of(u16_at(s, at)) {
             Mark::Chain => {
-                let chain = beside_fault(s, at, form_at(s, 0), &ids, before);
-                match chain {
-                    Verdict::Accepted => {
-                        let count = before.count;
-                        ids[count] = id_at(s, at);
-                        before.count = count + 1;
-                        let tasks = tasks_part(s, at);
-                        before.tasks = before.tasks + tasks.count;
-                        at = at + (tasks.from + 8 * tasks.count);
-                    }
-                    Verdict::Refused(_, _) => return chain,
-                }
+                beside_fault(s, at, form_at(s, 0), &before)?;
+                let tasks = tasks_part(s, at);
+                before.add(id_at(s, at), tasks.count);
+                at += tasks.from + 8 * tasks.count;
             }
             Mark::End => return end_fault(s, at, before.count),
-            Mark::Task => return Verdict::Refused(3, at),
-            Mark::Unknown => return Verdict::Refused(3, at),
+            _ => return Err(Fault(Refusal::BadMark, at)),
         }
     }
-    Verdict::Refused(2, s.len())
+    Err(Fault(Refusal::BytesMissing, s.len()))
 }

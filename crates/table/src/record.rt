@@ -6,7 +6,6 @@ ghost use Rattle.table.specs.Code.Taken.{Stands};
 
 use crate::Row;
 use crate::bytes::{count_at, u16_at, u32_at};
-use crate::wide::u32_from_u16;
 
 // The form of the chain record at `at`: its mark as a number.
 pub fn form_at(s: &[u8], at: usize) -> u16
@@ -209,7 +208,7 @@ pub fn priority_at(s: &[u8], at: usize, i: usize) -> u32
     requires { Stands s.now at × (i < tasks_at s.now at) }
     ensures { (result ≡ get_or (row_at s.now at).priority i 0) × (result < 65536) }
 {
-    u32_from_u16(u16_at(s, first_task(s, at) + 8 * i + 2))
+    u32::from(u16_at(s, first_task(s, at) + 8 * i + 2))
 }
 
 // The cost of its task i.

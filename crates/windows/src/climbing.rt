@@ -7,7 +7,7 @@ ghost use Rattle.arrivals.specs.Arrivals.{η};
 ghost use Rattle.windows.specs.Code.Load.{load_of, held_of, Held};
 ghost use Rattle.windows.specs.Code.Climb.{Behind, CountsHeld, Climbs, Climbed};
 
-use crate::{Own, Window};
+use crate::Own;
 use arrivals::eta_from;
 use table::Table;
 
@@ -51,7 +51,7 @@ pub fn climb(
     q: u64,
     start: u64,
     counts: &mut [u64; Own::COUNTS],
-) -> Window
+) -> Option<u64>
     requires { Climbs (load_of s.now own held.now) q start counts.old }
     ensures { Climbed (load_of s.now own held.now) q result counts.new }
 {

@@ -14,29 +14,19 @@ pub use sieving::least_called;
 pub use sweeping::any_over;
 use table::Table;
 
-// The least t that equals its demand, or none up to the horizon.
-#[derive(Clone, Copy)]
-pub enum Window {
-    At(u64),
-    Nothing,
+// What the latency query answers: K, latency, late and margin.
+#[derive(Clone, Copy, Debug, PartialEq, Eq)]
+pub struct Figures {
+    pub close: u32,
+    pub latency: u32,
+    pub late: u32,
+    pub margin: i32,
 }
 
-// What the latency query answers: the figures, K first, or the refusal's number.
-#[derive(Clone, Copy)]
-pub enum Answer {
-    Figures {
-        close: u32,
-        latency: u32,
-        late: u32,
-        margin: i32,
-    },
-    Refused(u32),
-}
-
-// What the windows of a chain give: the answer, and beside it the last window B(K), 0 where it is refused.
-#[derive(Clone, Copy)]
+// What the windows of a chain give: the figures, and beside them the last window B(K).
+#[derive(Clone, Copy, Debug, PartialEq, Eq)]
 pub struct Windows {
-    pub answer: Answer,
+    pub figures: Figures,
     pub last: u64,
 }
 

@@ -7,11 +7,11 @@ ghost use Rattle.windows.specs.Latency.{bound_at, latency_in, latency_of};
 
 use crate::loading::load;
 use crate::walking::walk;
-use crate::{Answer, Others, Own, Windows};
-use table::{Verdict, count, find, judge};
+use crate::{Figures, Others, Own, Windows};
+use table::{Refusal, count, find, judge};
 
 // What the windows of the chain of that number give, worked out once for whoever needs it.
-pub fn bound(s: &[u8], chain: usize) -> Windows
+pub fn bound(s: &[u8], chain: usize) -> Result<Windows, Refusal>
     requires { Taken s.now × (chain < (table_of s.now).count) }
     ensures { result ≡ bound_at δ (table_of s.now) chain }
 {
@@ -21,7 +21,7 @@ pub fn bound(s: &[u8], chain: usize) -> Windows
 }
 
 // The answer for the chain with the id, of an accepted table.
-fn latency_in(s: &[u8], id: u32) -> Answer
+fn latency_in(s: &[u8], id: u32) -> Result<Figures, Refusal>
     requires { Taken s.now }
     ensures { result ≡ latency_in δ (table_of s.now) id }
 {
@@ -34,7 +34,7 @@ fn latency_in(s: &[u8], id: u32) -> Answer
 }
 
 // The answer for the chain with the id, of a stored table.
-pub fn latency(table: &[u8], id: u32) -> Answer
+pub fn latency(table: &[u8], id: u32) -> Result<Figures, Refusal>
     ensures { result ≡ latency_of table.now id }
 {
     match judge(table) {

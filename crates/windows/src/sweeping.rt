@@ -4,7 +4,7 @@ ghost use Rattle.table.specs.Limits.{max_activations};
 ghost use Rattle.windows.specs.Code.Load.{load_of, Sound, over_in};
 
 use crate::climbing::climb;
-use crate::{Own, Window};
+use crate::Own;
 use arrivals::delta;
 use table::deadline_at;
 

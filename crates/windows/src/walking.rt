@@ -5,9 +5,9 @@ ghost use Rattle.windows.specs.Latency.{over_of, margin_of, unbounded};
 ghost use Rattle.windows.specs.Code.Load.{load_of, Sound, windows_in};
 
 use crate::climbing::climb;
-use crate::{Answer, Own, Window, Windows};
+use crate::{Figures, Own, Windows};
 use arrivals::delta;
-use table::{Table, deadline_at};
+use table::{Refusal, Table, deadline_at};
 
 // 1 where x exceeds the deadline.
 fn over(x: u64, deadline: u64) -> u32
@@ -35,7 +35,7 @@ fn refused(n: u32) -> Windows
 }
 
 // Takes q = 1, 2, ..: each window's climb starts where the window before ended, with the counts of arrivals that it had there.
-pub fn walk(s: &[u8], own: Own, held: &[u64; Own::HELD]) -> Windows
+pub fn walk(s: &[u8], own: Own, held: &[u64; Own::HELD]) -> Result<Windows, Refusal>
     requires { Sound (load_of s.now own held.now) }
     ensures { result ≡ windows_in (load_of s.now own held.now) }
 {

@@ -18,20 +18,6 @@ use put::{end, put_row, rows_put};
 pub use put::{put_end, put_gap, put_list};
 use table::{Row, Table, Verdict};
 
-// What a write answers: the used length, or the refusal.
-#[derive(Clone, Copy)]
-pub enum Written {
-    Used(u32),
-    Refused(u32),
-}
-
-// What reading into rows answers: how many chains there are, or the refusal.
-#[derive(Clone, Copy)]
-pub enum Filled {
-    Chains(u32),
-    Refused(u32),
-}
-
 // Judges the rows, in order.
 fn judge(rows: &[Row]) -> Tally
     ensures { JudgedRows rows.now result }
@@ -46,7 +32,7 @@ fn judge(rows: &[Row]) -> Tally
 }
 
 // The table of the rows becomes the first bytes of `out`; refused, every byte stays. All rows are judged before the first byte is put.
-pub fn write(rows: &[Row], out: &mut [u8]) -> Written
+pub fn write(rows: &[Row], out: &mut [u8]) -> Result<u32, Refusal>
     ensures { Writes rows.now out.old result out.new }
 {
     let judged = judge(rows);
@@ -58,7 +44,7 @@ pub fn write(rows: &[Row], out: &mut [u8]) -> Written
 }
 
 // What is answered of a table, where there is room for so many rows.
-fn answered(s: &[u8], room: usize) -> Filled
+fn answered(s: &[u8], room: usize) -> Result<u32, Refusal>
     ensures { Answers s.now room result }
 {
     match table::judge(s) {
@@ -75,7 +61,7 @@ fn answered(s: &[u8], room: usize) -> Filled
 }
 
 // How many rows are filled by that answer.
-fn rows_filled(answer: Filled) -> usize
+fn rows_filled(answer: Result<u32, Refusal>) -> usize
     ensures { result ≡ rows_filled answer }
 {
     match answer {
@@ -93,7 +79,7 @@ fn after(s: &[u8], at: usize) -> usize
 }
 
 // The chains of a table become the first of the rows; refused, every row stays.
-pub fn read(s: &[u8], rows: &mut [Row]) -> Filled
+pub fn read(s: &[u8], rows: &mut [Row]) -> Result<u32, Refusal>
     ensures { Fills s.now rows.old result rows.new }
 {
     let answer = answered(s, rows.len());

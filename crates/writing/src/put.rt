@@ -9,9 +9,8 @@ ghost use Rattle.writing.specs.Code.Tally.{first_number};
 ghost use Rattle.search.specs.Choice.{◌when◌else◌};
 ghost use Rattle.writing.specs.Code.Put.{distance_of, write_answer, rows_put, RowRoom, EndRoom, Ends};
 
-use crate::Written;
 use crate::judged::{Tally, known_of};
-use table::{Row, Table, put_u16, put_u32};
+use table::{Refusal, Row, Table, put_u16, put_u32};
 
 // The gap, or the flag in its place.
 pub fn put_gap(out: &mut [u8], at: usize, form: u16, flag: u8, gap: u32) -> usize
@@ -156,7 +155,7 @@ fn first_number(n: u32, m: u32) -> u32
 }
 
 // What a write into so much room answers, by what was judged: the rows' number, 11 where there is no row, then 24.
-fn answer_of(judged: Tally, room: usize) -> Written
+fn answer_of(judged: Tally, room: usize) -> Result<u32, Refusal>
     requires { judged.bytes ≤ 4096 }
     ensures { result ≡ write_answer judged room }
 {
@@ -190,7 +189,7 @@ pub fn put_end(out: &mut [u8], at: usize, count: usize)
 }
 
 // The answer; where the rows are put, the end record after them.
-pub fn end(judged: Tally, out: &mut [u8], at: usize) -> Written
+pub fn end(judged: Tally, out: &mut [u8], at: usize) -> Result<u32, Refusal>
     requires { EndRoom judged out.old at }
     ensures { Ends judged out.old at result out.new }
 {

@@ -2,10 +2,9 @@
 use Rattle.std.specs.Prelude.{ℕ, ◌+◌, ◌<◌, ◌≤◌, ◌≡◌, List, length, get_or}
 use Rattle.table.specs.Limits.{max_chains, max_activations}
 use Rattle.arrivals.specs.Arrivals.{η}
-use Rattle.windows.specs.Window.{window_of}
+use Rattle.windows.specs.Window.{Window, window_of}
 use Rattle.windows.specs.Code.Load.{Load, held_at, own_of, demand_in, Sound}
-use Rattle.windows.specs.declared.Window.{Window}
-use Rattle.windows.specs.declared.Window.TheVariants.{At}
+use Rattle.std.specs.declared.option.Option.TheVariants.{Some}
 
 -- where a climb from below may start: under every s in which its demand fits
 pub record Under (d : ℕ → ℕ) (t : ℕ) : Type 0 where
@@ -39,4 +38,4 @@ pub record Climbs (l : Load) (q start : ℕ) (counts : List ℕ) : Type 0 where
 -- and what it leaves: the window, and where there is one, no more counted than there is in it
 pub record Climbed (l : Load) (q : ℕ) (r : Window) (counts : List ℕ) : Type 0 where
   pub window : r ≡ window_of (demand_in l q)
-  pub counted : (t : ℕ) → r ≡ At t → Counted l t counts
+  pub counted : (t : ℕ) → r ≡ Some t → Counted l t counts

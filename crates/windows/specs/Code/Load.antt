@@ -22,6 +22,8 @@ use Rattle.windows.specs.declared.Others.TheVariants.{All, Typical}
 use Rattle.windows.specs.declared.Own.{Own}
 use Rattle.windows.specs.declared.Span.{Span}
 use Rattle.windows.specs.declared.Term.{Term}
+use Rattle.std.specs.declared.result.Result.{Result}
+use Rattle.table.specs.declared.refusal.Refusal.{Refusal}
 use Rattle.windows.specs.declared.Windows.{Windows}
 
 -- all others together, with a set's cost beside them, cost no more
@@ -82,7 +84,7 @@ unfoldable pub demand_in : Load → ℕ → ℕ → ℕ
 demand_in l q t = q * l.cost + (η (own_of l) t - q) * l.part + l.once + held_of l.bytes l.held l.count t
 
 -- what its windows give, and whether one up to `close` is over the deadline
-abbrev pub windows_in : Load → Windows
+abbrev pub windows_in : Load → Result Windows Refusal
 windows_in l = windows_of (demand_in l) (δ (own_of l)) (row_in l).deadline
 
 abbrev pub over_in : Load → ℕ → Bool

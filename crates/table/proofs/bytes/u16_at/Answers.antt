@@ -5,4 +5,4 @@ use Rattle.table.proofs.bytes.u16_at.Goals as goal
 
 pub returns : goal.returns
 unfolding word
-returns c = omega (arith, c.u16_from_u8-2.ensures.0, c.u16_from_u8.ensures.0)
+returns c = omega (arith, c.from-2.ensures, c.from.ensures)

@@ -5,4 +5,4 @@ use Rattle.table.proofs.bytes.u32_at.Goals as goal
 
 pub returns : goal.returns
 returns c = let a = c.args in
-    omega (arith, word_split 2 2 a.s.now a.at, c.u32_from_u16-2.ensures.0, c.u32_from_u16.ensures.0, c.u16_at-2.ensures, c.u16_at.ensures)
+    omega (arith, word_split 2 2 a.s.now a.at, c.from-2.ensures, c.from.ensures, c.u16_at-2.ensures, c.u16_at.ensures)

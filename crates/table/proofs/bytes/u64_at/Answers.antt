@@ -5,4 +5,4 @@ use Rattle.table.proofs.bytes.u64_at.Goals as goal
 
 pub returns : goal.returns
 returns c = let a = c.args in
-    omega (arith, word_split 4 4 a.s.now a.at, c.u64_from_u32-2.ensures.0, c.u64_from_u32.ensures.0, c.u32_at-2.ensures, c.u32_at.ensures)
+    omega (arith, word_split 4 4 a.s.now a.at, c.from-2.ensures, c.from.ensures, c.u32_at-2.ensures, c.u32_at.ensures)

@@ -7,6 +7,3 @@ use Rattle.table.proofs.decode.list_of.Given as goal
 
 abbrev pub invariant-loop-i : goal.invariant-loop-i
 invariant-loop-i l = (l.i ≤ l.n) × (l.list ≡ pad 8 (spaced (word 4 l.s) 4 l.i l.from))
-
-abbrev pub decreases-loop-i : goal.decreases-loop-i
-decreases-loop-i l = l.n - l.i

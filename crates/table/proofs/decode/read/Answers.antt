@@ -1,18 +1,16 @@
--- An accepted table is decoded; a refusal carries the empty one.
+-- An accepted table is decoded.
 use native.Mathlib.Omega.{arith}
-use mathlib.Core.Path.{ap, ap₂, sym, ◌∙◌}
-use Rattle.table.specs.declared.Reading.{Reading}
+use mathlib.Core.Path.{sym, ◌∙◌}
+use Rattle.table.specs.Read.{read_table}
 use Rattle.table.proofs.Accepted.{taken}
-use Rattle.table.proofs.Rows.{refused_reading}
+use Rattle.table.proofs.Firsts.{handed_on}
 use Rattle.table.proofs.decode.read.Goals as goal
 
 pub rows-requires : goal.rows-requires
-rows-requires c = taken c.args.s.now (λ i. omega (arith, c.shared_slice_known-1.given i)) (sym c.judge-verdict.ensures ∙ c.in-Accepted.is)
+rows-requires c = taken c.args.s.now (λ i. omega (arith, c.type_inv.s i)) (sym c.judge.ensures ∙ c.in_ok-judge.was)
 
-pub returns-in-Accepted : goal.returns-in-Accepted
-returns-in-Accepted c = ap₂ (λ v t. record { verdict = v; table = t }) c.judge-verdict.ensures c.rows.ensures
+pub returns-in_err-judge : goal.returns-in_err-judge
+returns-in_err-judge c = rw (handed_on _ c.from_residual.ensures.1, ← c.judge.ensures, c.in_err-judge.was)
 
-pub returns-in-Refused : goal.returns-in-Refused
-returns-in-Refused c = let s = c.args.s.now in
-    let e = refused_reading s c.in-Refused.field-0 c.in-Refused.field-1 (sym c.judge-verdict.ensures ∙ c.in-Refused.is) in
-    ap₂ (λ v t. record { verdict = v; table = t }) c.judge-verdict.ensures (c.empty.ensures ∙ ap (λ (r : Reading). r.table) (sym e))
+pub returns : goal.returns
+returns c = rw (← c.judge.ensures, c.in_ok-judge.was, c.rows.ensures)

@@ -6,6 +6,3 @@ use Rattle.table.proofs.decode.tasks_of.Given as goal
 
 abbrev pub invariant-loop-i : goal.invariant-loop-i
 invariant-loop-i l = (l.i ≤ l.n) × (l.priority ≡ pad 16 (spaced (priority_at l.s) 8 l.i l.from)) × (l.cost ≡ pad 16 (spaced (cost_at l.s) 8 l.i l.from))
-
-abbrev pub decreases-loop-i : goal.decreases-loop-i
-decreases-loop-i l = l.n - l.i

@@ -6,12 +6,12 @@ use Rattle.table.proofs.fault.counts_fault.Goals as goal
 
 pub returns-then-outside : goal.returns-then-outside
 unfolding counts_fault ◌when◌else◌
-returns-then-outside c at e = rw (← listed-before _ _ at e, ← c.u32_from_u8.ensures.0, ← c.outside.ensures, c.if-outside.true)
+returns-then-outside c at e = rw (← listed-before _ _ at e, ← c.from.ensures, ← c.outside.ensures, c.if-outside.true)
 
 pub returns-then-tasks_wrong : goal.returns-then-tasks_wrong
 unfolding counts_fault ◌when◌else◌
-returns-then-tasks_wrong c at e = rw (← listed-before _ _ at e, ← tasks-before _ _ at e, ← c.u32_from_u8.ensures.0, ← c.outside.ensures, c.if-outside.false, ← c.tasks_wrong.ensures, c.if-tasks_wrong.true)
+returns-then-tasks_wrong c at e = rw (← listed-before _ _ at e, ← tasks-before _ _ at e, ← c.from.ensures, ← c.outside.ensures, c.if-outside.false, ← c.tasks_wrong.ensures, c.if-tasks_wrong.true)
 
 pub returns : goal.returns
 unfolding counts_fault ◌when◌else◌
-returns c at e = rw (← listed-before _ _ at e, ← tasks-before _ _ at e, ← c.u32_from_u8.ensures.0, ← c.outside.ensures, c.if-outside.false, ← c.tasks_wrong.ensures, c.if-tasks_wrong.false)
+returns c at e = rw (← listed-before _ _ at e, ← tasks-before _ _ at e, ← c.from.ensures, ← c.outside.ensures, c.if-outside.false, ← c.tasks_wrong.ensures, c.if-tasks_wrong.false)

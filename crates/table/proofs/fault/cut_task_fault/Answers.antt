@@ -2,12 +2,13 @@
 use borrow.Author.Tests.{lt-ltb}
 use Rattle.search.specs.Choice.{◌when◌else◌}
 use Rattle.table.specs.Fault.{◌then◌, task_rest_fault, task_fault}
+use Rattle.table.proofs.Firsts.{handed_on}
 use Rattle.table.proofs.fault.cut_task_fault.Goals as goal
 
-pub returns-in-Accepted : goal.returns-in-Accepted
+pub returns-in_err-task_mark_fault : goal.returns-in_err-task_mark_fault
 unfolding task_fault task_rest_fault ◌then◌ ◌when◌else◌
-returns-in-Accepted c = rw (← c.task_mark_fault-mark.ensures, c.in-Accepted.is, lt-ltb _ _ c.requires.1)
+returns-in_err-task_mark_fault c = rw (handed_on _ c.from_residual.ensures.1, ← c.task_mark_fault.ensures, c.in_err-task_mark_fault.was)
 
-pub returns-in-Refused : goal.returns-in-Refused
+pub returns : goal.returns
 unfolding task_fault task_rest_fault ◌then◌ ◌when◌else◌
-returns-in-Refused c = rw (← c.task_mark_fault-mark.ensures, c.in-Refused.is)
+returns c = rw (← c.task_mark_fault.ensures, c.in_ok-task_mark_fault.was, lt-ltb _ _ c.requires.1)

@@ -12,14 +12,14 @@ pub returns-then-count-eq0 : goal.returns-then-count-eq0
 unfolding end_fault ◌when◌else◌
 returns-then-count-eq0 c t e = rw (e, le-ltb _ _ c.if-s-at.false, eq-eqb _ _ c.if-count-eq0.true)
 
-pub returns-then-u16_at-count : goal.returns-then-u16_at-count
+pub returns-then-from-count : goal.returns-then-from-count
 unfolding end_fault ◌when◌else◌
-returns-then-u16_at-count c t e = rw (e, le-ltb _ _ c.if-s-at.false, ne_eqb _ _ c.if-count-eq0.false, ← c.u16_at.ensures, ne_eqb _ _ c.if-u16_at-count.true)
+returns-then-from-count c t e = rw (e, le-ltb _ _ c.if-s-at.false, ne_eqb _ _ c.if-count-eq0.false, ← c.u16_at.ensures, ← c.from.ensures, ne_eqb _ _ c.if-from-count.true)
 
 pub returns-then-s-at-2 : goal.returns-then-s-at-2
 unfolding end_fault ◌when◌else◌
-returns-then-s-at-2 c t e = rw (e, le-ltb _ _ c.if-s-at.false, ne_eqb _ _ c.if-count-eq0.false, ← c.u16_at.ensures, eq-eqb _ _ c.if-u16_at-count.false, ne_eqb _ _ c.if-s-at-2.true)
+returns-then-s-at-2 c t e = rw (e, le-ltb _ _ c.if-s-at.false, ne_eqb _ _ c.if-count-eq0.false, ← c.u16_at.ensures, ← c.from.ensures, eq-eqb _ _ c.if-from-count.false, ne_eqb _ _ c.if-s-at-2.true)
 
 pub returns : goal.returns
 unfolding end_fault ◌when◌else◌
-returns c t e = rw (e, le-ltb _ _ c.if-s-at.false, ne_eqb _ _ c.if-count-eq0.false, ← c.u16_at.ensures, eq-eqb _ _ c.if-u16_at-count.false, eq-eqb _ _ c.if-s-at-2.false)
+returns c t e = rw (e, le-ltb _ _ c.if-s-at.false, ne_eqb _ _ c.if-count-eq0.false, ← c.u16_at.ensures, ← c.from.ensures, eq-eqb _ _ c.if-from-count.false, eq-eqb _ _ c.if-s-at-2.false)

@@ -8,6 +8,3 @@ use Rattle.table.proofs.fault.fall_fault.Given as goal
 
 abbrev pub invariant-loop-i : goal.invariant-loop-i
 invariant-loop-i l = (l.i ≤ l.n) × (fall_fault l.before (spaced (word 4 l.s) 4 (l.n - l.i) (l.at + 4 * l.i)) (l.at + 4 * l.i) ≡ fall_fault 0 (spaced (word 4 l.s) 4 l.n l.at) l.at)
-
-abbrev pub decreases-loop-i : goal.decreases-loop-i
-decreases-loop-i l = l.n - l.i

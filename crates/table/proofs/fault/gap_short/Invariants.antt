@@ -8,6 +8,3 @@ use Rattle.table.proofs.fault.gap_short.Given as goal
 
 abbrev pub invariant-loop-i : goal.invariant-loop-i
 invariant-loop-i l = (l.i ≤ l.n) × (gap_short l.gap (l.i + 1) (spaced (word 4 l.s) 4 (l.n - l.i) (l.at + 4 * l.i)) ≡ gap_short l.gap 1 (spaced (word 4 l.s) 4 l.n l.at))
-
-abbrev pub decreases-loop-i : goal.decreases-loop-i
-decreases-loop-i l = l.n - l.i

@@ -40,7 +40,7 @@ abbrev largest : (c : After-outside) → List ℕ
 largest c = spaced (word 4 (s c)) 4 ((n c) - ((i c) + 1)) ((at c) + 4 * ((i c) + 1))
 
 test : (c : After-outside) → outside (least c) max_largest (d c) ≡ c.outside.result
-test c = let high = c.larger-least.ensures ∙ ap (max c.loop-i.before) c.u32_at.ensures in
+test c = let high = c.max-least.ensures ∙ ap (max c.loop-i.before) c.u32_at.ensures in
     sym (c.outside.ensures ∙ ap₂ (λ m x. outside m max_largest x) high c.u32_at-d.ensures)
 
 opened : (c : After-outside) → short_fault c.loop-i.before (word 4 (s c) ((from c) + 4 * (i c)) ∷ (smallest c)) ((d c) ∷ (largest c)) ((at c) + 4 * (i c)) ≡ short_fault 0 (spaced (word 4 (s c)) 4 (n c) (from c)) (spaced (word 4 (s c)) 4 (n c) (at c)) (at c)

@@ -2,6 +2,7 @@
 use borrow.Author.Tests.{lt-ltb, le-ltb}
 use Rattle.search.specs.Choice.{◌when◌else◌}
 use Rattle.table.specs.Fault.{task_mark_fault}
+use Rattle.table.proofs.Marks.{no_task-other}
 use Rattle.table.proofs.fault.task_mark_fault.Goals as goal
 
 pub returns-then-s-at : goal.returns-then-s-at
@@ -12,14 +13,6 @@ pub returns-in-Task : goal.returns-in-Task
 unfolding task_mark_fault ◌when◌else◌
 returns-in-Task c = rw (le-ltb _ _ c.if-s-at.false, ← c.u16_at.ensures, ← c.mark_of.ensures, c.in-Task.is)
 
-pub returns-in-Chain : goal.returns-in-Chain
+pub returns-in_default : goal.returns-in_default
 unfolding task_mark_fault ◌when◌else◌
-returns-in-Chain c = rw (le-ltb _ _ c.if-s-at.false, ← c.u16_at.ensures, ← c.mark_of.ensures, c.in-Chain.is)
-
-pub returns-in-End : goal.returns-in-End
-unfolding task_mark_fault ◌when◌else◌
-returns-in-End c = rw (le-ltb _ _ c.if-s-at.false, ← c.u16_at.ensures, ← c.mark_of.ensures, c.in-End.is)
-
-pub returns-in-Unknown : goal.returns-in-Unknown
-unfolding task_mark_fault ◌when◌else◌
-returns-in-Unknown c = rw (le-ltb _ _ c.if-s-at.false, ← c.u16_at.ensures, ← c.mark_of.ensures, c.in-Unknown.is)
+returns-in_default c = rw (le-ltb _ _ c.if-s-at.false, ← c.u16_at.ensures, ← c.mark_of.ensures, no_task-other _ c.args.at c.in_default.not-Task)

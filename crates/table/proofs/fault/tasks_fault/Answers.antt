@@ -4,7 +4,7 @@ use native.Mathlib.Nat.{add-zero, sub-zero}
 use native.Mathlib.Omega.{arith}
 use mathlib.Core.Path.{sym, ◌∙◌}
 use Rattle.table.specs.Fault.{tasks_fault}
-use Rattle.table.proofs.Firsts.{then_stop, then_go}
+use Rattle.table.proofs.Firsts.{handed_on, then_stop, then_go}
 use Rattle.table.proofs.Lists.{tasks-on, tasks-end}
 use Rattle.table.proofs.Faultless.{task-right}
 use Rattle.table.proofs.fault.tasks_fault.Goals as goal
@@ -15,14 +15,15 @@ loop-i-init c = (omega arith, omega arith, simp (sub-zero, add-zero))
 pub loop-i-preserved : goal.loop-i-preserved
 loop-i-preserved c = let a = c.args in
     let i = c.loop-i.i in
-    let f = c.task_fault-task in
-    let there = (task-right _ _ (sym f.ensures ∙ c.in-Accepted.is)).there in
-    (omega arith, omega (arith, there), cc (tasks-on a.s.now a.n i a.at (omega arith), then_go f.result (tasks_fault a.s.now (a.n - (i + 1)) (a.at + 8 * (i + 1))) c.in-Accepted.is))
+    let f = c.task_fault in
+    let there = (task-right _ _ (sym f.ensures ∙ c.in_ok-task_fault.was)).there in
+    (omega arith, omega (arith, there), cc (tasks-on a.s.now a.n i a.at (omega arith), then_go f.result (tasks_fault a.s.now (a.n - (i + 1)) (a.at + 8 * (i + 1))) c.in_ok-task_fault.was))
 
-pub returns-in-Refused : goal.returns-in-Refused
-returns-in-Refused c = let a = c.args in
+pub returns-in_err-task_fault : goal.returns-in_err-task_fault
+returns-in_err-task_fault c = let a = c.args in
     let i = c.loop-i.i in
-    cc (tasks-on a.s.now a.n i a.at (omega arith), then_stop c.task_fault-task.result (tasks_fault a.s.now (a.n - (i + 1)) (a.at + 8 * (i + 1))) c.in-Refused.is)
+    let first = then_stop c.task_fault.result (tasks_fault a.s.now (a.n - (i + 1)) (a.at + 8 * (i + 1))) c.in_err-task_fault.was in
+    handed_on _ c.from_residual.ensures.1 ∙ sym c.in_err-task_fault.was ∙ cc (tasks-on a.s.now a.n i a.at (omega arith), first)
 
 pub returns : goal.returns
 returns c = let a = c.args in

@@ -7,6 +7,3 @@ use Rattle.table.proofs.fault.tasks_fault.Given as goal
 
 abbrev pub invariant-loop-i : goal.invariant-loop-i
 invariant-loop-i l = (l.i ≤ l.n) × (l.at + 8 * l.i ≤ length l.s) × (tasks_fault l.s (l.n - l.i) (l.at + 8 * l.i) ≡ tasks_fault l.s l.n l.at)
-
-abbrev pub decreases-loop-i : goal.decreases-loop-i
-decreases-loop-i l = l.n - l.i

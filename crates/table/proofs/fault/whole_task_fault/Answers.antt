@@ -8,6 +8,7 @@ use lib.Dec.{ltb}
 use borrow.Author.Tests.{le-ltb}
 use Rattle.search.specs.Choice.{◌when◌else◌}
 use Rattle.table.specs.Fault.{◌then◌, task_mark_fault, task_rest_fault, task_fault}
+use Rattle.table.proofs.Marks.{no_task-other}
 use Rattle.table.proofs.fault.whole_task_fault.Goals as goal
 use Rattle.table.proofs.fault.whole_task_fault.Goals.{Start}
 
@@ -22,14 +23,6 @@ pub returns-in-Task : goal.returns-in-Task
 unfolding task_fault task_mark_fault task_rest_fault ◌then◌ ◌when◌else◌
 returns-in-Task c = rw (marked (goal.at.returns-in-Task c).Start, ← c.u16_at.ensures, ← c.mark_of.ensures, c.in-Task.is, whole (goal.at.returns-in-Task c).Start, ← c.values_fault.ensures)
 
-pub returns-in-Chain : goal.returns-in-Chain
+pub returns-in_default : goal.returns-in_default
 unfolding task_fault task_mark_fault task_rest_fault ◌then◌ ◌when◌else◌
-returns-in-Chain c = rw (marked (goal.at.returns-in-Chain c).Start, ← c.u16_at.ensures, ← c.mark_of.ensures, c.in-Chain.is)
-
-pub returns-in-End : goal.returns-in-End
-unfolding task_fault task_mark_fault task_rest_fault ◌then◌ ◌when◌else◌
-returns-in-End c = rw (marked (goal.at.returns-in-End c).Start, ← c.u16_at.ensures, ← c.mark_of.ensures, c.in-End.is)
-
-pub returns-in-Unknown : goal.returns-in-Unknown
-unfolding task_fault task_mark_fault task_rest_fault ◌then◌ ◌when◌else◌
-returns-in-Unknown c = rw (marked (goal.at.returns-in-Unknown c).Start, ← c.u16_at.ensures, ← c.mark_of.ensures, c.in-Unknown.is)
+returns-in_default c = rw (marked (goal.at.returns-in_default c).Start, ← c.u16_at.ensures, ← c.mark_of.ensures, no_task-other _ c.args.at c.in_default.not-Task)

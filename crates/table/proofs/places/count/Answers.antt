@@ -19,4 +19,4 @@ returns c = let s = c.args.s.now in
     let t = table_of s in
     let h = c.requires.holds in
     let e : length s - 2 ≡ place_of t t.count + 2 = omega (arith, h.ends) in
-    c.u16_at.ensures ∙ ap (word 2 s) e ∙ h.counts
+    c.from.ensures ∙ c.u16_at.ensures ∙ ap (word 2 s) e ∙ h.counts

@@ -11,16 +11,16 @@ use Rattle.table.specs.declared.before.Before.{Before}
 use Rattle.table.proofs.reader.judge.Given as goal
 
 -- the rows before `at` make the table t
-pub record SoFar (s ids : List ℕ) (before : Before) (at : ℕ) (t : Table) : Type 0 where
+pub record SoFar (s : List ℕ) (before : Before) (at : ℕ) (t : Table) : Type 0 where
   pub few : before.count ≤ max_chains
   pub all : before.tasks ≤ max_all_tasks
   pub inside : at ≤ length s
   pub left : records (max_chains - t.count) s at t ≡ records max_chains s 0 empty
-  pub size : length ids ≡ max_chains
-  pub known : Keeps ids before t
+  pub size : length before.ids ≡ max_chains
+  pub known : Keeps before t
 
 abbrev pub invariant-loop-at : goal.invariant-loop-at
-invariant-loop-at l = (t : Table) × SoFar l.s l.ids l.before l.at t
+invariant-loop-at l = (t : Table) × SoFar l.s l.before l.at t
 
 abbrev pub decreases-loop-at : goal.decreases-loop-at
 decreases-loop-at l = max_chains - l.before.count
