@@ -19,8 +19,11 @@ use Rattle.table.specs.Read.{by_verdict, read_table, table_of}
 use Rattle.table.specs.declared.Row.{Row}
 use Rattle.table.specs.declared.Table.{Table}
 use Rattle.table.specs.declared.Mark.TheVariants as mark
-use Rattle.table.specs.declared.Verdict.{Verdict}
-use Rattle.table.specs.declared.Verdict.TheVariants as verdict
+use Rattle.table.specs.declared.Part.{Part}
+use Rattle.table.specs.declared.refusal.Refusal.{Refusal}
+use Rattle.table.specs.declared.refusal.Refusal.TheVariants.{NoChain, SameChain, NoSuchSegment}
+use Rattle.table.specs.Refusal.{Verdict}
+use Rattle.std.specs.declared.result.Result.TheVariants.{Ok, Err}
 use Rattle.table.proofs.Marks.{task-there}
 use Rattle.table.proofs.Stands.{priority-at, cost-at, tasks-there}
 use Rattle.table.proofs.Firsts.{none_or}
@@ -28,8 +31,7 @@ use Rattle.table.proofs.Faultless.{inside}
 use Rattle.table.proofs.Accepted.{taken}
 use Rattle.segments.specs.Tasks.{Task, tasks_from}
 use Rattle.segments.specs.Actives.{Active, start_of, nothing}
-use Rattle.segments.specs.Query.{actives_in, nth_of, answer_of, segment_of, part_of, bytes_of_task, tasks_in, TaskRecords}
-use Rattle.segments.specs.declared.Answer.TheVariants.{Records, Refused}
+use Rattle.segments.specs.Query.{Answer, actives_in, nth_of, answer_of, segment_of, part_of, bytes_of_task, tasks_in, TaskRecords}
 use Rattle.segments.proofs.Steps.{task}
 use Rattle.segments.proofs.Standing.{active_contiguous, actives-length, active-start, active-length}
 
@@ -37,26 +39,26 @@ use Rattle.segments.proofs.Standing.{active_contiguous, actives-length, active-s
 abbrev asked : Table → ℕ → ℕ → ℕ → Active
 asked t id against number = get_or (actives_in t (find_of t id) (find_of t against)) (number - 1) nothing
 
-record Answered (t : Table) (id against number offset len : ℕ) : Type 0 where
+record Answered (t : Table) (id against number : ℕ) (part : Part) : Type 0 where
   there : find_of t id < t.count
   low : 1 ≤ number
   high : number ≤ length (actives_in t (find_of t id) (find_of t against))
-  offset_is : offset ≡ place_of t (find_of t id) + tasks_start (row_of t (find_of t id)) + 8 * (asked t id against number).start
-  length_is : len ≡ 8 * (asked t id against number).len
+  offset_is : part.offset ≡ place_of t (find_of t id) + tasks_start (row_of t (find_of t id)) + 8 * (asked t id against number).start
+  length_is : part.length ≡ 8 * (asked t id against number).len
 
--- no refusal is a figure
-refused : {A : Type 0} (n offset len : ℕ) → Refused n ≡ Records offset len → A
-refused n offset len e = absurd (let z : ◌≡◌ {A = ℕ} 0 1 = cc in omega arith)
+-- no refusal is a part
+refused : {A : Type 0} (n : Refusal) (part : Part) → ◌≡◌ {A = Answer} (Err n) (Ok part) → A
+refused n part e = absurd (let z : ◌≡◌ {A = ℕ} 0 1 = cc in omega arith)
 
-answered : (t : Table) (id against number offset len : ℕ) → answer_of t id against number ≡ Records offset len → Answered t id against number offset len
+answered : (t : Table) (id against number : ℕ) (part : Part) → answer_of t id against number ≡ Ok part → Answered t id against number part
 unfolding answer_of nth_of
-answered t id against number offset len =
-    when_cases (λ r. r ≡ Records offset len → Answered t id against number offset len) (not (used t id) || not (used t against))
-    (λ u. refused 12 offset len)
-    (λ u. when_cases (λ r. r ≡ Records offset len → Answered t id against number offset len) (eqb id against)
-    (λ v. refused 25 offset len)
-    (λ v. when_cases (λ r. r ≡ Records offset len → Answered t id against number offset len) _
-    (λ w. refused 26 offset len)
+answered t id against number part =
+    when_cases (λ r. r ≡ Ok part → Answered t id against number part) (not (used t id) || not (used t against))
+    (λ u. refused NoChain part)
+    (λ u. when_cases (λ r. r ≡ Ok part → Answered t id against number part) (eqb id against)
+    (λ v. refused SameChain part)
+    (λ v. when_cases (λ r. r ≡ Ok part → Answered t id against number part) _
+    (λ w. refused NoSuchSegment part)
     (λ w e.
     let range = inside 1 _ number w in
     record {
@@ -84,20 +86,20 @@ tasks-bytes s ps cs first most each (suc n) i h =
     ∙ ap₂ ◌++◌ (each i (omega arith)) (ap (take (8 * n)) (drop-drop 8 (first + 8 * i) s ∙ ap (λ m. drop m s) next) ∙ tasks-bytes s ps cs first most each n (i + 1) (omega arith))
 
 -- an answer comes from an accepted table, which its bytes hold
-module _ (s : List ℕ) (bytes : Bytes s) (id against number offset len : ℕ) (e : segment_of s id against number ≡ Records offset len) where
-  accepted : (read_table s).verdict ≡ verdict.Accepted
+module _ (s : List ℕ) (bytes : Bytes s) (id against number : ℕ) (part : Part) (e : segment_of s id against number ≡ Ok part) where
+  accepted : (read_table s).verdict ≡ Ok tt
   unfolding segment_of
   accepted = by (read_table s).verdict e
     where
-      by : (v : Verdict) → by_verdict Refused v (answer_of (table_of s) id against number) ≡ Records offset len → v ≡ verdict.Accepted
-      by verdict.Accepted q = refl
-      by (verdict.Refused n place) q = refused n offset len q
+      by : (v : Verdict) → by_verdict Err v (answer_of (table_of s) id against number) ≡ Ok part → v ≡ Ok tt
+      by (Ok u) q = refl
+      by (Err f) q = refused f.0 part q
 
-  answer-of : Answered (table_of s) id against number offset len
+  answer-of : Answered (table_of s) id against number part
   unfolding segment_of
   answer-of =
-      answered (table_of s) id against number offset len
-      (sym (ap (λ v. by_verdict Refused v (answer_of (table_of s) id against number)) accepted) ∙ e)
+      answered (table_of s) id against number part
+      (sym (ap (λ v. by_verdict Err v (answer_of (table_of s) id against number)) accepted) ∙ e)
 
   holds : Holds s (table_of s)
   holds = (taken s bytes accepted).holds
@@ -118,16 +120,16 @@ module _ (s : List ℕ) (bytes : Bytes s) (id against number offset len : ℕ) (
   tasks = get_or (tasks_in (table_of s) id against) (number - 1) []
 
   -- the records are those of its tasks, and lie inside their chain's record
-  offset-there : offset ≡ first + 8 * start_of tasks
+  offset-there : part.offset ≡ first + 8 * start_of tasks
   offset-there = answer-of.offset_is ∙ ap (λ n. first + 8 * n) (active-start row other (number - 1))
 
-  length-there : len ≡ 8 * length tasks
+  length-there : part.length ≡ 8 * length tasks
   length-there = answer-of.length_is ∙ ap (λ n. 8 * n) (active-length row other (number - 1))
 
   follow-there : start_of tasks + length tasks ≤ row.tasks
   follow-there = (active_contiguous row other (number - 1)).inside
 
-  pub answer-inside : offset + len ≤ length s
+  pub answer-inside : part.offset + part.length ≤ length s
   answer-inside = omega (arith, offset-there, length-there, follow-there, holds.inside chain answer-of.there)
 
   -- each task of the chain stands where its record does
@@ -144,7 +146,7 @@ module _ (s : List ℕ) (bytes : Bytes s) (id against number offset len : ℕ) (
       (holds.task_marks chain answer-of.there i h) values.0 values.1)
 
   -- what is handed back is the task records of that active segment
-  pub answer-records : TaskRecords s id against number (part_of s (Records offset len))
+  pub answer-records : TaskRecords s id against number (part_of s (Ok part))
   answer-records = record {
     low = answer-of.low;
     high = omega (arith, answer-of.high, actives-length row other);

@@ -4,35 +4,42 @@ use native.Mathlib.Omega.{arith}
 use mathlib.Core.Path.{◌≡◌, ap, ap₂, sym, ◌∙◌}
 use mathlib.Core.Bool.{Bool, true, false, not}
 use mathlib.Core.Logic.{◌⊎◌, ⊎_elim}
-use borrow.Author.Tests.{le-ltb, lt-ltb, ltb-false}
-use lib.Dec.{ltb}
+use borrow.Author.Tests.{le-ltb, lt-ltb, ltb-false, eqb-true, eqb-false}
+use lib.Dec.{ltb, eqb}
 use lib.ListN.{length, get_or}
-use Rattle.search.proofs.Choice.{when_yes, when_no}
-use Rattle.table.specs.Find.{row_of, find_of, used}
+use Rattle.std.specs.Prelude.{Some, None}
+use Rattle.std.proofs.lemmas.Option.{none-some, same_Some}
+use Rattle.search.proofs.Choice.{when_yes, when_no, when_cases}
+use Rattle.table.specs.Find.{row_of, find_of, chain_with, used}
 use Rattle.table.specs.Place.{tasks_start, place_of}
 use Rattle.table.specs.declared.Row.{Row}
 use Rattle.table.specs.declared.Table.{Table}
+use Rattle.table.specs.declared.refusal.Refusal.TheVariants.{NoSuchSegment}
+use Rattle.std.specs.declared.result.Result.TheVariants.{Ok, Err}
 use Rattle.table.proofs.Firsts.{or_left, or_right, or_none}
 use Rattle.table.proofs.Finds.{find_le}
 use Rattle.segments.specs.Tasks.{tasks_of, floor_of, tail_of}
 use Rattle.segments.specs.Actives.{nothing, actives, actives_of}
 use Rattle.segments.specs.Code.Held.{arrays_of}
-use Rattle.segments.specs.Query.{actives_in, nth_of}
+use Rattle.segments.specs.Query.{Answer, actives_in, nth_of}
 use Rattle.segments.specs.declared.Actives.{Actives}
-use Rattle.segments.specs.declared.Answer.TheVariants.{Records, Refused}
 use Rattle.segments.proofs.Bounds.{actives-tasks}
 use Rattle.segments.proofs.Standing.{active_contiguous, active-start, active-length, array_at}
 
--- an id is in the table unless the count of chains is found for it
+-- whether an id is in the table, by the chain that is found for it
 module _ (t : Table) (id : ℕ) where
-  pub unknown : find_of t id ≡ t.count → not (used t id) ≡ true
-  unknown e = ap not (le-ltb (find_of t id) t.count (omega arith))
+  pub unknown : chain_with t id ≡ None → not (used t id) ≡ true
+  unknown e = when_cases (λ r. r ≡ None → not (used t id) ≡ true) (eqb (find_of t id) t.count)
+      (λ h q. ap not (le-ltb (find_of t id) t.count (omega (arith, eqb-true _ _ h))))
+      (λ h q. absurd (none-some (find_of t id) (sym q))) e
 
-  pub known : (find_of t id ≡ t.count → ⊥) → not (used t id) ≡ false
-  known e = ap not (lt-ltb (find_of t id) t.count (omega (arith, find_le t id)))
+  pub known : (chain : ℕ) → chain_with t id ≡ Some chain → (chain ≡ find_of t id) × (find_of t id < t.count)
+  known chain e = when_cases (λ r. r ≡ Some chain → (chain ≡ find_of t id) × (find_of t id < t.count)) (eqb (find_of t id) t.count)
+      (λ h q. absurd (none-some chain q))
+      (λ h q. (sym (same_Some _ _ q), omega (arith, eqb-false _ _ h, find_le t id))) e
 
-  pub known-below : (find_of t id ≡ t.count → ⊥) → find_of t id < t.count
-  known-below e = omega (arith, find_le t id)
+  pub known-used : (chain : ℕ) → chain_with t id ≡ Some chain → not (used t id) ≡ false
+  known-used chain e = ap not (lt-ltb (find_of t id) t.count (known chain e).1)
 
 -- what `active_segments` finds of a at b's floor and tail
 pub found-is : (a b : Row) (floor tail : ℕ) (l : Actives) → floor ≡ floor_of b → tail ≡ tail_of b → l ≡ arrays_of (actives floor tail (tasks_of a))
@@ -61,13 +68,13 @@ module _ (t : Table) (chain other n : ℕ) (l : Actives) (e : l ≡ arrays_of (a
   count-is b h = ap (λ o. ltb o.count n) (sym e) ∙ h
 
   -- no active segment has the number
-  pub nth-none : (n ≡ 0) ⊎ (ltb l.count n ≡ true) → Refused 26 ≡ nth_of t chain other n
+  pub nth-none : (n ≡ 0) ⊎ (ltb l.count n ≡ true) → ◌≡◌ {A = Answer} (Err NoSuchSegment) (nth_of t chain other n)
   unfolding nth_of
   nth-none h = sym (when_yes _ _ (⊎_elim (λ z. or_left _ _ (lt-ltb n 1 (omega arith))) (λ z. or_right (ltb n 1) _ (count-is true z)) h))
 
   -- the task records of the one that has it, where those of its chain start at `first`
   pub nth-records : (first : ℕ) → first ≡ place_of t chain + tasks_start (row_of t chain) → (n ≡ 0 → ⊥) → ltb l.count n ≡ false
-      → Records (first + 8 * get_or l.start (n - 1) 0) (8 * get_or l.len (n - 1) 0) ≡ nth_of t chain other n
+      → ◌≡◌ {A = Answer} (Ok (record { offset = first + 8 * get_or l.start (n - 1) 0; length = 8 * get_or l.len (n - 1) 0 })) (nth_of t chain other n)
   unfolding nth_of
   nth-records first p some few =
       let f = fetched (row_of t chain) (row_of t other) l n e some (ltb-false l.count n few) in
