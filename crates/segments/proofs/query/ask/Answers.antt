@@ -1,49 +1,56 @@
 -- By the tests, in the order of 01: 12, 25, and then the active segments.
+use Prim.Native.Nat.{◌<◌}
 use native.Mathlib.Omega.{arith}
-use mathlib.Core.Path.{◌≡◌, ap₂, sym, ◌∙◌}
+use mathlib.Core.Path.{◌≡◌, ap, ap₂, sym, ◌∙◌}
 use mathlib.Core.Bool.{not, false, ◌||◌}
-use mathlib.Core.Logic.{⊎_elim}
-use borrow.Author.Tests.{eq-eqb, ne_eqb}
+use borrow.Author.Tests.{lt-ltb, eq-eqb, ne_eqb}
 use Rattle.search.proofs.Choice.{when_yes, when_no}
 use Rattle.table.specs.declared.Table.{Table}
 use Rattle.table.specs.Find.{find_of, used}
 use Rattle.table.specs.Read.{table_of}
-use Rattle.table.proofs.Firsts.{or_left, or_right, or_none}
+use Rattle.table.proofs.Firsts.{handed_on, or_left, or_right, or_none}
 use Rattle.segments.specs.Query.{nth_of, answer_of}
-use Rattle.segments.proofs.Asking.{unknown, known, known-below}
+use Rattle.segments.proofs.Asking.{unknown, known}
 use Rattle.segments.proofs.query.ask.Goals as goal
-use Rattle.segments.proofs.query.ask.Goals.{Else-other-n, Start}
+use Rattle.segments.proofs.query.ask.Goals.{In_ok-other, Start}
 
 abbrev table : (c : Start) → Table
 table c = table_of c.args.s.now
 
-first-known : (c : Else-other-n) → find_of ((table_of c.args.s.now)) c.args.id ≡ ((table_of c.args.s.now)).count → ⊥
-first-known c e = c.if-chain-n.false (c.find-chain.ensures ∙ e ∙ sym c.count-n.ensures)
+first : (c : In_ok-other) → (c.in_ok-chain.chain ≡ find_of (table_of c.args.s.now) c.args.id) × (find_of (table_of c.args.s.now) c.args.id < (table_of c.args.s.now).count)
+first c = known _ _ (rw (← c.find.ensures) (sym c.ok_or.ensures.value ∙ c.in_ok-chain.was))
 
-second-known : (c : Else-other-n) → find_of ((table_of c.args.s.now)) c.args.against ≡ ((table_of c.args.s.now)).count → ⊥
-second-known c e = c.if-other-n.false (c.find-other.ensures ∙ e ∙ sym c.count-n.ensures)
+second : (c : In_ok-other) → (c.in_ok-other.other ≡ find_of (table_of c.args.s.now) c.args.against) × (find_of (table_of c.args.s.now) c.args.against < (table_of c.args.s.now).count)
+second c = known _ _ (rw (← c.find-2.ensures) (sym c.ok_or-2.ensures.value ∙ c.in_ok-other.was))
 
-named : (c : Else-other-n) → (not (used ((table_of c.args.s.now)) c.args.id) || not (used ((table_of c.args.s.now)) c.args.against)) ≡ false
-named c = or_none _ _ (known ((table_of c.args.s.now)) c.args.id (first-known c)) (known ((table_of c.args.s.now)) c.args.against (second-known c))
+named : (c : In_ok-other) → (not (used (table_of c.args.s.now) c.args.id) || not (used (table_of c.args.s.now) c.args.against)) ≡ false
+named c = or_none _ _ (ap not (lt-ltb _ _ (first c).1)) (ap not (lt-ltb _ _ (second c).1))
 
-pub returns-then-chain-n : goal.returns-then-chain-n
+pub returns-in_err-chain : goal.returns-in_err-chain
 unfolding answer_of
-returns-then-chain-n c = sym (when_yes _ _ (⊎_elim
-    (λ e. or_left _ _ (unknown (table (goal.at.returns-then-chain-n c).Start) c.args.id (sym c.find-chain.ensures ∙ e ∙ c.count-n.ensures)))
-    (λ w. or_right (not (used (table (goal.at.returns-then-chain-n c).Start) c.args.id)) _ (unknown (table (goal.at.returns-then-chain-n c).Start) c.args.against (sym c.find-other.ensures ∙ w.1 ∙ c.count-n.ensures)))
-    c.then-chain-n.either))
+returns-in_err-chain c =
+    let t = table (goal.at.returns-in_err-chain c).Start in
+    let u = unknown t c.args.id {r = c.in_err-chain.field-0.0} (rw (← c.find.ensures) (sym c.ok_or.ensures.value ∙ c.in_err-chain.was)) in
+    rw (handed_on _ c.from_residual.ensures.1, u.1) (sym (when_yes _ _ (or_left _ _ u.0)))
+
+pub returns-in_err-other : goal.returns-in_err-other
+unfolding answer_of
+returns-in_err-other c =
+    let t = table (goal.at.returns-in_err-other c).Start in
+    let u = unknown t c.args.against {r = c.in_err-other.field-0.0} (rw (← c.find-2.ensures) (sym c.ok_or-2.ensures.value ∙ c.in_err-other.was)) in
+    rw (handed_on _ c.from_residual-in_err-other.ensures.1, u.1) (sym (when_yes _ _ (or_right (not (used t c.args.id)) _ u.0)))
 
 pub returns-then-id-against : goal.returns-then-id-against
 unfolding answer_of
-returns-then-id-against c = sym (when_no _ _ (named (goal.at.returns-then-id-against c).Else-other-n) ∙ when_yes _ _ (eq-eqb _ _ c.if-id-against.true))
+returns-then-id-against c = sym (when_no _ _ (named (goal.at.returns-then-id-against c).In_ok-other) ∙ when_yes _ _ (eq-eqb _ _ c.if-id-against.true))
 
 pub nth-requires : goal.nth-requires
-nth-requires c = let chain = known-below (table (goal.at.nth-requires c).Start) c.args.id (first-known (goal.at.nth-requires c).Else-other-n) in
-    let other = known-below (table (goal.at.nth-requires c).Start) c.args.against (second-known (goal.at.nth-requires c).Else-other-n) in
-    (c.requires, omega (arith, c.find-chain.ensures, chain), omega (arith, c.find-other.ensures, other))
+nth-requires c = let at = (goal.at.nth-requires c).In_ok-other in
+    (c.requires, omega (arith, first at), omega (arith, second at))
 
 pub returns : goal.returns
 unfolding answer_of
-returns c = c.nth.ensures
-    ∙ ap₂ (λ chain other. nth_of (table (goal.at.returns c).Start) chain other c.args.number) c.find-chain.ensures c.find-other.ensures
-    ∙ sym (when_no _ _ (named (goal.at.returns c).Else-other-n) ∙ when_no _ _ (ne_eqb _ _ c.if-id-against.false))
+returns c = let at = (goal.at.returns c).In_ok-other in
+    c.nth.ensures
+    ∙ ap₂ (λ chain other. nth_of (table (goal.at.returns c).Start) chain other c.args.number) (first at).0 (second at).0
+    ∙ sym (when_no _ _ (named at) ∙ when_no _ _ (ne_eqb _ _ c.if-id-against.false))
