@@ -23,10 +23,12 @@ use Rattle.segments.specs.Tasks.{chain_cost}
 use Rattle.segments.specs.View.{View}
 use Rattle.windows.specs.Demand.{counted_part, demand_of, typical}
 use Rattle.windows.specs.Window.{window_of}
-use Rattle.windows.specs.Latency.{ends, close_of, latency_at, latency_to, up_to, over_of, late_to, margin_of, windows_of, bound_of}
-use Rattle.windows.specs.declared.Window.TheVariants.{At}
+use Rattle.windows.specs.Latency.{ends, close_of, latency_at, latency_to, up_to, over_of, late_to, margin_of, figures, windows_of, bound_of}
+use Rattle.std.specs.declared.option.Option.TheVariants.{Some}
 use Rattle.windows.specs.declared.Windows.{Windows}
-use Rattle.windows.specs.declared.Answer.TheVariants.{Figures}
+use Rattle.std.specs.declared.result.Result.{Result}
+use Rattle.std.specs.declared.result.Result.TheVariants.{Ok}
+use Rattle.table.specs.declared.refusal.Refusal.{Refusal}
 use Rattle.windows.proofs.Least.{window-less}
 use Rattle.search.proofs.Matching.{Matched}
 use Rattle.windows.proofs.Comparing.{Lesser, Lighter, demand-less, typical-less, Paced, typical-paced, views-less}
@@ -43,18 +45,14 @@ pub record Easier (demand harder : ℕ → ℕ → ℕ) (distance nearer : ℕ �
   pub deadlines : earlier ≤ deadline
 
 -- figures none of which is greater than these, with a margin no smaller and a last window no longer
-pub record NoWorse (w : Windows) (close latency late last : ℕ) (margin : ℤ) : Type 0 where
-  pub closing : ℕ
-  pub greatest : ℕ
-  pub count : ℕ
-  pub end : ℕ
-  pub rest : ℤ
-  pub is : w ≡ record { answer = Figures closing greatest count rest; last = end }
-  pub close_less : closing ≤ close
-  pub latency_less : greatest ≤ latency
-  pub late_less : count ≤ late
-  pub last_less : end ≤ last
-  pub margin_more : margin ≤ℤ rest
+pub record NoWorse (r : Result Windows Refusal) (w : Windows) : Type 0 where
+  pub found : Windows
+  pub is : r ≡ Ok found
+  pub close_less : found.figures.close ≤ w.figures.close
+  pub latency_less : found.figures.latency ≤ w.figures.latency
+  pub late_less : found.figures.late ≤ w.figures.late
+  pub last_less : found.last ≤ w.last
+  pub margin_more : w.figures.margin ≤ℤ found.figures.margin
 
 over-less : (x y deadline earlier : ℕ) → x ≤ y → earlier ≤ deadline → over_of x deadline ≤ over_of y earlier
 over-less x y deadline earlier h l = when_cases (λ n. n ≤ over_of y earlier) (ltb deadline x)
@@ -88,7 +86,7 @@ module _ {demand harder : ℕ → ℕ → ℕ} {distance nearer : ℕ → ℕ} {
 
   module _ {close last : ℕ} (closes : Closes harder nearer close last) where
     -- each window up to the second's K is there in the first too, and no longer, and so are the latencies
-    shorter : (q : ℕ) → 1 ≤ q → q ≤ close → (t : ℕ) × (window_of (demand q) ≡ At t) × (t ≤ last) × (latency_at demand distance q ≤ latency_at harder nearer q)
+    shorter : (q : ℕ) → 1 ≤ q → q ≤ close → (t : ℕ) × (window_of (demand q) ≡ Some t) × (t ≤ last) × (latency_at demand distance q ≤ latency_at harder nearer q)
     shorter q l h =
         let r = windows-there growing one closes q l h in
         let w = window-less (demand q) (easier.grows.grows q l) (harder q) (easier.demands q) r.0 r.1 in
@@ -105,29 +103,27 @@ module _ {demand harder : ℕ → ℕ → ℕ} {distance nearer : ℕ → ℕ} {
         (λ h. h)
         (lt_or_le close found)
 
-  pub figures-less : {close latency late : ℕ} {margin : ℤ} → (windows_of harder nearer earlier).answer ≡ Figures close latency late margin
-      → NoWorse (windows_of demand distance deadline) close latency late (windows_of harder nearer earlier).last margin
-  figures-less {close} {latency} {late} {margin} e =
+  pub figures-less : {w : Windows} → windows_of harder nearer earlier ≡ Ok w → NoWorse (windows_of demand distance deadline) w
+  figures-less {w} e =
       let c = answer-closed harder nearer earlier e in
       let k = found-less c.closes in
-      let w = shorter c.closes found found-low k in
+      let s = shorter c.closes found found-low k in
       let each : (q : ℕ) → 1 ≤ q → q ≤ found → latency_at demand distance q ≤ latency_at harder nearer q = λ q l h. (shorter c.closes q l (le_trans h k)).3 in
       let g = (latency-greatest demand distance found found-low).holds in
-      let less : latency_to demand distance found ≤ latency_to harder nearer close =
-      omega (arith, g.3, each g.0 g.1 g.2, (latency-greatest harder nearer close c.closes.low).above _ (g.0, g.1, le_trans g.2 k, refl)) in
+      let less : latency_to demand distance found ≤ latency_to harder nearer w.figures.close =
+      omega (arith, g.3, each g.0 g.1 g.2, (latency-greatest harder nearer w.figures.close c.closes.low).above _ (g.0, g.1, le_trans g.2 k, refl)) in
       record {
-        closing = found;
-        greatest = latency_to demand distance found;
-        count = late_to demand distance deadline found;
-        end = w.0;
-        rest = margin_of deadline (latency_to demand distance found);
-        is = closes-answer demand distance deadline (closes-found demand distance (le_trans k c.closes.high) w.1);
+        found = record {
+          figures = figures found (latency_to demand distance found) (late_to demand distance deadline found) (margin_of deadline (latency_to demand distance found));
+          last = s.0;
+        };
+        is = closes-answer demand distance deadline (closes-found demand distance (le_trans k c.closes.high) s.1);
         close_less = k;
         latency_less = omega (arith, less, c.greatest);
-        late_less = le_trans (late-up demand harder distance nearer deadline earlier easier.deadlines found close k each) (le_of_eq (sym c.count));
-        last_less = w.2;
+        late_less = le_trans (late-up demand harder distance nearer deadline earlier easier.deadlines found w.figures.close k each) (le_of_eq (sym c.count));
+        last_less = s.2;
         margin_more = subst (λ m. m ≤ℤ margin_of deadline (latency_to demand distance found)) (sym c.rest)
-            (margin-rises deadline earlier (latency_to demand distance found) latency easier.deadlines (omega (arith, less, c.greatest)));
+            (margin-rises deadline earlier (latency_to demand distance found) w.figures.latency easier.deadlines (omega (arith, less, c.greatest)));
       }
 
 -- what is analysed by a rule: a chain of an accepted table beside others
@@ -182,8 +178,7 @@ module _ {rule other : Rule} {b c : Row} {vs ws : List View} (r : Relieved rule 
   }
 
   -- the figures
-  pub bound-less : {close latency late : ℕ} {margin : ℤ} → (bound_of other c ws).answer ≡ Figures close latency late margin
-      → NoWorse (bound_of rule b vs) close latency late (bound_of other c ws).last margin
+  pub bound-less : {w : Windows} → bound_of other c ws ≡ Ok w → NoWorse (bound_of rule b vs) w
   unfolding bound_of
   bound-less = figures-less relieved_easier (analysed_growing r.second) (r.second.lawful.law r.second.good.list).one
 

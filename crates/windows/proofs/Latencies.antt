@@ -10,10 +10,9 @@ use Rattle.search.specs.Find.{Greatest}
 use Rattle.search.specs.Lists.{sum_of, most_of}
 use Rattle.search.proofs.Choice.{when_cases, lt_or_le}
 use Rattle.table.specs.Limits.{horizon}
-use Rattle.windows.specs.Window.{window_of}
+use Rattle.windows.specs.Window.{Window, window_of}
 use Rattle.windows.specs.Latency.{long, latency_at, up_to, latency_to, over_of, late_to}
-use Rattle.windows.specs.declared.Window.{Window}
-use Rattle.windows.specs.declared.Window.TheVariants.{At, Nothing}
+use Rattle.std.specs.declared.option.Option.TheVariants.{Some, None}
 use Rattle.windows.proofs.Least.{window-at}
 
 -- no window is longer than the horizon
@@ -21,14 +20,14 @@ pub long_le : (d : ℕ → ℕ) → long (window_of d) ≤ horizon
 long_le d = go (window_of d) refl
   where
     go : (w : Window) → window_of d ≡ w → long w ≤ horizon
-    go (At t) e = (window-at d t e).high
-    go Nothing e = zero-le
+    go (Some t) e = (window-at d t e).high
+    go None e = zero-le
 
 over_le : (x deadline : ℕ) → over_of x deadline ≤ 1
 over_le x deadline = when_cases (λ n. n ≤ 1) (ltb deadline x) (λ e. le_refl 1) (λ e. zero-le)
 
 module _ (demand : ℕ → ℕ → ℕ) (distance : ℕ → ℕ) where
-  pub latency-is : (q t : ℕ) → window_of (demand q) ≡ At t → latency_at demand distance q ≡ t - distance q
+  pub latency-is : (q t : ℕ) → window_of (demand q) ≡ Some t → latency_at demand distance q ≡ t - distance q
   unfolding latency_at
   latency-is q t e = ap (λ w. long w - distance q) e
 

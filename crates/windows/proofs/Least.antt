@@ -11,21 +11,20 @@ use Rattle.search.specs.Find.{first}
 use Rattle.search.proofs.Choice.{when_yes, when_no, true-not-false, lt_or_le}
 use Rattle.search.proofs.Find.{first-is, first-none, first_hit, first_ge, first_miss}
 use Rattle.table.specs.Limits.{horizon}
-use Rattle.windows.specs.Window.{Solution, within, window_of}
+use Rattle.windows.specs.Window.{Window, Solution, within, window_of}
 use Rattle.windows.specs.Code.Climb.{Under}
-use Rattle.windows.specs.declared.Window.{Window}
-use Rattle.windows.specs.declared.Window.TheVariants.{At, Nothing}
+use Rattle.std.specs.declared.option.Option.TheVariants.{Some, None}
 
 -- a window of d: its solution, or none where no t in 1 to the horizon equals its demand
 abbrev pub WindowOf : (ℕ → ℕ) → Window → Type 0
-WindowOf d (At t) = Solution d t
-WindowOf d Nothing = (s : ℕ) → 1 ≤ s → s ≤ horizon → s ≡ d s → ⊥
+WindowOf d (Some t) = Solution d t
+WindowOf d None = (s : ℕ) → 1 ≤ s → s ≤ horizon → s ≡ d s → ⊥
 
-within-yes : (t : ℕ) → t ≤ horizon → within t ≡ At t
-within-yes t h = when_no Nothing (At t) (le-ltb horizon t h)
+within-yes : (t : ℕ) → t ≤ horizon → within t ≡ Some t
+within-yes t h = when_no None (Some t) (le-ltb horizon t h)
 
-within_no : (t : ℕ) → horizon < t → within t ≡ Nothing
-within_no t h = when_yes Nothing (At t) (lt-ltb horizon t h)
+within_no : (t : ℕ) → horizon < t → within t ≡ None
+within_no t h = when_yes None (Some t) (lt-ltb horizon t h)
 
 module _ (d : ℕ → ℕ) where
   -- the window is a right one
@@ -56,20 +55,20 @@ module _ (d : ℕ → ℕ) where
   -- and nothing else is
   pub window-only : (w : Window) → WindowOf d w → w ≡ window_of d
   unfolding window_of
-  window-only (At t) a =
+  window-only (Some t) a =
       let e : first (λ s. eqb s (d s)) 1 horizon ≡ t =
       first-is _ 1 horizon t a.low (omega (arith, a.high)) (eq-eqb t (d t) a.solves)
       (λ k l m p. absurd (omega (arith, a.least k l (eqb-true k (d k) p)))) in
       sym (ap within e ∙ within-yes t a.high)
-  window-only Nothing a =
+  window-only None a =
       let e : first (λ s. eqb s (d s)) 1 horizon ≡ 1 + horizon =
       first-none _ 1 horizon (λ k l m p. a k l (omega arith) (eqb-true k (d k) p)) in
       sym (ap within e ∙ within_no (1 + horizon) (omega arith))
 
-  pub window-at : (t : ℕ) → window_of d ≡ At t → Solution d t
+  pub window-at : (t : ℕ) → window_of d ≡ Some t → Solution d t
   window-at t e = subst (WindowOf d) e window-right
 
-  pub window-none : window_of d ≡ Nothing → (s : ℕ) → 1 ≤ s → s ≤ horizon → s ≡ d s → ⊥
+  pub window-none : window_of d ≡ None → (s : ℕ) → 1 ≤ s → s ≤ horizon → s ≡ d s → ⊥
   window-none e = subst (WindowOf d) e window-right
 
 -- a demand that is some from 1 on, and never falls
@@ -95,12 +94,12 @@ module _ (d : ℕ → ℕ) (g : Grows d) where
       record { low = g.some t u.low; under = λ s l h. le_trans (g.mono t s (u.under s l h)) h }
 
   -- where it ends
-  pub under-solves : (t : ℕ) → Under d t → t ≤ horizon → t ≡ d t → At t ≡ window_of d
+  pub under-solves : (t : ℕ) → Under d t → t ≤ horizon → t ≡ d t → Some t ≡ window_of d
   under-solves t u h e =
-      window-only d (At t) (record { low = u.low; high = h; solves = e; least = λ s l f. u.under s l (le_of_eq (sym f)) })
+      window-only d (Some t) (record { low = u.low; high = h; solves = e; least = λ s l f. u.under s l (le_of_eq (sym f)) })
 
-  pub under_none : (t : ℕ) → Under d t → horizon < t → Nothing ≡ window_of d
-  under_none t u h = window-only d Nothing (λ s l m e. omega (arith, u.under s l (le_of_eq (sym e))))
+  pub under_none : (t : ℕ) → Under d t → horizon < t → None ≡ window_of d
+  under_none t u h = window-only d None (λ s l m e. omega (arith, u.under s l (le_of_eq (sym e))))
 
   -- below each s in which its demand fits there is a solution
   fits-solution : (f s : ℕ) → s ≤ f → 1 ≤ s → d s ≤ s → (r : ℕ) × (1 ≤ r) × (r ≤ s) × (r ≡ d r)
@@ -111,7 +110,7 @@ module _ (d : ℕ → ℕ) (g : Grows d) where
       (eq-or-lt_of_le h)
 
   -- so a window is where a climb for a greater demand may start
-  pub window-under : (t : ℕ) → window_of d ≡ At t → Under d t
+  pub window-under : (t : ℕ) → window_of d ≡ Some t → Under d t
   window-under t e =
       let a = window-at d t e in
       record {
@@ -122,17 +121,17 @@ module _ (d : ℕ → ℕ) (g : Grows d) where
       }
 
   -- and where the demand fits in some s up to the horizon, there is a window, at most s
-  pub window-fits : (s : ℕ) → 1 ≤ s → s ≤ horizon → d s ≤ s → (t : ℕ) × (window_of d ≡ At t) × (t ≤ s)
+  pub window-fits : (s : ℕ) → 1 ≤ s → s ≤ horizon → d s ≤ s → (t : ℕ) × (window_of d ≡ Some t) × (t ≤ s)
   window-fits s l h f = go (window_of d) refl
     where
-      go : (w : Window) → window_of d ≡ w → (t : ℕ) × (window_of d ≡ At t) × (t ≤ s)
-      go (At t) e = (t, e, (window-under t e).under s l f)
-      go Nothing e =
+      go : (w : Window) → window_of d ≡ w → (t : ℕ) × (window_of d ≡ Some t) × (t ≤ s)
+      go (Some t) e = (t, e, (window-under t e).under s l f)
+      go None e =
           let r = fits-solution s s (le_refl s) l f in
           absurd (window-none d e r.0 r.1 (le_trans r.2 h) r.3)
 
   -- a lesser demand has a window where a greater one has, and no greater one
-  pub window-less : (e : ℕ → ℕ) → ((t : ℕ) → d t ≤ e t) → (s : ℕ) → window_of e ≡ At s → (t : ℕ) × (window_of d ≡ At t) × (t ≤ s)
+  pub window-less : (e : ℕ → ℕ) → ((t : ℕ) → d t ≤ e t) → (s : ℕ) → window_of e ≡ Some s → (t : ℕ) × (window_of d ≡ Some t) × (t ≤ s)
   window-less e more s f =
       let a = window-at e s f in
       window-fits s a.low a.high (le_trans (more s) (le_of_eq (sym a.solves)))

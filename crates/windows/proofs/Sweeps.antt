@@ -12,7 +12,7 @@ use Rattle.search.proofs.Choice.{true-not-false}
 use Rattle.windows.specs.Window.{window_of}
 use Rattle.windows.specs.Latency.{up_to, longer, any_over}
 use Rattle.windows.specs.Code.Climb.{Under}
-use Rattle.windows.specs.declared.Window.TheVariants.{At, Nothing}
+use Rattle.std.specs.declared.option.Option.TheVariants.{Some, None}
 use Rattle.windows.proofs.Least.{under_one, under_lift, window-under}
 use Rattle.windows.proofs.Growth.{Growing}
 
@@ -61,10 +61,10 @@ module _ (demand : ℕ → ℕ → ℕ) (distance : ℕ → ℕ) (deadline : ℕ
     swept_over : passes (done + 1) ≡ true → any_over demand distance deadline close ≡ true
     swept_over e = some_one passes close (done + 1) (omega arith) (omega arith) e
 
-    pub swept_none : window_of (demand (done + 1)) ≡ Nothing → any_over demand distance deadline close ≡ true
+    pub swept_none : window_of (demand (done + 1)) ≡ None → any_over demand distance deadline close ≡ true
     swept_none e = swept_over (ap (λ w. longer w (distance (done + 1) + deadline)) e)
 
-    module _ (t : ℕ) (at : window_of (demand (done + 1)) ≡ At t) where
+    module _ (t : ℕ) (at : window_of (demand (done + 1)) ≡ Some t) where
       pub swept_past : distance (done + 1) + deadline < t → any_over demand distance deadline close ≡ true
       swept_past h = swept_over (ap (λ w. longer w (distance (done + 1) + deadline)) at ∙ lt-ltb _ t h)
 

@@ -12,10 +12,13 @@ use Rattle.search.proofs.Find.{first-is, first-none}
 use Rattle.table.specs.Limits.{horizon, max_activations}
 use Rattle.windows.specs.Window.{Solution, window_of}
 use Rattle.windows.specs.Code.Climb.{Under}
-use Rattle.windows.specs.Latency.{ends, close_of, latency_at, latency_to, over_of, late_to, margin_of, unbounded, ends_with, windows_of}
-use Rattle.windows.specs.declared.Window.TheVariants.{At, Nothing}
+use Rattle.windows.specs.Latency.{ends, close_of, latency_at, latency_to, over_of, late_to, margin_of, figures, ends_with, windows_of}
+use Rattle.std.specs.declared.option.Option.TheVariants.{Some, None}
 use Rattle.windows.specs.declared.Windows.{Windows}
-use Rattle.windows.specs.declared.Answer.TheVariants.{Figures}
+use Rattle.std.specs.declared.result.Result.{Result}
+use Rattle.std.specs.declared.result.Result.TheVariants.{Ok, Err}
+use Rattle.table.specs.declared.refusal.Refusal.{Refusal}
+use Rattle.table.specs.declared.refusal.Refusal.TheVariants.{PastHorizon, StillOpen}
 use Rattle.windows.proofs.Least.{window-at, window-under, under_one, under_lift}
 use Rattle.windows.proofs.Growth.{Growing}
 use Rattle.windows.proofs.Latencies.{latency-none, latency-more, latency-is, latency-near, late-none, late-more, late-few}
@@ -43,7 +46,7 @@ module _ (demand : ℕ → ℕ → ℕ) (distance : ℕ → ℕ) where
         let f : close_of demand distance ≡ q = first-is _ 1 max_activations q l (omega arith) e o in
         rw f (when_no _ _ (le-ltb max_activations q h))
 
-    pub windows_open : Open (max_activations + 1) → windows_of demand distance deadline ≡ unbounded 17
+    pub windows_open : Open (max_activations + 1) → windows_of demand distance deadline ≡ Err StillOpen
     unfolding windows_of close_of Open
     windows_open o =
         let f : close_of demand distance ≡ 1 + max_activations = first-none _ 1 max_activations o in
@@ -72,18 +75,18 @@ module _ (demand : ℕ → ℕ → ℕ) (distance : ℕ → ℕ) where
     }
 
     module _ (growing : Growing demand) {done start behind latency late : ℕ} (w : Walk done start behind latency late) where
-      pub walk_open : max_activations ≤ done → unbounded 17 ≡ windows_of demand distance deadline
+      pub walk_open : max_activations ≤ done → Err StillOpen ≡ windows_of demand distance deadline
       walk_open h =
           let e : done + 1 ≡ max_activations + 1 = omega (arith, w.some) in
           sym (windows_open (subst Open e w.still))
 
       module _ (turn : done < max_activations) where
-        pub walk_none : window_of (demand (done + 1)) ≡ Nothing → unbounded 16 ≡ windows_of demand distance deadline
+        pub walk_none : window_of (demand (done + 1)) ≡ None → Err PastHorizon ≡ windows_of demand distance deadline
         walk_none e =
             sym (windows-end (done + 1) (omega arith) (omega arith) (ap (λ x. ends x (distance (done + 1 + 1))) e) w.still
             ∙ ap (ends_with demand distance deadline (done + 1)) e)
 
-        module _ {t : ℕ} (at : window_of (demand (done + 1)) ≡ At t) where
+        module _ {t : ℕ} (at : window_of (demand (done + 1)) ≡ Some t) where
           solution : Solution (demand (done + 1)) t
           solution = window-at (demand (done + 1)) t at
 
@@ -110,11 +113,9 @@ module _ (demand : ℕ → ℕ → ℕ) (distance : ℕ → ℕ) where
 
             module _ {next : ℕ} (n : next ≡ distance (done + 1 + 1)) where
               -- it closes
-              pub walk-close : t ≤ next
-                  → ◌≡◌ {A = Windows} (record { answer = Figures (done + 1) best (late + more) (margin_of deadline best); last = t })
-                  (windows_of demand distance deadline)
+              pub walk-close : t ≤ next → Ok (record { figures = figures (done + 1) best (late + more) (margin_of deadline best); last = t }) ≡ windows_of demand distance deadline
               walk-close h =
-                  ap₂ (λ x y. record { answer = Figures (done + 1) x y (margin_of deadline x); last = t }) longer later
+                  ap₂ (λ x y. Ok (record { figures = figures (done + 1) x y (margin_of deadline x); last = t })) longer later
                   ∙ sym (windows-end (done + 1) (omega arith) (omega arith)
                   (ap (λ x. ends x (distance (done + 1 + 1))) at ∙ le-leb t (distance (done + 1 + 1)) (omega arith)) w.still
                   ∙ ap (ends_with demand distance deadline (done + 1)) at)

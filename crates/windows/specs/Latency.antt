@@ -70,17 +70,16 @@ any_over demand distance deadline close = some (λ q. longer (window_of (demand 
 abbrev pub margin_of : ℕ → ℕ → ℤ
 margin_of deadline latency = pos deadline -ℤ pos latency
 
+-- figures by their four values
+abbrev pub figures : ℕ → ℕ → ℕ → ℤ → Figures
+figures close latency late margin = record { close = close; latency = latency; late = late; margin = margin }
+
 -- what the windows give where they end at `close`, and its window is the last
 abbrev pub ends_with : (ℕ → ℕ → ℕ) → (ℕ → ℕ) → ℕ → ℕ → Window → Result Windows Refusal
 ends_with demand distance deadline close None = Err PastHorizon
 ends_with demand distance deadline close (Some t) =
     Ok (record {
-      figures = record {
-        close = close;
-        latency = latency_to demand distance close;
-        late = late_to demand distance deadline close;
-        margin = margin_of deadline (latency_to demand distance close);
-      };
+      figures = figures close (latency_to demand distance close) (late_to demand distance deadline close) (margin_of deadline (latency_to demand distance close));
       last = t;
     })
 

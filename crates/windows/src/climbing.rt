@@ -63,9 +63,9 @@ pub fn climb(
         let more = mine.saturating_sub(q) * own.part;
         let d = fixed + more + held_sum(s, held, own.count, t, counts);
         if d == t {
-            return Window::At(t);
+            return Some(t);
         }
         t = d;
     }
-    Window::Nothing
+    None
 }

@@ -8,7 +8,7 @@ ghost use Rattle.windows.specs.Latency.{bound_at, latency_in, latency_of};
 use crate::loading::load;
 use crate::walking::walk;
 use crate::{Figures, Others, Own, Windows};
-use table::{Refusal, count, find, judge};
+use table::{Refusal, find, judge};
 
 // What the windows of the chain of that number give, worked out once for whoever needs it.
 pub fn bound(s: &[u8], chain: usize) -> Result<Windows, Refusal>
@@ -25,20 +25,15 @@ fn latency_in(s: &[u8], id: u32) -> Result<Figures, Refusal>
     requires { Taken s.now }
     ensures { result ≡ latency_in δ (table_of s.now) id }
 {
-    let chain = find(s, id);
-    if chain == count(s) {
-        return Answer::Refused(12);
-    }
-    let w = bound(s, chain);
-    w.answer
+    let chain = find(s, id).ok_or(Refusal::NoChain)?;
+    let windows = bound(s, chain)?;
+    Ok(windows.figures)
 }
 
 // The answer for the chain with the id, of a stored table.
 pub fn latency(table: &[u8], id: u32) -> Result<Figures, Refusal>
     ensures { result ≡ latency_of table.now id }
 {
-    match judge(table) {
-        Verdict::Accepted => latency_in(table, id),
-        Verdict::Refused(n, _) => Answer::Refused(n),
-    }
+    judge(table)?;
+    latency_in(table, id)
 }

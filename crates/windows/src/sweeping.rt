@@ -18,8 +18,7 @@ pub fn any_over(s: &[u8], own: Own, held: &[u64; Own::HELD], close: u32) -> bool
     let mut start: u64 = 1;
     for done in 0..close {
         let q = done as u64 + 1;
-        let w = climb(s, own, held, q, start, &mut counts);
-        let Window::At(t) = w else {
+        let Some(t) = climb(s, own, held, q, start, &mut counts) else {
             return true;
         };
         if delta(s, own.list, q) + (deadline as u64) < t {

@@ -1,7 +1,7 @@
 // K, latency, late, margin and the last window, activation by activation.
 ghost use Rattle.std.specs.Prelude.{◌≡◌, ◌≤◌};
 ghost use Rattle.table.specs.Limits.{horizon, max_deadline};
-ghost use Rattle.windows.specs.Latency.{over_of, margin_of, unbounded};
+ghost use Rattle.windows.specs.Latency.{over_of, margin_of};
 ghost use Rattle.windows.specs.Code.Load.{load_of, Sound, windows_in};
 
 use crate::climbing::climb;
@@ -24,16 +24,6 @@ fn margin(deadline: u32, latency: u32) -> i32
     (deadline as i32) - (latency as i32)
 }
 
-// No figures: the refusal's number alone.
-fn refused(n: u32) -> Windows
-    ensures { result ≡ unbounded n }
-{
-    Windows {
-        answer: Answer::Refused(n),
-        last: 0,
-    }
-}
-
 // Takes q = 1, 2, ..: each window's climb starts where the window before ended, with the counts of arrivals that it had there.
 pub fn walk(s: &[u8], own: Own, held: &[u64; Own::HELD]) -> Result<Windows, Refusal>
     requires { Sound (load_of s.now own held.now) }
@@ -47,28 +37,23 @@ pub fn walk(s: &[u8], own: Own, held: &[u64; Own::HELD]) -> Result<Windows, Refu
     let mut late: u32 = 0;
     for done in 0..Table::ACTIVATIONS {
         let q = done + 1;
-        let w = climb(s, own, held, q as u64, start, &mut counts);
-        let Window::At(t) = w else {
-            return refused(16);
-        };
+        let t = climb(s, own, held, q as u64, start, &mut counts).ok_or(Refusal::PastHorizon)?;
         let span = t - behind;
         let next = delta(s, own.list, q as u64 + 1);
         latency = latency.max(span);
         late += over(span, deadline as u64);
         if t <= next {
             let greatest = latency as u32;
-            return Windows {
-                answer: Answer::Figures {
-                    close: q,
-                    latency: greatest,
-                    late,
-                    margin: margin(deadline, greatest),
-                },
-                last: t,
+            let figures = Figures {
+                close: q,
+                latency: greatest,
+                late,
+                margin: margin(deadline, greatest),
             };
+            return Ok(Windows { figures, last: t });
         }
         start = t;
         behind = next;
     }
-    refused(17)
+    Err(Refusal::StillOpen)
 }

@@ -11,7 +11,7 @@ use Rattle.arrivals.proofs.Distances.{δ-near}
 use Rattle.windows.specs.Window.{window_of}
 use Rattle.windows.specs.Latency.{any_over}
 use Rattle.windows.specs.Code.Load.{Load, load_of, own_of, demand_in}
-use Rattle.windows.specs.declared.Window.TheVariants.{At}
+use Rattle.std.specs.declared.option.Option.TheVariants.{Some}
 use Rattle.windows.proofs.Growth.{load-growing}
 use Rattle.windows.proofs.Counting.{own-list, own-lists, counted_none}
 use Rattle.windows.proofs.Sweeps.{swept_start, swept_none, swept_past, swept_on}

@@ -12,7 +12,7 @@ use Rattle.arrivals.proofs.Distances.{δ-one}
 use Rattle.windows.specs.Window.{window_of}
 use Rattle.windows.specs.Latency.{margin_of, windows_of}
 use Rattle.windows.specs.Code.Load.{Load, load_of, own_of, demand_in}
-use Rattle.windows.specs.declared.Window.TheVariants.{At}
+use Rattle.std.specs.declared.option.Option.TheVariants.{Some}
 use Rattle.windows.specs.declared.Answer.TheVariants.{Figures}
 use Rattle.windows.proofs.Growth.{Growing, load-growing}
 use Rattle.windows.proofs.Counting.{own-list, own-lists, counted_none}
