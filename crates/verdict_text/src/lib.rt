@@ -1,4 +1,5 @@
-// A refusal in words: its number, the byte at which a table broke, what is wrong, and in which record and field.
+// A refusal in words: its number, what is wrong, and for a table's also the byte at which it broke, and in which record and field.
+// What puts something answers whether it was written.
 #![tactic(auto)]
 
 mod output;
@@ -6,18 +7,43 @@ mod place;
 mod sentence;
 
 pub use output::{put, put_counted, put_number};
-use place::put_place;
-pub use sentence::put_sentence;
+use place::print_place;
+use sentence::sentence;
+use std::io;
+use table::{Fault, Refusal};
 
-// The number, the byte, and the header's sentence for the number.
-pub fn put_refusal(to: &impl Print, number: u32, at: usize) -> bool {
-    let what = put(to, b"refused ") && put_number(to, number as usize);
-    let byte = what && put(to, b" at byte ") && put_number(to, at);
-    byte && put(to, b": ") && put_sentence(to, number)
+// The header's sentence for the refusal.
+pub fn put_sentence(to: &impl Print, refusal: Refusal) -> bool {
+    to.print(sentence(refusal)).is_ok()
+}
+
+// The number, and the header's sentence.
+pub fn put_refusal(to: &impl Print, refusal: Refusal) -> bool {
+    print!(to; "refused {}: {}", refusal.number(), sentence(refusal)).is_ok()
+}
+
+fn print_fault(to: &impl Print, fault: Fault) -> io::Result<()> {
+    let Fault(refusal, at) = fault;
+    print!(to;
+        "refused {} at byte {at}: {}",
+        refusal.number(),
+        sentence(refusal)
+    )
+}
+
+// The same with the byte between them.
+pub fn put_fault(to: &impl Print, fault: Fault) -> bool {
+    print_fault(to, fault).is_ok()
+}
+
+fn print_refused(to: &impl Print, s: &[u8], fault: Fault) -> io::Result<()> {
+    print_fault(to, fault)?;
+    print!(to; " (")?;
+    print_place(to, s, fault)?;
+    print!(to; ")")
 }
 
 // The same of a table that is there: after it, in brackets, the record and the field.
-pub fn put_refused(to: &impl Print, s: &[u8], number: u32, at: usize) -> bool {
-    let why = put_refusal(to, number, at) && put(to, b" (");
-    why && put_place(to, s, number, at) && put(to, b")")
+pub fn put_refused(to: &impl Print, s: &[u8], fault: Fault) -> bool {
+    print_refused(to, s, fault).is_ok()
 }

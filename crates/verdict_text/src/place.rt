@@ -3,10 +3,11 @@
 ghost use Rattle.std.specs.Prelude.{◌≡◌, true, ◌+◌, ◌≤◌, ◌<◌, length};
 ghost use Rattle.table.specs.Record.{form_at, head_length};
 
-use crate::output::{put, put_counted, put_number};
+use crate::output::plural;
+use std::io;
 use table::{
-    Mark, Table, form_at, has_flag, head_length, known_at, limit, listed_at, mark_of,
-    record_length, u16_at,
+    Fault, Mark, Refusal, Table, form_at, has_flag, head_length, known_at, limit, listed_at,
+    mark_of, record_length, u16_at,
 };
 
 // What begins at an offset, by its mark.
@@ -51,14 +52,14 @@ fn has_head(s: &[u8], start: usize) -> bool
     is_there(s, start, 2) && is_there(s, start, head_length(form_at(s, start)))
 }
 
-// How long the chain record is that begins here; 0 where there is none with all of its fixed part.
-fn chain_length(s: &[u8], start: usize) -> usize {
+// How long the chain record is that begins here, where there is one with all of its fixed part.
+fn chain_length(s: &[u8], start: usize) -> Option<usize> {
     if !has_head(s, start) {
-        return 0;
+        return None;
     }
     match record_at(s, start) {
-        Record::Chain => record_length(s, start),
-        _ => 0,
+        Record::Chain => Some(record_length(s, start)),
+        _ => None,
     }
 }
 
@@ -68,10 +69,9 @@ fn place_of(s: &[u8], at: usize) -> Place {
     let mut start: usize = 0;
     let mut offset = at;
     while record <= Table::CHAINS {
-        let length = chain_length(s, start);
-        if length == 0 {
+        let Some(length) = chain_length(s, start) else {
             break;
-        }
+        };
         if offset < length {
             break;
         }
@@ -87,127 +87,125 @@ fn place_of(s: &[u8], at: usize) -> Place {
 }
 
 // What a chain of this form has after its deadline, by how many bytes of its fixed part are left there.
-fn put_last(to: &impl Print, form: u16, left: usize) -> bool {
+fn last_field(form: u16, left: usize) -> &'static str {
     match left {
-        1 => put(to, b"task count"),
-        2 => put(to, b"list length"),
-        _ => {
-            if has_flag(form) {
-                put(to, b"flag")
-            } else {
-                put(to, b"gap")
-            }
-        }
+        1 => "task count",
+        2 => "list length",
+        _ if has_flag(form) => "flag",
+        _ => "gap",
     }
 }
 
 // A field of the fixed part that a chain of this form has.
-fn put_fixed(to: &impl Print, form: u16, offset: usize) -> bool
+fn fixed_field(form: u16, offset: usize) -> &'static str
     requires { offset < head_length form }
 {
     match offset {
-        0 | 1 => put(to, b"mark"),
-        2 | 3 => put(to, b"id"),
-        4 => put(to, b"kind"),
-        5 => put(to, b"overload"),
-        6..=9 => put(to, b"deadline"),
-        _ => put_last(to, form, head_length(form) - offset),
+        0 | 1 => "mark",
+        2 | 3 => "id",
+        4 => "kind",
+        5 => "overload",
+        6..=9 => "deadline",
+        _ => last_field(form, head_length(form) - offset),
     }
 }
 
-// A field of a chain's tasks, by the offset from the first of them.
-fn put_task(to: &impl Print, offset: usize) -> bool {
-    let task = put(to, b"task ") && put_number(to, offset / 8 + 1);
-    match offset % 8 {
-        0 | 1 => task && put(to, b", mark"),
-        2 | 3 => task && put(to, b", priority"),
-        _ => task && put(to, b", cost"),
+// A field of a task, by the offset from its first byte.
+fn task_field(offset: usize) -> &'static str {
+    match offset {
+        0 | 1 => "mark",
+        2 | 3 => "priority",
+        _ => "cost",
     }
 }
 
-// A field after the fixed part of a chain with so many distances and largest distances.
-fn put_listed(to: &impl Print, listed: usize, known: usize, offset: usize) -> bool {
+// A field after the fixed part of a chain with so many distances and largest distances: one of them, or one of a task.
+fn print_listed(to: &impl Print, listed: usize, known: usize, offset: usize) -> io::Result<()> {
     let place = offset / 4;
     if place < listed {
-        return put(to, b"distance ") && put_number(to, place + 1);
+        return print!(to; "distance {}", place + 1);
     }
-    let past = place - listed;
-    if past < known {
-        return put(to, b"largest distance ") && put_number(to, past + 1);
+    if place - listed < known {
+        return print!(to; "largest distance {}", place - listed + 1);
     }
-    put_task(to, offset - 4 * (listed + known))
+    let past = offset - 4 * (listed + known);
+    print!(to; "task {}, {}", past / 8 + 1, task_field(past % 8))
 }
 
 // A field of the chain record at `start`. One whose fixed part is cut off has its mark alone to be refused for.
-fn put_chain(to: &impl Print, s: &[u8], start: usize, offset: usize) -> bool {
+fn print_chain(to: &impl Print, s: &[u8], start: usize, offset: usize) -> io::Result<()> {
     if !has_head(s, start) {
-        return put(to, b"mark");
+        return print!(to; "mark");
     }
     let form = form_at(s, start);
     let head = head_length(form);
     if offset < head {
-        put_fixed(to, form, offset)
+        to.print(fixed_field(form, offset))
     } else {
-        put_listed(to, listed_at(s, start), known_at(s, start), offset - head)
+        print_listed(to, listed_at(s, start), known_at(s, start), offset - head)
     }
 }
 
-fn put_end(to: &impl Print, offset: usize) -> bool {
+fn print_end(to: &impl Print, offset: usize) -> io::Result<()> {
     if offset < 4 {
-        put(to, b"end record, count")
+        print!(to; "end record, count")
     } else {
-        put(to, b"after the end record")
+        print!(to; "after the end record")
     }
 }
 
-fn put_field(to: &impl Print, s: &[u8], p: Place) -> bool {
+fn print_field(to: &impl Print, s: &[u8], p: Place) -> io::Result<()> {
+    let record = p.record;
     match record_at(s, p.start) {
         Record::Chain => {
-            let chain = put(to, b"chain record ") && put_number(to, p.record) && put(to, b", ");
-            chain && put_chain(to, s, p.start, p.offset)
+            print!(to; "chain record {record}, ")?;
+            print_chain(to, s, p.start, p.offset)
         }
-        Record::End => put_end(to, p.offset),
-        _ => put(to, b"record ") && put_number(to, p.record) && put(to, b", mark"),
+        Record::End => print_end(to, p.offset),
+        _ => print!(to; "record {record}, mark"),
     }
 }
 
 // Where the bytes run out before a mark: no byte of it is left, or one.
-fn put_no_mark(to: &impl Print, p: Place) -> bool {
+fn print_no_mark(to: &impl Print, p: Place) -> io::Result<()> {
+    let record = p.record;
     if p.offset == 0 {
-        put(to, b"before the end record")
+        print!(to; "before the end record")
     } else {
-        put(to, b"in the mark of record ") && put_number(to, p.record)
+        print!(to; "in the mark of record {record}")
     }
 }
 
 // Where the bytes run out.
-fn put_missing(to: &impl Print, s: &[u8], p: Place) -> bool {
+fn print_missing(to: &impl Print, s: &[u8], p: Place) -> io::Result<()> {
+    let record = p.record;
     match record_at(s, p.start) {
-        Record::Chain => put(to, b"in chain record ") && put_number(to, p.record),
-        Record::End => put(to, b"in the end record"),
-        _ => put_no_mark(to, p),
+        Record::Chain => print!(to; "in chain record {record}"),
+        Record::End => print!(to; "in the end record"),
+        _ => print_no_mark(to, p),
     }
 }
 
-fn put_length(to: &impl Print, s: &[u8]) -> bool {
+fn print_length(to: &impl Print, s: &[u8]) -> io::Result<()> {
     if s.len() == 0 {
-        return put(to, b"the table has 0 bytes");
+        return print!(to; "the table has 0 bytes");
     }
     if limit(s) == Table::BYTES {
-        put(to, b"the table has more than 1,748 bytes")
+        print!(to; "the table has more than 1,748 bytes")
     } else {
-        put(to, b"the table has more than 1,284 bytes")
+        print!(to; "the table has more than 1,284 bytes")
     }
 }
 
-// The place that a refusal of this number has at this offset.
-pub(crate) fn put_place(to: &impl Print, s: &[u8], number: u32, at: usize) -> bool {
-    match number {
-        1 => put_length(to, s),
-        2 => {
-            let after = put(to, b"after ") && put_counted(to, at, b" byte") && put(to, b", ");
-            after && put_missing(to, s, place_of(s, at))
+// The place of the fault.
+pub(crate) fn print_place(to: &impl Print, s: &[u8], fault: Fault) -> io::Result<()> {
+    let Fault(refusal, at) = fault;
+    match refusal {
+        Refusal::BadLength => print_length(to, s),
+        Refusal::BytesMissing => {
+            print!(to; "after {at} byte{}, ", plural(at))?;
+            print_missing(to, s, place_of(s, at))
         }
-        _ => put_field(to, s, place_of(s, at)),
+        _ => print_field(to, s, place_of(s, at)),
     }
 }
