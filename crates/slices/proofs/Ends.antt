@@ -9,12 +9,12 @@ use Rattle.table.specs.Bytes.{word, bytes_of, Bytes}
 use Rattle.table.specs.Record.{end_record}
 use Rattle.table.specs.Place.{place_of}
 use Rattle.table.specs.Read.{read_table, table_of}
-use Rattle.table.specs.declared.Verdict.TheVariants.{Accepted}
+use Rattle.std.specs.declared.result.Result.TheVariants.{Ok}
 use Rattle.table.proofs.Marks.{mark-number}
 use Rattle.table.proofs.Words.{word_back}
 use Rattle.table.proofs.Accepted.{taken}
 
-module _ (s : List ℕ) (bytes : Bytes s) (verdict : (read_table s).verdict ≡ Accepted) where
+module _ (s : List ℕ) (bytes : Bytes s) (verdict : (read_table s).verdict ≡ Ok tt) where
   abbrev end : ℕ
   end = place_of (table_of s) (table_of s).count
 

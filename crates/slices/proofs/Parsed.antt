@@ -16,12 +16,13 @@ use Rattle.table.specs.Record.{form_at, length_at, row_at}
 use Rattle.table.specs.Find.{rows}
 use Rattle.table.specs.Fault.{mark_of, beside_fault, end_fault}
 use Rattle.table.specs.Read.{empty, plus, refusal, accepted, unless, by_mark, records, limit_of, read_table}
-use Rattle.table.specs.declared.Reading.{Reading}
+use Rattle.table.specs.Read.{Reading}
 use Rattle.table.specs.declared.Table.{Table}
 use Rattle.table.specs.declared.Mark.{Mark}
 use Rattle.table.specs.declared.Mark.TheVariants.{Chain, Task, End, Unknown}
-use Rattle.table.specs.declared.Verdict.{Verdict}
-use Rattle.table.specs.declared.Verdict.TheVariants.{Accepted, Refused}
+use Rattle.table.specs.Refusal.{Verdict}
+use Rattle.std.specs.declared.result.Result.TheVariants.{Ok, Err}
+use Rattle.table.specs.declared.refusal.Refusal.TheVariants.{BadMark, BadChainCount}
 use Rattle.table.proofs.Firsts.{not-accepted}
 use Rattle.table.proofs.Faultless.{chain-right, BesideRight, beside-right}
 use Rattle.table.proofs.Steps.{records-mark, records-refused, records-beside}
@@ -49,46 +50,46 @@ module _ (s : List ℕ) (at : ℕ) (r rest : List ℕ) (d : drop at s ≡ r ++ r
   stands-inside = omega (arith, length-drop at s, ap length d, length-append r rest, w.long)
 
 -- no fault was found where what follows one was
-unless-passed : (v : Verdict) (r : Reading) → (unless refusal v r).verdict ≡ Accepted → (v ≡ Accepted) × (unless refusal v r ≡ r)
+unless-passed : (v : Verdict) (r : Reading) → (unless refusal v r).verdict ≡ Ok tt → (v ≡ Ok tt) × (unless refusal v r ≡ r)
 unfolding unless
-unless-passed Accepted r e = (refl, refl)
-unless-passed (Refused n place) r e = absurd (not-accepted e)
+unless-passed (Ok u) r e = (refl, refl)
+unless-passed (Err f) r e = absurd (not-accepted e)
 
 module _ (s : List ℕ) where
   -- the rest of the reading, from the rows of t on
   abbrev go : ℕ → Table → Reading
   go at t = records (max_chains - t.count) s at t
 
-  module _ (at : ℕ) (t : Table) (few : t.count ≤ max_chains) (there : at + 2 ≤ length s) (a : (go at t).verdict ≡ Accepted) where
-    passes : (r : Reading) → go at t ≡ r → r.verdict ≡ Accepted
-    passes r e = subst (λ (x : Reading). x.verdict ≡ Accepted) e a
+  module _ (at : ℕ) (t : Table) (few : t.count ≤ max_chains) (there : at + 2 ≤ length s) (a : (go at t).verdict ≡ Ok tt) where
+    passes : (r : Reading) → go at t ≡ r → r.verdict ≡ Ok tt
+    passes r e = subst (λ (x : Reading). x.verdict ≡ Ok tt) e a
 
     -- a chain's mark: the chain was right beside those before it, and reading went on after it
     pub chain-read : mark_of (word 2 s at) ≡ Chain → BesideRight s at (form_at s 0) t × (t.count < max_chains) × (go at t ≡ go (at + length_at s at) (plus t (row_at s at)))
     chain-read m = by (beside_fault s at (form_at s 0) t) refl
       where
         by : (v : Verdict) → beside_fault s at (form_at s 0) t ≡ v → BesideRight s at (form_at s 0) t × (t.count < max_chains) × (go at t ≡ go (at + length_at s at) (plus t (row_at s at)))
-        by Accepted e =
+        by (Ok tt) e =
             let r = beside-right s at (form_at s 0) t e in
             let room : t.count < max_chains = omega (arith, few, r.room) in
             (r, room, records-beside s at t there m e room)
-        by (Refused n place) e = absurd (not-accepted (passes (refusal n place) (records-refused s at t there m (max_chains - t.count) e)))
+        by (Err f) e = absurd (not-accepted (passes (refusal f.0 f.1) (records-refused s at t there m (max_chains - t.count) e)))
 
     -- any other: it was the end's, and nothing was added
     end_read : (mark_of (word 2 s at) ≡ Chain → ⊥) → (go at t).table ≡ t
     end_read c = by (mark_of (word 2 s at)) refl
       where
-        marked : (m : Mark) → mark_of (word 2 s at) ≡ m → go at t ≡ by_mark at m (refusal 11 at) (unless refusal (end_fault s at t) (accepted t))
+        marked : (m : Mark) → mark_of (word 2 s at) ≡ m → go at t ≡ by_mark at m (refusal BadChainCount at) (unless refusal (end_fault s at t) (accepted t))
         marked m e = records-mark s at t there (max_chains - t.count) m e (λ z. c (e ∙ z))
 
         by : (m : Mark) → mark_of (word 2 s at) ≡ m → (go at t).table ≡ t
         by Chain e = absurd (c e)
-        by Task e = absurd (not-accepted (passes (refusal 3 at) (marked Task e)))
+        by Task e = absurd (not-accepted (passes (refusal BadMark at) (marked Task e)))
         by End e = ap (λ (r : Reading). r.table) (marked End e ∙ (unless-passed (end_fault s at t) (accepted t) (passes _ (marked End e))).1)
-        by Unknown e = absurd (not-accepted (passes (refusal 3 at) (marked Unknown e)))
+        by Unknown e = absurd (not-accepted (passes (refusal BadMark at) (marked Unknown e)))
 
   -- four bytes are no chain
-  ended : (at : ℕ) (t : Table) → length s ≡ at + 4 → t.count ≤ max_chains → (go at t).verdict ≡ Accepted → (go at t).table ≡ t
+  ended : (at : ℕ) (t : Table) → length s ≡ at + 4 → t.count ≤ max_chains → (go at t).verdict ≡ Ok tt → (go at t).table ≡ t
   ended at t n few a =
       let there : at + 2 ≤ length s = omega arith in
       end_read at t few there a
@@ -96,7 +97,7 @@ module _ (s : List ℕ) where
 
   -- each record adds its row
   grown : (rs : List (List ℕ)) (at : ℕ) (t : Table) (e : List ℕ) → drop at s ≡ flatten rs ++ e → All Whole rs → length e ≡ 4
-      → t.count ≤ max_chains → length t.row ≡ max_chains → (go at t).verdict ≡ Accepted → rows (go at t).table ≡ rows t ++ map row_in rs
+      → t.count ≤ max_chains → length t.row ≡ max_chains → (go at t).verdict ≡ Ok tt → rows (go at t).table ≡ rows t ++ map row_in rs
   unfolding flatten
   grown [] at t e d w n few l a = rw (ended at t (omega (arith, length-drop at s, ap length d)) few a) (sym (append-nil (rows t)))
   grown (r ∷ rs) at t e d w n few l a =

@@ -25,8 +25,11 @@ use Rattle.table.specs.declared.Row.{Row}
 use Rattle.table.specs.declared.Table.{Table}
 use Rattle.table.specs.declared.Mark.{Mark}
 use Rattle.table.specs.declared.Mark.TheVariants.{Chain, Task, End}
-use Rattle.table.specs.declared.Verdict.{Verdict}
-use Rattle.table.specs.declared.Verdict.TheVariants.{Accepted, Refused}
+use Rattle.table.specs.Refusal.{Verdict, numbered}
+use Rattle.std.specs.declared.result.Result.TheVariants.{Ok, Err}
+use Rattle.table.specs.declared.refusal.Refusal.{Refusal}
+use Rattle.table.specs.declared.refusal.Refusal.TheVariants.{BadMark}
+use Rattle.table.proofs.Numbers.{numbered_same}
 use Rattle.table.proofs.Fields.{blames}
 use Rattle.table.proofs.Firsts.{or_cases}
 use Rattle.table.proofs.Widths.{limit-least}
@@ -301,12 +304,12 @@ module _ (rs : List (List ℕ)) (e s : List ℕ) (p : Parts s rs e) (sound : All
     only (Blames.at_trailing n r some g h) = absurd (omega (arith, end-last, ap (record_start s) (all-met n r), h))
 
     -- so such a table is refused only for one of these
-    pub no_table : {n place : ℕ} → (read_table s).verdict ≡ Refused n place → NoTable rs n
+    pub no_table : {n : Refusal} {place : ℕ} → (read_table s).verdict ≡ Err (n, place) → NoTable rs (numbered n)
     no_table f = only (blames s f)
 
     -- and with 3 where forms are mixed, unless the length or a field before the first record of the other form is at fault
     pub mixed-refused : Bytes s → (i : ℕ) → Mixed rs i → length s ≤ limit_of (form_in rs 0) → i ≤ max_chains → tasks_in (take i rs) ≤ max_all_tasks
-        → (place : ℕ) × ((read_table s).verdict ≡ Refused 3 place)
+        → (place : ℕ) × ((read_table s).verdict ≡ Err (BadMark, place))
     mixed-refused all i m short few most = by (read_table s).verdict refl
       where
         number : {n : ℕ} → NoTable rs n → n ≡ 3
@@ -317,6 +320,6 @@ module _ (rs : List (List ℕ)) (e s : List ℕ) (p : Parts s rs e) (sound : All
         number (NoTable.chains f alike h) = absurd (m.other (alike i (omega (arith, few))))
         number (NoTable.none f h) = absurd (omega (arith, h, m.one))
 
-        by : (v : Verdict) → (read_table s).verdict ≡ v → (place : ℕ) × ((read_table s).verdict ≡ Refused 3 place)
-        by Accepted f = absurd (m.other (parts-form s (table_of s) (accepted-read s f) all rs e p i m.one))
-        by (Refused n place) f = (place, f ∙ ap (λ k. Refused k place) (number (no_table f)))
+        by : (v : Verdict) → (read_table s).verdict ≡ v → (place : ℕ) × ((read_table s).verdict ≡ Err (BadMark, place))
+        by (Ok u) f = absurd (m.other (parts-form s (table_of s) (accepted-read s f) all rs e p i m.one))
+        by (Err f) e = (f.1, e ∙ ap (λ k. Err (k, f.1)) (numbered_same f.0 BadMark (number (no_table e))))

@@ -7,17 +7,17 @@ use lib.ListN.{length, take, drop, length-take, length-drop}
 use Rattle.table.specs.Bytes.{Bytes}
 use Rattle.table.specs.Find.{row_of}
 use Rattle.table.specs.Read.{accepted, read_table, table_of}
-use Rattle.table.specs.declared.Reading.{Reading}
+use Rattle.table.specs.Read.{Reading}
 use Rattle.table.specs.Place.{length_of, place_of}
 use Rattle.table.specs.Code.Good.{GoodTable}
 use Rattle.table.specs.Code.Taken.{Taken, Holds}
 use Rattle.table.specs.declared.Table.{Table}
-use Rattle.table.specs.declared.Verdict.{Verdict}
-use Rattle.table.specs.declared.Verdict.TheVariants.{Accepted}
+use Rattle.table.specs.Refusal.{Verdict}
+use Rattle.std.specs.declared.result.Result.TheVariants.{Ok}
 use Rattle.table.proofs.Accepted.{taken}
 use Rattle.slices.specs.Stored.{record_of}
 
-pub accepted-read : (s : List ℕ) → (read_table s).verdict ≡ Accepted → read_table s ≡ accepted (table_of s)
+pub accepted-read : (s : List ℕ) → (read_table s).verdict ≡ Ok tt → read_table s ≡ accepted (table_of s)
 accepted-read s verdict = ap (λ (v : Verdict). record { verdict = v; table = table_of s }) verdict
 
 module _ (s : List ℕ) (t : Table) (read : read_table s ≡ accepted t) where

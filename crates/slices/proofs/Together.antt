@@ -13,8 +13,8 @@ use Rattle.table.specs.Record.{largest_form, form_at, id_at, flag_at, listed_at,
 use Rattle.table.specs.Find.{rows}
 use Rattle.table.specs.Fault.{mark_of}
 use Rattle.table.specs.Read.{read_table, table_of, limit_of}
-use Rattle.table.specs.declared.Verdict.{Verdict}
-use Rattle.table.specs.declared.Verdict.TheVariants.{Accepted, Refused}
+use Rattle.table.specs.Refusal.{Verdict}
+use Rattle.std.specs.declared.result.Result.TheVariants.{Ok, Err}
 use Rattle.table.proofs.Words.{end-length, end-mark-word, end-count}
 use Rattle.table.proofs.Widths.{limit-largest, limit-least}
 use Rattle.slices.specs.Stored.{form_in}
@@ -77,13 +77,13 @@ module _ {rs : List (List ℕ)} (t : Together rs) where
   none-wrong (NoTable.chains f o h) = omega (arith, h, t.few)
   none-wrong (NoTable.none f h) = omega (arith, h, t.some)
 
-  pub together-accepted : (read_table (flatten rs ++ end_record (length rs))).verdict ≡ Accepted
+  pub together-accepted : (read_table (flatten rs ++ end_record (length rs))).verdict ≡ Ok tt
   unfolding mark_of ◌when◌else◌
   together-accepted = by (read_table table).verdict refl
     where
-      by : (v : Verdict) → (read_table table).verdict ≡ v → v ≡ Accepted
-      by Accepted e = refl
-      by (Refused m place) e =
+      by : (v : Verdict) → (read_table table).verdict ≡ v → v ≡ Ok tt
+      by (Ok u) e = refl
+      by (Err f) e =
           absurd (none-wrong (no_table rs (end_record (length rs)) table parts t.sound t.ids
           (ap mark_of (end-mark-word (length rs))) (end-count (length rs) (omega (arith, t.few))) e))
 

@@ -15,3 +15,4 @@ pub mod Stands
 pub mod Rows
 pub mod Largests
 pub mod Finds
+pub mod Numbers
