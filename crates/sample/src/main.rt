@@ -2,7 +2,7 @@
 #![tactic(auto)]
 
 use cases::{read_full, say, say_number};
-use table::{Row, Table, Verdict, has_flag};
+use table::{Fault, Row, Table, has_flag};
 
 // What of a row is listed.
 #[derive(Clone, Copy)]
@@ -77,7 +77,7 @@ fn show(out: &impl Print, r: Row) {
     say(out, b"\n");
 }
 
-fn show_table(out: &impl Print, t: Table) {
+fn show_table(out: &impl Print, t: &Table) {
     for chain in 0..Table::CHAINS {
         if chain < t.count {
             show(out, t.row[chain]);
@@ -89,12 +89,10 @@ fn main(rt: HostRuntime) {
     let out = &rt.stdout();
     let mut buffer = [0u8; 4096];
     let n = read_full(&mut rt.stdin(), &mut buffer);
-    let reading = table::read(&buffer[..n]);
-    let verdict = reading.verdict;
-    match verdict {
-        Verdict::Accepted => show_table(out, reading.table),
-        Verdict::Refused(n, at) => {
-            say_number(out, b"refused ", n as u64);
+    match table::read(&buffer[..n]) {
+        Ok(t) => show_table(out, &t),
+        Err(Fault(refusal, at)) => {
+            say_number(out, b"refused ", u64::from(refusal.number()));
             say_number(out, b" ", at as u64);
             say(out, b"\n");
         }

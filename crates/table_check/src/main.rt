@@ -3,7 +3,7 @@
 #![tactic(auto)]
 
 use input::{Input, take_in};
-use table::{Table, Verdict};
+use table::Table;
 use verdict_text::{put, put_counted, put_refused};
 
 fn put_accepted(out: &impl Print, chains: usize) -> bool {
@@ -12,8 +12,8 @@ fn put_accepted(out: &impl Print, chains: usize) -> bool {
 
 fn put_verdict(out: &impl Print, s: &[u8]) -> bool {
     match table::judge(s) {
-        Verdict::Accepted => put_accepted(out, table::count(s)),
-        Verdict::Refused(number, at) => put_refused(out, s, number, at),
+        Ok(()) => put_accepted(out, table::count(s)),
+        Err(fault) => put_refused(out, s, fault),
     }
 }
 
