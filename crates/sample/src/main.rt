@@ -4,84 +4,54 @@
 use cases::{read_full, say, say_number};
 use table::{Fault, Row, Table, has_flag};
 
-// What of a row is listed.
-#[derive(Clone, Copy)]
-enum Part {
-    Distances,
-    Largest,
-    Tasks,
-}
-
-fn show_distance(out: &impl Print, r: Row, i: usize) {
-    if i < r.listed && i < Table::DISTANCES {
-        say_number(out, b" ", r.list[i] as u64);
+// The first n numbers of the list.
+fn show_list(out: &impl Print, list: &[u32], n: usize) {
+    for number in list.iter().take(n) {
+        say_number(out, b" ", u64::from(*number));
     }
 }
 
-fn show_largest(out: &impl Print, r: Row, i: usize) {
-    if i < r.listed && i < Table::DISTANCES {
-        say_number(out, b" ", r.largest[i] as u64);
-    }
-}
-
-fn show_task(out: &impl Print, r: Row, i: usize) {
-    if i < r.tasks && i < Table::TASKS {
-        say_number(out, b" ", r.priority[i] as u64);
-        say_number(out, b"/", r.cost[i] as u64);
-    }
-}
-
-// The distance, the largest distance or the task i, nothing past the last.
-fn show_at(out: &impl Print, r: Row, part: Part, i: usize) {
-    match part {
-        Part::Distances => show_distance(out, r, i),
-        Part::Largest => show_largest(out, r, i),
-        Part::Tasks => show_task(out, r, i),
-    }
-}
-
-fn show_part(out: &impl Print, r: Row, part: Part) {
-    for i in 0..Table::TASKS {
-        show_at(out, r, part, i);
+fn show_tasks(out: &impl Print, r: &Row) {
+    for (priority, cost) in r.priority.iter().zip(r.cost.iter()).take(r.tasks) {
+        say_number(out, b" ", u64::from(*priority));
+        say_number(out, b"/", u64::from(*cost));
     }
 }
 
 // What its form has in the gap's place.
-fn show_gap(out: &impl Print, r: Row) {
+fn show_gap(out: &impl Print, r: &Row) {
     if has_flag(r.form) {
-        say_number(out, b" flag ", r.flag as u64);
+        say_number(out, b" flag ", u64::from(r.flag));
     } else {
-        say_number(out, b" gap ", r.gap as u64);
+        say_number(out, b" gap ", u64::from(r.gap));
     }
 }
 
 // The distances, and the largest ones where they are known.
-fn show_lists(out: &impl Print, r: Row) {
+fn show_lists(out: &impl Print, r: &Row) {
     say(out, b" list");
-    show_part(out, r, Part::Distances);
+    show_list(out, &r.list, r.listed);
     if r.flag == 1 {
         say(out, b" largest");
-        show_part(out, r, Part::Largest);
+        show_list(out, &r.largest, r.listed);
     }
 }
 
-fn show(out: &impl Print, r: Row) {
-    say_number(out, b"chain ", r.id as u64);
-    say_number(out, b" kind ", r.kind as u64);
-    say_number(out, b" overload ", r.overload as u64);
-    say_number(out, b" deadline ", r.deadline as u64);
+fn show(out: &impl Print, r: &Row) {
+    say_number(out, b"chain ", u64::from(r.id));
+    say_number(out, b" kind ", u64::from(r.kind));
+    say_number(out, b" overload ", u64::from(r.overload));
+    say_number(out, b" deadline ", u64::from(r.deadline));
     show_gap(out, r);
     show_lists(out, r);
     say(out, b" tasks");
-    show_part(out, r, Part::Tasks);
+    show_tasks(out, r);
     say(out, b"\n");
 }
 
 fn show_table(out: &impl Print, t: &Table) {
-    for chain in 0..Table::CHAINS {
-        if chain < t.count {
-            show(out, t.row[chain]);
-        }
+    for row in t.row.iter().take(t.count) {
+        show(out, row);
     }
 }
 
