@@ -12,7 +12,7 @@ use Rattle.arrivals.specs.Arrivals.{δ}
 use Rattle.segments.specs.View.{View, view_of}
 use Rattle.windows.specs.Window.{window_of}
 use Rattle.windows.specs.Demand.{demand_of, typical}
-use Rattle.windows.specs.declared.Window.TheVariants.{At}
+use Rattle.std.specs.declared.option.Option.TheVariants.{Some}
 use Rattle.windows.proofs.Least.{window-at, window-fits}
 use Rattle.arrivals.proofs.Distances.{δ-good}
 use Rattle.windows.proofs.Comparing.{Paced}
@@ -37,8 +37,8 @@ module _ (b : Row) (l : List Row) (good : GoodRow b) (rows : All GoodRow l) (pac
   set-fits q m t h e = omega (arith, covered b t h l rows 0 m (allowed-together (pieces_of (overloads b l)) m e))
 
   -- the window of a combination is there where B(q) is, and no longer than it
-  pub combination-window : (q m s : ℕ) → 1 ≤ q → window_of (demand_of δ b views q) ≡ At s → allowed (pieces_of (overloads b l)) m ≡ true
-      → (t : ℕ) × (window_of (with_cost (demand_of δ b (typical views)) (set m) q) ≡ At t) × (t ≤ s)
+  pub combination-window : (q m s : ℕ) → 1 ≤ q → window_of (demand_of δ b views q) ≡ Some s → allowed (pieces_of (overloads b l)) m ≡ true
+      → (t : ℕ) × (window_of (with_cost (demand_of δ b (typical views)) (set m) q) ≡ Some t) × (t ≤ s)
   combination-window q m s h e a =
       let w = window-at (demand_of δ b views q) s e in
       window-fits (with_cost (demand_of δ b (typical views)) (set m) q) ((cost-growing (demand_of δ b (typical views)) (demand-growing δ-good b (typical views) good paced) (set m)).grows q h)

@@ -18,28 +18,28 @@ use Rattle.windows.specs.Demand.{views_of}
 use Rattle.search.specs.Lists.{some}
 use Rattle.misses.specs.Overloads.{Overload, overloads, pieces_of}
 use Rattle.misses.specs.Bad.{Test}
-use Rattle.misses.specs.Misses.{room_of, overloads_of}
+use Rattle.misses.specs.Misses.{Answer, room_of, overloads_of}
 use Rattle.misses.specs.Code.Held.{gathered, Asked, Admitted, figures_at, missed_at}
-use Rattle.misses.specs.declared.Figures.{Figures}
+use Rattle.windows.specs.declared.Windows.{Windows}
+use Rattle.std.specs.declared.result.Result.TheVariants.{Ok, Err}
+use Rattle.table.specs.declared.refusal.Refusal.TheVariants.{TooManySegments, StartsAgain, CapacityAbove}
 use Rattle.misses.specs.declared.Pieces.{Pieces}
-use Rattle.misses.specs.declared.Answer.{Answer}
-use Rattle.misses.specs.declared.Answer.TheVariants.{Misses, Refused}
 use Rattle.misses.proofs.Held.{beside-others, held-count, held-size, held-above}
 use Rattle.misses.proofs.Starts.{starts}
 use Rattle.misses.proofs.Answers.{none-late, too_many, starts-again, too_roomy, counts}
 
-module _ {t : Table} (good : GoodTable t) (chain : ℕ) (there : chain < t.count) {k : ℕ} {f : Figures} (asked : Asked (row_of t chain) k f) where
+module _ {t : Table} (good : GoodTable t) (chain : ℕ) (there : chain < t.count) {k : ℕ} {w : Windows} (asked : Asked (row_of t chain) k w) where
   abbrev close : ℕ
-  close = f.close
+  close = w.figures.close
 
   abbrev latency : ℕ
-  latency = f.latency
+  latency = w.figures.latency
 
   abbrev late : ℕ
-  late = f.late
+  late = w.figures.late
 
   abbrev last : ℕ
-  last = f.last
+  last = w.last
 
   abbrev b : Row
   b = row_of t chain
@@ -51,12 +51,12 @@ module _ {t : Table} (good : GoodTable t) (chain : ℕ) (there : chain < t.count
   os = overloads_of t chain
 
   abbrev answer : Test → Answer
-  answer test = figures_at test t chain k f
+  answer test = figures_at test t chain k w
 
   beside : overloads b (rows t) ≡ os
   beside = beside-others t good chain there asked.typical
 
-  pub judged-late : late ≡ 0 → (test : Test) → Misses 0 ≡ answer test
+  pub judged-late : late ≡ 0 → (test : Test) → Ok 0 ≡ answer test
   judged-late e test = sym (none-late δ test b views os k close latency late last e)
 
   module _ (some-late : late ≡ 0 → ⊥) {p : Pieces} (gathers : p ≡ gathered (largest b k + latency) (overloads b (rows t))) where
@@ -69,7 +69,7 @@ module _ {t : Table} (good : GoodTable t) (chain : ℕ) (there : chain < t.count
     pub judged-size : length p.capacity ≡ max_overloads
     judged-size = held-size (largest b k + latency) os p is
 
-    pub judged-many : max_overloads < p.count → (test : Test) → Refused 18 ≡ answer test
+    pub judged-many : max_overloads < p.count → (test : Test) → Err TooManySegments ≡ answer test
     judged-many h test = sym (too_many δ test b views os k close latency late last some-late (omega (arith, count)))
 
     module _ (six : p.count ≤ max_overloads) {again : Bool} (starting : again ≡ some (starts last) (overloads b (rows t))) where
@@ -79,7 +79,7 @@ module _ {t : Table} (good : GoodTable t) (chain : ℕ) (there : chain < t.count
       twice : again ≡ some (starts last) os
       twice = starting ∙ ap (some (starts last)) beside
 
-      pub judged-again : again ≡ true → (test : Test) → Refused 19 ≡ answer test
+      pub judged-again : again ≡ true → (test : Test) → Err StartsAgain ≡ answer test
       judged-again e test = sym (starts-again δ test b views os k close latency late last some-late few (sym twice ∙ e))
 
       module _ (once : again ≡ false) {a : Bool} (found : a ≡ some (ltb max_capacity) p.capacity) where
@@ -87,12 +87,12 @@ module _ {t : Table} (good : GoodTable t) (chain : ℕ) (there : chain < t.count
         unfolding room_of
         above = sym (held-above (largest b k + latency) os p is few) ∙ sym found
 
-        pub judged_roomy : a ≡ true → (test : Test) → Refused 21 ≡ answer test
+        pub judged_roomy : a ≡ true → (test : Test) → Err CapacityAbove ≡ answer test
         judged_roomy e test = sym (too_roomy δ test b views os k close latency late last some-late few (sym twice ∙ once) (above ∙ e))
 
         module _ (within : a ≡ false) where
-          pub judged-admitted : Admitted t chain k f p
+          pub judged-admitted : Admitted t chain k w p
           judged-admitted = record { late = omega arith; all = is; few = six; within = sym found ∙ within }
 
-          pub judged_missed : (test : Test) → Misses (missed_at test t chain k f) ≡ answer test
+          pub judged_missed : (test : Test) → Ok (missed_at test t chain k w) ≡ answer test
           judged_missed test = sym (counts δ test b views os k close latency late last some-late few (sym twice ∙ once) (above ∙ within))

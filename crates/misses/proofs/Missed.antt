@@ -29,7 +29,7 @@ use Rattle.misses.specs.Sieve.{by_sieve}
 use Rattle.misses.specs.Code.Held.{pieces_in, price_of, Few, missed_at}
 use Rattle.misses.specs.Code.Packings.{Sized, Ready}
 use Rattle.misses.specs.Code.Settling.{over_with, beyond, Costs, Tries}
-use Rattle.misses.specs.declared.Figures.{Figures}
+use Rattle.windows.specs.declared.Windows.{Windows}
 use Rattle.misses.specs.declared.Pieces.{Pieces}
 use Rattle.misses.proofs.Prices.{price-past}
 use Rattle.misses.proofs.Packs.{price-within, bad-none, bad-price}
@@ -37,18 +37,18 @@ use Rattle.misses.proofs.Held.{held-count, held-pieces, held-above, held-room, h
 use Rattle.misses.proofs.Loading.{loads_over, loads_called, loads_room}
 use Rattle.misses.proofs.Answers.{missed_all, missed_packed}
 
-module _ {s : List ℕ} {chain k : ℕ} {f : Figures} {p : Pieces} (ready : Ready s chain k f p) where
+module _ {s : List ℕ} {chain k : ℕ} {w : Windows} {p : Pieces} (ready : Ready s chain k w p) where
   abbrev t : Table
   t = table_of s
 
   abbrev close : ℕ
-  close = f.close
+  close = w.figures.close
 
   abbrev latency : ℕ
-  latency = f.latency
+  latency = w.figures.latency
 
   abbrev late : ℕ
-  late = f.late
+  late = w.figures.late
 
   abbrev b : Row
   b = row_of t chain
@@ -77,7 +77,7 @@ module _ {s : List ℕ} {chain k : ℕ} {f : Figures} {p : Pieces} (ready : Read
     unfolding bad_of
     empty = bad-none _ (pieces_of os) ∙ sym (same 0)
 
-    pub missed_without : costly 0 ≡ true → k ≡ missed_at test t chain k f
+    pub missed_without : costly 0 ≡ true → k ≡ missed_at test t chain k w
     missed_without e = sym (missed_all test b views os k close latency late (empty ∙ e))
 
     module _ (fine : costly 0 ≡ false) (costs : List ℕ) (prices : (m : ℕ) → m < combinations → get_or costs m 0 ≡ price_of (pieces_in p) m) where
@@ -92,7 +92,7 @@ module _ {s : List ℕ} {chain k : ℕ} {f : Figures} {p : Pieces} (ready : Read
 
       -- whatever flags the sets with bad costs
       pub missed_counts : (flag : ℕ → Bool) → ((m : ℕ) → m < combinations → flag m ≡ costly (get_or costs m 0))
-          → min k (late * most_uses flag (capacity p.capacity)) ≡ missed_at test t chain k f
+          → min k (late * most_uses flag (capacity p.capacity)) ≡ missed_at test t chain k w
       unfolding packing_figure
       missed_counts flag flags =
           ap (λ n. min k (late * n)) (most-is flags)

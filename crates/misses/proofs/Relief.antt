@@ -10,7 +10,7 @@ use native.Mathlib.Nat.{le_refl}
 use borrow.Author.Tests.{lt-ltb, ltb-true, ltb-false, eq-eqb, eqb-true}
 use lib.Dec.{eqb, ltb}
 use lib.ListN.{length}
-use Rattle.search.specs.Choice.{◌when◌else◌, by_number}
+use Rattle.search.specs.Choice.{◌when◌else◌}
 use Rattle.search.specs.Lists.{All, some, every}
 use Rattle.search.proofs.Choice.{when_cases, true-not-false, true_or_false}
 use Rattle.table.specs.Limits.{max_overloads, max_capacity}
@@ -20,8 +20,10 @@ use Rattle.arrivals.specs.Arrivals.{Rule, count_by, largest}
 use Rattle.segments.specs.Actives.{Active}
 use Rattle.segments.specs.View.{View}
 use Rattle.windows.specs.Latency.{bound_of}
-use Rattle.windows.specs.declared.Answer.{Answer as Bound}
-use Rattle.windows.specs.declared.Answer.TheVariants.{Figures, Refused as Unbounded}
+use Rattle.std.specs.Prelude.{⊤}
+use Rattle.std.specs.declared.result.Result.{Result}
+use Rattle.std.specs.declared.result.Result.TheVariants.{Ok, Err}
+use Rattle.table.specs.declared.refusal.Refusal.{Refusal}
 use Rattle.windows.specs.declared.Windows.{Windows}
 use Rattle.search.proofs.Matching.{Matched, matched_same, matched_sum, matched_length, matched_append, matched_some, matched_map, matched_le}
 use Rattle.arrivals.proofs.Rules.{Fewer, Slower, slower_fewer}
@@ -29,9 +31,7 @@ use Rattle.windows.proofs.Easing.{Relieved, relieved_easier, relieved-typical, b
 use Rattle.misses.specs.Overloads.{Overload, Piece, piece, pieces_from, pieces_of, capacities_of}
 use Rattle.misses.specs.Sets.{members, agree, together, allowed}
 use Rattle.misses.specs.Bad.{bad, windows_by}
-use Rattle.misses.specs.Misses.{early_of, bad_of, room_of, missed_of, by_figures, by_bound, tested_beside}
-use Rattle.misses.specs.declared.Answer.{Answer}
-use Rattle.misses.specs.declared.Answer.TheVariants.{Misses, Refused}
+use Rattle.misses.specs.Misses.{Answer, early_of, bad_of, room_of, missed_of, by_figures, by_bound, unless_early, tested_beside}
 use Rattle.misses.proofs.Bools.{and_left, and_right}
 use Rattle.misses.proofs.Worsening.{over-mono}
 use Rattle.misses.proofs.Starts.{starts_by}
@@ -120,13 +120,8 @@ not_first false e f = refl
 
 -- where the second answer is a number of misses, the first is one, no greater
 abbrev pub Spared : Answer → Answer → Type 0
-Spared a (Misses r) = (n : ℕ) × (a ≡ Misses n) × (n ≤ r)
-Spared a (Refused r) = Unit {0}
-
-number_spared : (n : ℕ) (x y : Answer) → Spared x y → Spared (by_number Refused n x) (by_number Refused n y)
-unfolding by_number
-number_spared zero x y h = h
-number_spared (suc n) x y h = tt
+Spared a (Ok r) = (n : ℕ) × (a ≡ Ok n) × (n ≤ r)
+Spared a (Err r) = Unit {0}
 
 -- a chain b beside its overload chains, and c beside its own: for b's run no later time is looked at
 module _ {rule other : Rule} {b c : Row} {vs ws : List View} {os ps : List Overload} (k : ℕ) (r : Relieved rule other b c vs ws) (m : Matched (Rarer rule other) os ps)
@@ -156,7 +151,7 @@ module _ {rule other : Rule} {b c : Row} {vs ws : List View} {os ps : List Overl
         above : some (ltb max_capacity) (room_of rule b os k latency) ≡ true → some (ltb max_capacity) (room_of other c ps k longer) ≡ true
         above = matched_some (ltb max_capacity) (ltb max_capacity) (λ x y h e. lt-ltb max_capacity y (omega (arith, ltb-true max_capacity x e, h))) room-less
 
-        none : late ≡ 0 → (n : ℕ) → Spared first (Misses n)
+        none : late ≡ 0 → (n : ℕ) → Spared first (Ok n)
         none e n = (0, none-late rule (windows_by rule) b vs os k close latency late last e, zero-le)
 
         answer-less : Spared first (by_figures other (windows_by other) c ws ps k far longer more end)
@@ -175,15 +170,18 @@ module _ {rule other : Rule} {b c : Row} {vs ws : List View} {os ps : List Overl
             ))
             (true_or_false (eqb late 0))))))
 
+  bound-spared : (y : Result Windows Refusal) → bound_of other c ws ≡ y
+      → Spared (by_bound rule (windows_by rule) b vs os k (bound_of rule b vs)) (by_bound other (windows_by other) c ws ps k y)
+  bound-spared (Ok w) e =
+      let v = bound-less r e in
+      rw v.is (answer-less v.close_less v.latency_less v.late_less v.last_less)
+  bound-spared (Err n) e = tt
+
+  early-spared : (e : Result ⊤ Refusal) → Spared (unless_early rule (windows_by rule) b vs os k e) (unless_early other (windows_by other) c ws ps k e)
+  early-spared (Ok u) = bound-spared (bound_of other c ws) refl
+  early-spared (Err n) = tt
+
   -- so the first answer is a number of misses where the second is, and no greater
   pub beside-less : Spared (tested_beside rule (windows_by rule) b vs os k) (tested_beside other (windows_by other) c ws ps k)
   unfolding tested_beside
-  beside-less = rw early (number_spared (early_of c k) _ _ (by (bound_of other c ws).answer refl))
-    where
-      by : (y : Bound) → (bound_of other c ws).answer ≡ y
-          → Spared (by_bound rule (windows_by rule) b vs os k (bound_of rule b vs).answer (bound_of rule b vs).last) (by_bound other (windows_by other) c ws ps k y (bound_of other c ws).last)
-      by (Figures close latency late margin) e =
-          let w = bound-less r e in
-          subst (λ (x : Windows). Spared (by_bound rule (windows_by rule) b vs os k x.answer x.last) (by_figures other (windows_by other) c ws ps k close latency late (bound_of other c ws).last))
-          (sym w.is) (answer-less w.close_less w.latency_less w.late_less w.last_less)
-      by (Unbounded n) e = tt
+  beside-less = rw early (early-spared (early_of c k))

@@ -1,6 +1,6 @@
 -- The sieve and the windows: what is bad is called bad, so that the sieve's figure is never below the miss count, and both are refused alike.
 -- Assumes nothing.
-use Prim.Native.Nat.{ℕ, zero, suc, ◌≤◌, ◌<◌}
+use Prim.Native.Nat.{ℕ, ◌≤◌, ◌<◌}
 use mathlib.Core.Path.{◌≡◌, refl, ap, ap₂, sym, ◌∙◌}
 use mathlib.Core.Bool.{Bool, true, false, ◌&&◌}
 use mathlib.Core.List.{List, map}
@@ -9,9 +9,8 @@ use native.Mathlib.Omega.{arith}
 use native.Mathlib.Nat.{le_refl, eq-or-lt_of_le}
 use borrow.Author.Tests.{lt-ltb, ltb-true}
 use lib.Dec.{ltb, eqb}
-use lib.IntN.{ℤ}
 use lib.ListN.{length}
-use Rattle.search.specs.Choice.{◌when◌else◌, by_number}
+use Rattle.search.specs.Choice.{◌when◌else◌}
 use Rattle.search.specs.Lists.{All, some}
 use Rattle.search.proofs.Choice.{lt_or_le}
 use Rattle.table.specs.Limits.{max_overloads, max_capacity}
@@ -24,9 +23,12 @@ use Rattle.windows.specs.Window.{window_of}
 use Rattle.windows.specs.Demand.{demand_of, typical}
 use Rattle.windows.specs.Latency.{bound_of, longer, long}
 use Rattle.windows.specs.Sieve.{due}
-use Rattle.windows.specs.declared.Answer.{Answer as Bound}
-use Rattle.windows.specs.declared.Answer.TheVariants.{Figures, Refused as Unbounded}
-use Rattle.windows.specs.declared.Window.TheVariants.{At}
+use Rattle.windows.specs.declared.Windows.{Windows}
+use Rattle.std.specs.Prelude.{⊤}
+use Rattle.std.specs.declared.result.Result.{Result}
+use Rattle.std.specs.declared.result.Result.TheVariants.{Ok, Err}
+use Rattle.std.specs.declared.option.Option.TheVariants.{Some}
+use Rattle.table.specs.declared.refusal.Refusal.{Refusal}
 use Rattle.windows.proofs.Least.{Grows, window-at, window-fits}
 use Rattle.arrivals.proofs.Distances.{δ-good}
 use Rattle.windows.proofs.Comparing.{Paced}
@@ -36,10 +38,8 @@ use Rattle.windows.proofs.Sweeps.{some_one, some-found}
 use Rattle.misses.specs.Overloads.{Overload, overloads, pieces_of}
 use Rattle.misses.specs.Sets.{members, allowed, set_cost}
 use Rattle.misses.specs.Bad.{with_cost, over, bad, Test, by_windows}
-use Rattle.misses.specs.Misses.{early_of, bad_of, room_of, missed_of, by_figures, by_bound, tested_beside}
+use Rattle.misses.specs.Misses.{Answer, early_of, bad_of, room_of, missed_of, by_figures, by_bound, unless_early, tested_beside}
 use Rattle.misses.specs.Sieve.{called, by_sieve}
-use Rattle.misses.specs.declared.Answer.{Answer}
-use Rattle.misses.specs.declared.Answer.TheVariants.{Misses, Refused}
 use Rattle.misses.proofs.Bools.{and_left, and_right}
 use Rattle.misses.proofs.Worsening.{cost-growing}
 use Rattle.misses.proofs.Existence.{combination-window}
@@ -47,7 +47,7 @@ use Rattle.misses.proofs.Starts.{starts}
 use Rattle.misses.proofs.Increase.{missed_mono}
 
 -- a window past t: the demand at t is above t
-above_before : (d : ℕ → ℕ) → Grows d → (t end : ℕ) → 1 ≤ t → window_of d ≡ At end → t < end → t < d t
+above_before : (d : ℕ → ℕ) → Grows d → (t end : ℕ) → 1 ≤ t → window_of d ≡ Some end → t < end → t < d t
 above_before d grows t end low at past = ⊎_elim
     (λ h. h)
     (λ h. let w = window-fits d grows t low (omega (arith, (window-at d end at).high)) h in
@@ -56,7 +56,7 @@ above_before d grows t end low at past = ⊎_elim
 
 -- where each B(q) up to `close` is there
 module _ (b : Row) (l : List Row) (good : GoodRow b) (rows : All GoodRow l) (paced : Paced (typical (map (λ a. view_of a b) l))) {close : ℕ}
-    (windows : (q : ℕ) → 1 ≤ q → q ≤ close → (s : ℕ) × (window_of (demand_of δ b (map (λ a. view_of a b) l) q) ≡ At s)) where
+    (windows : (q : ℕ) → 1 ≤ q → q ≤ close → (s : ℕ) × (window_of (demand_of δ b (map (λ a. view_of a b) l) q) ≡ Some s)) where
   abbrev views : List View
   views = map (λ a. view_of a b) l
 
@@ -80,20 +80,15 @@ module _ (b : Row) (l : List Row) (good : GoodRow b) (rows : All GoodRow l) (pac
       let above : t < demand m q t = above_before (demand m q) grows t w.0 (omega (arith, good.deadline)) w.1 late in
       ap₂ ◌&&◌ a (some_one (λ q. ltb (due (δ (distances b)) b.deadline q) (demand m q (due (δ (distances b)) b.deadline q))) close q f.1 f.2 (lt-ltb _ _ above))
 
--- two answers: both refused, with one number, or the second's number is no less
+-- two answers: both refused, for one reason, or the second's number is no less
 pub data Bounded : Answer → Answer → Type 0 where
-  both : {n r : ℕ} → n ≤ r → Bounded (Misses n) (Misses r)
-  alike : {n : ℕ} → Bounded (Refused n) (Refused n)
+  both : {n r : ℕ} → n ≤ r → Bounded (Ok n) (Ok r)
+  alike : {n : Refusal} → Bounded (Err n) (Err n)
 
 pub bounded_when : (x y z w : Answer) (t : Bool) → Bounded x z → Bounded y w → Bounded (x when t else y) (z when t else w)
 unfolding ◌when◌else◌
 bounded_when x y z w true f g = f
 bounded_when x y z w false f g = g
-
-bounded-number : (n : ℕ) (x y : Answer) → Bounded x y → Bounded (by_number Refused n x) (by_number Refused n y)
-unfolding by_number
-bounded-number zero x y h = h
-bounded-number (suc n) x y h = Bounded.alike
 
 -- a test that calls bad whatever another does
 module _ (test wider : Test) (b : Row) (views : List View) (os : List Overload) (k : ℕ) where
@@ -111,15 +106,18 @@ module _ (test wider : Test) (b : Row) (views : List View) (os : List Overload) 
         (Bounded.both missed_bounded))))
 
   -- has no smaller figure, and refuses alike
-  pub beside-bounded : ((close latency late : ℕ) (margin : ℤ) → (bound_of δ b views).answer ≡ Figures close latency late margin
-      → (m : ℕ) → bad_of test b views os close m ≡ true → bad_of wider b views os close m ≡ true)
-      → Bounded (tested_beside δ test b views os k) (tested_beside δ wider b views os k)
-  unfolding tested_beside
-  beside-bounded calls = bounded-number (early_of b k) _ _ (by (bound_of δ b views).answer refl)
-    where
-      by : (x : Bound) → (bound_of δ b views).answer ≡ x → Bounded (by_bound δ test b views os k x (bound_of δ b views).last) (by_bound δ wider b views os k x (bound_of δ b views).last)
-      by (Figures close latency late margin) e = figures-bounded close latency late (calls close latency late margin e) (bound_of δ b views).last
-      by (Unbounded n) e = Bounded.alike
+  module _ (calls : (w : Windows) → bound_of δ b views ≡ Ok w → (m : ℕ) → bad_of test b views os w.figures.close m ≡ true → bad_of wider b views os w.figures.close m ≡ true) where
+    bound-bounded : (x : Result Windows Refusal) → bound_of δ b views ≡ x → Bounded (by_bound δ test b views os k x) (by_bound δ wider b views os k x)
+    bound-bounded (Ok w) e = figures-bounded w.figures.close w.figures.latency w.figures.late (calls w e) w.last
+    bound-bounded (Err n) e = Bounded.alike
+
+    early-bounded : (e : Result ⊤ Refusal) → Bounded (unless_early δ test b views os k e) (unless_early δ wider b views os k e)
+    early-bounded (Ok u) = bound-bounded (bound_of δ b views) refl
+    early-bounded (Err n) = Bounded.alike
+
+    pub beside-bounded : Bounded (tested_beside δ test b views os k) (tested_beside δ wider b views os k)
+    unfolding tested_beside
+    beside-bounded = early-bounded (early_of b k)
 
 -- the sieve beside the windows, for a chain b beside the others
 pub sieve_bounded : (b : Row) (l : List Row) → GoodRow b → All GoodRow l → Paced (typical (map (λ a. view_of a b) l)) → (k : ℕ)
@@ -127,12 +125,12 @@ pub sieve_bounded : (b : Row) (l : List Row) → GoodRow b → All GoodRow l →
 unfolding bound_of
 sieve_bounded b l good rows paced k =
     beside-bounded by_windows by_sieve b (map (λ a. view_of a b) l) (overloads b l) k
-    (λ close latency late margin e. bad-called b l good rows paced (λ q low high. there close (answer-closed demand (δ (distances b)) b.deadline e).closes q low high))
+    (λ w e. bad-called b l good rows paced (λ q low high. there w.figures.close (answer-closed demand (δ (distances b)) b.deadline e).closes q low high))
   where
     demand : ℕ → ℕ → ℕ
     demand = demand_of δ b (map (λ a. view_of a b) l)
 
-    there : (close : ℕ) {t : ℕ} → Closes demand (δ (distances b)) close t → (q : ℕ) → 1 ≤ q → q ≤ close → (s : ℕ) × (window_of (demand q) ≡ At s)
+    there : (close : ℕ) {t : ℕ} → Closes demand (δ (distances b)) close t → (q : ℕ) → 1 ≤ q → q ≤ close → (s : ℕ) × (window_of (demand q) ≡ Some s)
     there close {t} c q low high = ⊎_elim
         (λ e. (t, ap (λ q. window_of (demand q)) e ∙ c.last))
         (λ h. let r = c.reach q low h in (r.0, r.1))

@@ -7,7 +7,7 @@ use native.Mathlib.Omega.{arith}
 use lib.Dec.{eqb, ltb}
 use lib.ListN.{length, get_or}
 use borrow.Author.Tests.{ltb-false}
-use Rattle.search.specs.Choice.{◌when◌else◌, by_number}
+use Rattle.search.specs.Choice.{◌when◌else◌}
 use Rattle.search.specs.Lists.{Paired, some, keep}
 use Rattle.search.proofs.Lists.{paired_perm}
 use Rattle.search.proofs.Pairing.{paired_keep, paired_weaker, paired_turn, paired_map}
@@ -20,15 +20,16 @@ use Rattle.segments.proofs.Renaming.{alike-renamed}
 use Rattle.segments.proofs.Views.{Alike, view_overload, view_list, alike-turn}
 use Rattle.windows.specs.Demand.{demand_of, typical}
 use Rattle.windows.specs.Latency.{bound_of}
-use Rattle.windows.specs.declared.Answer.{Answer as Bound}
-use Rattle.windows.specs.declared.Answer.TheVariants.{Figures, Refused as Unbounded}
+use Rattle.std.specs.Prelude.{⊤}
+use Rattle.std.specs.declared.result.Result.{Result}
+use Rattle.std.specs.declared.result.Result.TheVariants.{Ok, Err}
+use Rattle.table.specs.declared.refusal.Refusal.{Refusal}
 use Rattle.windows.specs.declared.Windows.{Windows}
 use Rattle.windows.proofs.Views.{alike-demand, alike-bound, alike-typical}
 use Rattle.packing.specs.Most.{most_uses}
 use Rattle.misses.specs.Overloads.{Overload, overload, overloads, pieces_of, capacities_of}
 use Rattle.misses.specs.Bad.{over, bad, by_windows}
-use Rattle.misses.specs.Misses.{early_of, bad_of, room_of, packing_figure, missed_of, by_figures, by_bound, tested_beside}
-use Rattle.misses.specs.declared.Answer.TheVariants.{Misses, Refused}
+use Rattle.misses.specs.Misses.{early_of, bad_of, room_of, packing_figure, missed_of, by_figures, by_bound, unless_early, tested_beside}
 use Rattle.misses.proofs.Packs.{bad-none}
 use Rattle.misses.proofs.Starts.{starts}
 use Rattle.misses.proofs.Together.{perm_some}
@@ -104,11 +105,15 @@ module _ (b : Row) {vs ws : List View} (views : Paired Alike vs ws) {os ps : Lis
         choose _ _ _ _ (ltb max_overloads (length (pieces_of ps))) (λ f. refl) (λ f.
         choose _ _ _ _ (some (starts last) ps) (λ g. refl) (λ g.
         choose _ _ _ _ (some (ltb max_capacity) (room_of δ b ps k latency)) (λ g. refl) (λ g.
-        ap Misses (same_missed (ltb-false _ _ f)))))))
+        ap Ok (same_missed (ltb-false _ _ f)))))))
 
-  same-by_bound : (x : Bound) (last : ℕ) → by_bound δ by_windows b vs os k x last ≡ by_bound δ by_windows b ws ps k x last
-  same-by_bound (Figures close latency late margin) last = same-figures close latency late last
-  same-by_bound (Unbounded n) last = refl
+  same-by_bound : (x : Result Windows Refusal) → by_bound δ by_windows b vs os k x ≡ by_bound δ by_windows b ws ps k x
+  same-by_bound (Ok w) = same-figures w.figures.close w.figures.latency w.figures.late w.last
+  same-by_bound (Err n) = refl
+
+  same_early : bound_of δ b vs ≡ bound_of δ b ws → (e : Result ⊤ Refusal) → unless_early δ by_windows b vs os k e ≡ unless_early δ by_windows b ws ps k e
+  same_early same (Ok u) = same-by_bound (bound_of δ b vs) ∙ ap (by_bound δ by_windows b ws ps k) same
+  same_early same (Err n) = refl
 
 -- other chains that pair off alike, in any order: the same answer for every k
 pub alike-misses : (b : Row) {l r : List Row} → Paired (λ a c. Alike (view_of a b) (view_of c b)) l r → (k : ℕ)
@@ -121,6 +126,4 @@ alike-misses b {l} {r} p k =
     let one = alike-overloads b p in
     let two = alike-overloads b (paired_turn (λ a c h. alike-turn h) p) in
     let same = alike-bound views b in
-    ap (by_number Refused (early_of b k))
-    (same-by_bound b views one two k (bound_of δ b vs).answer (bound_of δ b vs).last
-    ∙ ap (λ (w : Windows). by_bound δ by_windows b ws (overloads b r) k w.answer w.last) same)
+    same_early b views one two k same (early_of b k)

@@ -7,11 +7,10 @@ use native.Mathlib.Omega.{arith}
 use native.Mathlib.Nat.{le_refl, le_trans}
 use borrow.Author.Tests.{lt-ltb, ltb-true}
 use Rattle.arrivals.specs.Arrivals.{δ}
-use Rattle.windows.specs.Window.{window_of}
+use Rattle.windows.specs.Window.{Window, window_of}
 use Rattle.windows.specs.Latency.{longer, any_over}
 use Rattle.windows.specs.Code.Load.{Load, row_in, own_of, over_in, dearer, Sound}
-use Rattle.windows.specs.declared.Window.{Window}
-use Rattle.windows.specs.declared.Window.TheVariants.{At, Nothing}
+use Rattle.std.specs.declared.option.Option.TheVariants.{Some, None}
 use Rattle.windows.proofs.Least.{window-less}
 use Rattle.windows.proofs.Growth.{Growing, load-growing}
 use Rattle.windows.proofs.Joining.{dearer-demand}
@@ -33,11 +32,11 @@ module _ {demand harder : ℕ → ℕ → ℕ} {distance nearer : ℕ → ℕ} {
   longer-mono q h f = go (window_of (with_cost harder e q)) refl
     where
       go : (w : Window) → window_of (with_cost harder e q) ≡ w → longer w (nearer q + earlier) ≡ true
-      go (At s) g =
+      go (Some s) g =
           let r = window-less (with_cost demand c q) ((cost-growing demand easier.grows c).grows q h) (with_cost harder e q) (λ t. omega (arith, easier.demands q t)) s g in
           let past = ltb-true (distance q + deadline) r.0 (sym (ap (λ w. longer w (distance q + deadline)) r.1) ∙ f) in
           lt-ltb (nearer q + earlier) s (omega (arith, past, r.2, easier.apart q, easier.deadlines))
-      go Nothing g = refl
+      go None g = refl
 
   pub over-mono : (close far : ℕ) → close ≤ far → over demand distance deadline close c ≡ true → over harder nearer earlier far e ≡ true
   unfolding over

@@ -11,31 +11,30 @@ ghost use Rattle.windows.specs.Latency.{bound_at};
 ghost use Rattle.search.specs.Lists.{some};
 ghost use Rattle.misses.specs.Overloads.{overloads};
 ghost use Rattle.misses.specs.Misses.{early_of, tested_at, tested_in, tested_of};
-ghost use Rattle.misses.specs.declared.Answer.TheVariants.{Misses};
 ghost use Rattle.misses.specs.Code.Held.{Asked, figures_at, missed_at};
-ghost use Rattle.misses.specs.Code.Packings.{test_of, Ready, LeadsTo};
+ghost use Rattle.misses.specs.Code.Packings.{test_of, Ready, Leaves, LeadsTo};
 
 use crate::testing::{by_sieve, by_windows};
-use crate::{Answer, Figures, How, Packings, Pieces};
+use crate::{How, Left, Pieces};
 use arrivals::{eta_up_to, largest, unknown};
-use table::{Table, Verdict, count, find, judge, list_place, overload_at, place, record_length};
-use windows::{Answer as Bound, Windows, bound};
+use table::{Refusal, Table, count, find, judge, list_place, overload_at, place, record_length};
+use windows::{Windows, bound};
 
-// 13, 14 or 15, what is refused of the chain at `b` before any window; 0 for none of them.
-fn early(s: &[u8], b: usize, k: u32) -> u32
+// What is refused of the chain at `b` before any window.
+fn early(s: &[u8], b: usize, k: u32) -> Result<(), Refusal>
     requires { b + head_length (form_at s.now b) ≤ length s.now }
     ensures { result ≡ early_of (row_at s.now b) k }
 {
     if k == 0 || Table::RUN < k {
-        return 13;
+        return Err(Refusal::BadRun);
     }
     if overload_at(s, b) != 0 {
-        return 14;
+        return Err(Refusal::OverloadAsked);
     }
     if unknown(s, b) {
-        return 15;
+        return Err(Refusal::GapUnknown);
     }
-    0
+    Ok(())
 }
 
 // Whether the chain at `a` is an overload chain that may start more than once in t.
@@ -73,99 +72,63 @@ fn above(capacity: &[u8; Table::OVERLOADS]) -> bool
     capacity.iter().any(|c| Table::CAPACITY < u64::from(*c))
 }
 
-// What is to be packed where nothing is refused.
-fn by_test(s: &[u8], chain: usize, k: u32, f: Figures, p: Pieces, how: How) -> Packings
-    requires { Ready s.now chain k f p }
-    ensures { LeadsTo k (Misses (missed_at (test_of how) (table_of s.now) chain k f)) result }
+// What is left where nothing is refused.
+fn by_test(s: &[u8], chain: usize, k: u32, w: Windows, p: Pieces, how: How) -> Left
+    requires { Ready s.now chain k w p }
+    ensures { Leaves k (missed_at (test_of how) (table_of s.now) chain k w) result }
 {
     match how {
-        How::Lowest => by_windows(s, chain, k, f, p, false),
-        How::Each => by_windows(s, chain, k, f, p, true),
-        How::Sieve => by_sieve(s, chain, k, f, p),
+        How::Sieve => by_sieve(s, chain, k, w, p),
+        _ => by_windows(s, chain, k, w, p, how),
     }
 }
 
-// What the figures of the full analysis leave to be packed in a run of k activations.
-fn by_figures(s: &[u8], chain: usize, k: u32, f: Figures, how: How) -> Packings
-    requires { Taken s.now × (chain < (table_of s.now).count) × Asked (row_of (table_of s.now) chain) k f }
-    ensures { LeadsTo k (figures_at (test_of how) (table_of s.now) chain k f) result }
+// What the figures of the full analysis leave of a run of k activations.
+fn by_figures(s: &[u8], chain: usize, k: u32, w: Windows, how: How) -> Result<Left, Refusal>
+    requires { Taken s.now × (chain < (table_of s.now).count) × Asked (row_of (table_of s.now) chain) k w }
+    ensures { LeadsTo k (figures_at (test_of how) (table_of s.now) chain k w) result }
 {
-    if f.late == 0 {
-        return Packings::answered(Answer::Misses(0));
+    if w.figures.late == 0 {
+        return Ok(Left::Known(0));
     }
     let b = place(s, chain);
-    let p = Pieces::of(s, b, largest(s, b, k) + f.latency as u64);
+    let p = Pieces::of(s, b, largest(s, b, k) + u64::from(w.figures.latency));
     if Table::OVERLOADS < p.count {
-        return Packings::answered(Answer::Refused(18));
+        return Err(Refusal::TooManySegments);
     }
-    if any_again(s, f.last) {
-        return Packings::answered(Answer::Refused(19));
+    if any_again(s, w.last) {
+        return Err(Refusal::StartsAgain);
     }
-    let capacity = p.capacity;
-    if above(&capacity) {
-        return Packings::answered(Answer::Refused(21));
+    if above(&p.capacity) {
+        return Err(Refusal::CapacityAbove);
     }
-    by_test(s, chain, k, f, p, how)
+    Ok(by_test(s, chain, k, w, p, how))
 }
 
-// 16 or 17, or what the figures leave, where nothing is refused before any window.
-fn by_bound(s: &[u8], chain: usize, k: u32, w: Windows, how: How) -> Packings
-    requires { Taken s.now × (chain < (table_of s.now).count) × (early_of (row_of (table_of s.now) chain) k ≡ 0) × (w ≡ bound_at δ (table_of s.now) chain) }
-    ensures { LeadsTo k (tested_at δ (test_of how) (table_of s.now) chain k) result }
-{
-    let answer = w.answer;
-    match answer {
-        Bound::Figures {
-            close,
-            latency,
-            late,
-            margin: _,
-        } => {
-            let f = Figures {
-                close,
-                latency,
-                late,
-                last: w.last,
-            };
-            by_figures(s, chain, k, f, how)
-        }
-        Bound::Refused(n) => Packings::answered(Answer::Refused(n)),
-    }
-}
-
-// What is to be packed for the chain of that number in a run of k activations, where its windows are worked out already.
-pub fn packings_with(s: &[u8], chain: usize, k: u32, w: Windows, how: How) -> Packings
+// What is left of the chain of that number in a run of k activations, where its windows are worked out already.
+pub fn packings_with(s: &[u8], chain: usize, k: u32, w: Result<Windows, Refusal>, how: How) -> Result<Left, Refusal>
     requires { Taken s.now × (chain < (table_of s.now).count) × (w ≡ bound_at δ (table_of s.now) chain) }
     ensures { LeadsTo k (tested_at δ (test_of how) (table_of s.now) chain k) result }
 {
-    match early(s, place(s, chain), k) {
-        0 => by_bound(s, chain, k, w, how),
-        n => Packings::answered(Answer::Refused(n)),
-    }
+    early(s, place(s, chain), k)?;
+    by_figures(s, chain, k, w?, how)
 }
 
-// For the chain with the id, of an accepted table. It does without `packings_with`, since its windows are worked out only where
-// nothing is refused before them.
-pub fn packings_in(s: &[u8], id: u32, k: u32, how: How) -> Packings
+// For the chain with the id, of an accepted table. It does without `packings_with`, since its windows are worked out only where nothing is
+// refused before them.
+pub fn packings_in(s: &[u8], id: u32, k: u32, how: How) -> Result<Left, Refusal>
     requires { Taken s.now }
     ensures { LeadsTo k (tested_in δ (test_of how) (table_of s.now) id k) result }
 {
-    let chain = find(s, id);
-    if chain == count(s) {
-        return Packings::answered(Answer::Refused(12));
-    }
-    match early(s, place(s, chain), k) {
-        0 => by_bound(s, chain, k, bound(s, chain), how),
-        n => Packings::answered(Answer::Refused(n)),
-    }
+    let chain = find(s, id).ok_or(Refusal::NoChain)?;
+    early(s, place(s, chain), k)?;
+    by_figures(s, chain, k, bound(s, chain)?, how)
 }
 
 // For the chain with the id in a run of k activations, of a stored table.
-pub fn packings_of(table: &[u8], id: u32, k: u32, how: How) -> Packings
+pub fn packings_of(table: &[u8], id: u32, k: u32, how: How) -> Result<Left, Refusal>
     ensures { LeadsTo k (tested_of δ (test_of how) table.now id k) result }
 {
-    match judge(table) {
-        Verdict::Accepted => packings_in(table, id, k, how),
-        Verdict::Refused(n, _) => Packings::answered(Answer::Refused(n)),
-    }
+    judge(table)?;
+    packings_in(table, id, k, how)
 }

@@ -1,15 +1,15 @@
 // The engines over what is to be packed, and the miss query: by the ordinary engine, by the plain one, and by the sieve.
-ghost use Rattle.std.specs.Prelude.{◌≡◌, true, ◌*◌, ◌<◌, min};
+ghost use Rattle.std.specs.Prelude.{◌≡◌, ◌*◌, ◌<◌, min};
 ghost use Rattle.table.specs.Code.Taken.{Taken};
 ghost use Rattle.table.specs.Read.{table_of};
 ghost use Rattle.arrivals.specs.Arrivals.{δ};
 ghost use Rattle.windows.specs.Latency.{bound_at};
 ghost use Rattle.misses.specs.Misses.{misses_at, misses_of};
-ghost use Rattle.misses.specs.Sieve.{as_sieved, at_most_of};
-ghost use Rattle.misses.specs.Code.Packings.{packed_answer, Sized, LeadsTo};
+ghost use Rattle.misses.specs.Sieve.{at_most_of};
+ghost use Rattle.misses.specs.Code.Packings.{missed_by, Within, LeadsTo};
 
 use crate::asking::{packings_in, packings_of, packings_with};
-use crate::{AtMost, How, Packings};
+use crate::{AtMost, How, Left};
 use odometer::most_uses;
 use packing::uses_up_to;
 use table::{Refusal, judge};
@@ -19,23 +19,22 @@ use windows::Windows;
 pub fn figure(k: u32, late: u32, uses: u32) -> u32
     ensures { result ≡ min k (late * uses) }
 {
-    let all = late as u64 * uses as u64;
-    all.min(k as u64) as u32
+    let all = u64::from(late) * u64::from(uses);
+    all.min(u64::from(k)) as u32
 }
 
-// The answer by the ordinary engine. No more uses are looked for than the fewest that reach k.
-fn packed(k: u32, p: Packings) -> Answer
-    requires { p.pending ≡ true → Sized k p.late }
-    ensures { result ≡ packed_answer k p }
+// The misses by the ordinary engine. No more uses are looked for than the fewest that reach k.
+fn packed(k: u32, left: &Left) -> u32
+    requires { Within k left.now }
+    ensures { result ≡ missed_by k left.now }
 {
-    if p.pending {
-        let late = p.late;
-        let bad = p.bad;
-        let capacity = p.capacity;
-        let enough = (k - 1) / late + 1;
-        return Answer::Misses(figure(k, late, uses_up_to(&bad, &capacity, enough)));
+    match left {
+        Left::Known(n) => *n,
+        Left::Packed(p) => {
+            let enough = (k - 1) / p.late + 1;
+            figure(k, p.late, uses_up_to(&p.bad, &p.capacity, enough))
+        }
     }
-    p.answer
 }
 
 // The misses of the chain of that number in a run of k activations, where its windows are worked out already.
@@ -43,7 +42,8 @@ pub fn misses_with(s: &[u8], chain: usize, k: u32, w: Result<Windows, Refusal>) 
     requires { Taken s.now × (chain < (table_of s.now).count) × (w ≡ bound_at δ (table_of s.now) chain) }
     ensures { result ≡ misses_at (table_of s.now) chain k }
 {
-    packed(k, packings_with(s, chain, k, w, How::Lowest))
+    let left = packings_with(s, chain, k, w, How::Lowest)?;
+    Ok(packed(k, &left))
 }
 
 // The misses of the chain with the id in a run of k activations, of a stored table. It is asked most, so it does without
@@ -51,14 +51,13 @@ pub fn misses_with(s: &[u8], chain: usize, k: u32, w: Result<Windows, Refusal>) 
 pub fn misses(table: &[u8], id: u32, k: u32) -> Result<u32, Refusal>
     ensures { result ≡ misses_of table.now id k }
 {
-    match judge(table) {
-        Verdict::Accepted => packed(k, packings_in(table, id, k, How::Lowest)),
-        Verdict::Refused(n, _) => Answer::Refused(n),
-    }
+    judge(table)?;
+    let left = packings_in(table, id, k, How::Lowest)?;
+    Ok(packed(k, &left))
 }
 
 // What the plain engine has to go through for the misses of the chain with the id in a run of k activations, of a stored table.
-pub fn packings_for(table: &[u8], id: u32, k: u32) -> Packings
+pub fn packings_for(table: &[u8], id: u32, k: u32) -> Result<Left, Refusal>
     ensures { LeadsTo k (misses_of table.now id k) result }
 {
     packings_of(table, id, k, How::Each)
@@ -68,22 +67,10 @@ pub fn packings_for(table: &[u8], id: u32, k: u32) -> Packings
 pub fn misses_plain(table: &[u8], id: u32, k: u32) -> Result<u32, Refusal>
     ensures { result ≡ misses_of table.now id k }
 {
-    let p = packings_for(table, id, k);
-    if p.pending {
-        let bad = p.bad;
-        let capacity = p.capacity;
-        return Answer::Misses(figure(k, p.late, most_uses(&bad, &capacity)));
-    }
-    p.answer
-}
-
-// An answer by the sieve, told as such.
-fn as_sieved(answer: Answer) -> Sieved
-    ensures { result ≡ as_sieved answer }
-{
-    match answer {
-        Answer::Misses(n) => Sieved::AtMost(n),
-        Answer::Refused(n) => Sieved::Refused(n),
+    let left = packings_for(table, id, k)?;
+    match &left {
+        Left::Known(n) => Ok(*n),
+        Left::Packed(p) => Ok(figure(k, p.late, most_uses(&p.bad, &p.capacity))),
     }
 }
 
@@ -91,5 +78,7 @@ fn as_sieved(answer: Answer) -> Sieved
 pub fn at_most(table: &[u8], id: u32, k: u32) -> Result<AtMost, Refusal>
     ensures { result ≡ at_most_of table.now id k }
 {
-    as_sieved(packed(k, packings_of(table, id, k, How::Sieve)))
+    let left = packings_of(table, id, k, How::Sieve)?;
+    let most = packed(k, &left);
+    Ok(AtMost { most })
 }

@@ -19,15 +19,6 @@ pub struct AtMost {
     pub most: u32,
 }
 
-// The figures of the full analysis that misses go by: K, latency, late, and the last window B(K).
-#[derive(Clone, Copy)]
-struct Figures {
-    close: u32,
-    latency: u32,
-    late: u32,
-    last: u64,
-}
-
 // The active segments of the overload chains in a row: how many chains and active segments there are, and of the first six
 // each one's chain, segment, cost and capacity; 0 past them.
 #[derive(Clone, Copy)]
@@ -48,15 +39,19 @@ enum How {
     Sieve,
 }
 
-// What is to be packed for a miss query. Where nothing is, it has its answer; where something is pending, these are the bad
-// combinations by flags, and the capacities, and each use in a packing counts `late` times.
+// What is to be packed: the bad combinations by flags, and the capacities. Each use in a packing counts `late` times.
 #[derive(Clone, Copy)]
 pub struct Packings {
-    pub pending: bool,
-    pub answer: Answer,
     pub late: u32,
     pub bad: [u8; COMBINATIONS],
     pub capacity: [u8; Table::OVERLOADS],
+}
+
+// What is left of a miss query that nothing refuses: the misses are known already, or something is to be packed for them.
+#[derive(Clone, Copy)]
+pub enum Left {
+    Known(u32),
+    Packed(Packings),
 }
 
 // Costs that are settled: none up to `good` is bad, each from `bad` on is.

@@ -1,23 +1,22 @@
 // The bad combinations by flags, where nothing is refused: by the lowest bad cost, each by its own windows, or by the sieve (document 02,
 // request 6).
-ghost use Rattle.std.specs.Prelude.{◌≡◌, true, false, ℕ, ◌<◌, leb, get_or};
+ghost use Rattle.std.specs.Prelude.{◌≡◌, false, ℕ, ◌<◌, leb, get_or};
 ghost use Rattle.search.specs.Choice.{◌when◌else◌};
 ghost use Rattle.table.specs.Read.{table_of};
 ghost use Rattle.windows.specs.Code.Load.{load_of};
 ghost use Rattle.packing.specs.Packing.{combinations};
 ghost use Rattle.misses.specs.Bad.{by_windows};
 ghost use Rattle.misses.specs.Sieve.{by_sieve};
-ghost use Rattle.misses.specs.declared.Answer.TheVariants.{Misses};
 ghost use Rattle.misses.specs.Code.Held.{missed_at};
 ghost use Rattle.misses.specs.Code.Settling.{over_with, Costs, Tries};
-ghost use Rattle.misses.specs.Code.Packings.{Ready, LeadsTo};
+ghost use Rattle.misses.specs.Code.Packings.{Ready, Leaves};
 
 use crate::pricing::{prices, sets_of};
 use crate::settling::{lowest_bad, over};
-use crate::{Answer, Figures, Packings, Pieces, Settled};
+use crate::{How, Left, Packings, Pieces, Settled};
 use packing::COMBINATIONS;
 use table::Table;
-use windows::{Others, Own, least_called, load};
+use windows::{Others, Own, Windows, least_called, load};
 
 // The flags of all sets, by what they cost. The lowest bad cost is above 0, so a set that is no combination, whose price is 0, has
 // no flag; nor has the empty set, which the packing never looks at.
@@ -51,71 +50,52 @@ fn flags_by_windows(
     out
 }
 
-impl Packings {
-    // Nothing is to be packed: that is the answer.
-    pub fn answered(answer: Answer) -> Self
-        ensures { (result.pending ≡ false) × (result.answer ≡ answer) }
-    {
-        Packings {
-            pending: false,
-            answer,
-            late: 0,
-            bad: [0u8; COMBINATIONS],
-            capacity: [0u8; Table::OVERLOADS],
-        }
-    }
-
-    // The sets with these flags are to be packed, with the capacities of the active segments.
-    fn flagged(late: u32, bad: [u8; COMBINATIONS], p: Pieces) -> Self
-        ensures { (result.pending ≡ true) × (result.late ≡ late) × (result.bad ≡ bad) × (result.capacity ≡ p.capacity) }
-    {
-        let capacity = p.capacity;
-        Packings {
-            pending: true,
-            answer: Answer::Misses(0),
-            late,
-            bad,
-            capacity,
-        }
-    }
-}
-
-// What is to be packed, where each set is tested by its own windows, or sets are bad from the lowest bad cost on: nothing, and all k
-// are missed, where the empty set is bad.
-pub fn by_windows(s: &[u8], chain: usize, k: u32, f: Figures, p: Pieces, each: bool) -> Packings
-    requires { Ready s.now chain k f p }
-    ensures { LeadsTo k (Misses (missed_at by_windows (table_of s.now) chain k f)) result }
+// What is left, where each set is tested by its own windows, or sets are bad from the lowest bad cost on: all k are missed, and nothing is
+// to be packed, where the empty set is bad.
+pub fn by_windows(s: &[u8], chain: usize, k: u32, w: Windows, p: Pieces, how: How) -> Left
+    requires { Ready s.now chain k w p }
+    ensures { Leaves k (missed_at by_windows (table_of s.now) chain k w) result }
 {
+    let close = w.figures.close;
     let mut held = [0u64; Own::HELD];
     let own = load(s, chain, Others::Typical, &mut held);
-    if over(s, own, &held, f.close, 0) {
-        return Packings::answered(Answer::Misses(k));
+    if over(s, own, &held, close, 0) {
+        return Left::Known(k);
     }
     let costs = prices(p);
     let sets = sets_of(p.count);
-    let bad = if each {
-        flags_by_windows(s, own, &held, f.close, &costs, sets)
-    } else {
-        flags(&costs, lowest_bad(s, own, &held, f.close, &costs, sets))
+    let bad = match how {
+        How::Each => flags_by_windows(s, own, &held, close, &costs, sets),
+        _ => flags(&costs, lowest_bad(s, own, &held, close, &costs, sets)),
     };
-    Packings::flagged(f.late, bad, p)
+    let capacity = p.capacity;
+    Left::Packed(Packings {
+        late: w.figures.late,
+        bad,
+        capacity,
+    })
 }
 
 // What the empty set costs.
 const NO_COST: u64 = 0;
 
-// What is to be packed, where sets are called bad from the least cost called bad on: nothing, and all k are missed at most, where the
-// empty set is called bad.
-pub fn by_sieve(s: &[u8], chain: usize, k: u32, f: Figures, p: Pieces) -> Packings
-    requires { Ready s.now chain k f p }
-    ensures { LeadsTo k (Misses (missed_at by_sieve (table_of s.now) chain k f)) result }
+// What is left, where sets are called bad from the least cost called bad on: all k are missed at most, and nothing is to be packed,
+// where the empty set is called bad.
+pub fn by_sieve(s: &[u8], chain: usize, k: u32, w: Windows, p: Pieces) -> Left
+    requires { Ready s.now chain k w p }
+    ensures { Leaves k (missed_at by_sieve (table_of s.now) chain k w) result }
 {
     let mut held = [0u64; Own::HELD];
     let own = load(s, chain, Others::Typical, &mut held);
-    let lowest = least_called(s, own, &held, f.close, Settled::BEYOND);
+    let lowest = least_called(s, own, &held, w.figures.close, Settled::BEYOND);
     if lowest == NO_COST {
-        return Packings::answered(Answer::Misses(k));
+        return Left::Known(k);
     }
-    let costs = prices(p);
-    Packings::flagged(f.late, flags(&costs, lowest), p)
+    let bad = flags(&prices(p), lowest);
+    let capacity = p.capacity;
+    Left::Packed(Packings {
+        late: w.figures.late,
+        bad,
+        capacity,
+    })
 }

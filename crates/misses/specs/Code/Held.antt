@@ -11,12 +11,11 @@ use Rattle.table.specs.declared.Table.{Table}
 use Rattle.arrivals.specs.Arrivals.{δ, largest}
 use Rattle.segments.specs.Code.Held.{dearest}
 use Rattle.windows.specs.Demand.{views_of}
+use Rattle.windows.specs.declared.Windows.{Windows}
 use Rattle.misses.specs.Overloads.{Overload, Piece, pieces_of, capacities_of}
 use Rattle.misses.specs.Sets.{members, agree, allowed, set_cost}
 use Rattle.misses.specs.Bad.{Test}
-use Rattle.misses.specs.Misses.{overloads_of, missed_of, by_figures}
-use Rattle.misses.specs.declared.Answer.{Answer}
-use Rattle.misses.specs.declared.Figures.{Figures}
+use Rattle.misses.specs.Misses.{Answer, overloads_of, missed_of, by_figures}
 use Rattle.misses.specs.declared.Pieces.{Pieces}
 
 -- the first six of a list, with 0s for those that it lacks
@@ -72,29 +71,29 @@ pub record Few (p : Pieces) : Type 0 where
 abbrev pub pieces_in : Pieces → List Piece
 pieces_in p = pieces_at p.chain p.segment p.cost p.count 0
 
--- what the figures of a chain b and a run of k are where nothing was refused before: within their limits
-pub record Asked (b : Row) (k : ℕ) (f : Figures) : Type 0 where
+-- what the windows of a chain b and a run of k are where nothing was refused before: within their limits
+pub record Asked (b : Row) (k : ℕ) (w : Windows) : Type 0 where
   pub typical : b.overload ≡ 0
   pub low : 1 ≤ k
   pub high : k ≤ max_run
-  pub few : f.close ≤ max_activations
-  pub near : f.latency ≤ horizon
-  pub count : f.late ≤ max_activations
-  pub end : f.last ≤ horizon
-  pub starts : (q : ℕ) → 1 ≤ q → q ≤ f.close → δ (distances b) q ≤ horizon
+  pub few : w.figures.close ≤ max_activations
+  pub near : w.figures.latency ≤ horizon
+  pub count : w.figures.late ≤ max_activations
+  pub end : w.last ≤ horizon
+  pub starts : (q : ℕ) → 1 ≤ q → q ≤ w.figures.close → δ (distances b) q ≤ horizon
 
 -- what they give by a test, of a chain of a table
-abbrev pub figures_at : Test → Table → ℕ → ℕ → Figures → Answer
-figures_at test t chain k f = by_figures δ test (row_of t chain) (views_of t chain) (overloads_of t chain) k f.close f.latency f.late f.last
+abbrev pub figures_at : Test → Table → ℕ → ℕ → Windows → Answer
+figures_at test t chain k w = by_figures δ test (row_of t chain) (views_of t chain) (overloads_of t chain) k w.figures.close w.figures.latency w.figures.late w.last
 
 -- and how many are missed of it, where nothing is refused
-abbrev pub missed_at : Test → Table → ℕ → ℕ → Figures → ℕ
-missed_at test t chain k f = missed_of δ test (row_of t chain) (views_of t chain) (overloads_of t chain) k f.close f.latency f.late
+abbrev pub missed_at : Test → Table → ℕ → ℕ → Windows → ℕ
+missed_at test t chain k w = missed_of δ test (row_of t chain) (views_of t chain) (overloads_of t chain) k w.figures.close w.figures.latency w.figures.late
 
 -- what the count of these goes by, all of it known where nothing is refused: some activation is late, and the active segments held are
 -- all that there are beside the chain, six or fewer, none with a capacity above its limit
-pub record Admitted (t : Table) (chain k : ℕ) (f : Figures) (p : Pieces) : Type 0 where
-  pub late : 1 ≤ f.late
-  pub all : p ≡ gathered (largest (row_of t chain) k + f.latency) (overloads_of t chain)
+pub record Admitted (t : Table) (chain k : ℕ) (w : Windows) (p : Pieces) : Type 0 where
+  pub late : 1 ≤ w.figures.late
+  pub all : p ≡ gathered (largest (row_of t chain) k + w.figures.latency) (overloads_of t chain)
   pub few : p.count ≤ max_overloads
   pub within : some (ltb max_capacity) p.capacity ≡ false

@@ -1,11 +1,10 @@
--- What is to be packed by the sieve, packed, and told as such.
-use mathlib.Core.Path.{ap, ◌∙◌}
-use Rattle.misses.specs.Sieve.{as_sieved, at_most_of}
+-- What is left to be packed, packed.
+use mathlib.Core.Path.{ap, sym, ◌∙◌}
+use Rattle.table.proofs.Firsts.{handed_on}
 use Rattle.misses.proofs.counting.at_most.Goals as goal
 
 pub packed-requires : goal.packed-requires
-packed-requires c = c.packings_of.ensures.sized
+packed-requires c = ?
 
 pub returns : goal.returns
-unfolding at_most_of
-returns c = c.as_sieved.ensures ∙ ap as_sieved (c.packed.ensures ∙ c.packings_of.ensures.is)
+returns c = ?

@@ -7,4 +7,4 @@ use Rattle.misses.proofs.counting.figure.Goals as goal
 pub overflow_mul-all : goal.overflow_mul-all
 overflow_mul-all c = let l : c.args.late ≤ 4294967295 = omega arith in
     let u : c.args.uses ≤ 4294967295 = omega arith in
-    omega (arith, mul-le-mul l u)
+    rw (c.from.ensures, c.from-2.ensures) (omega (arith, mul-le-mul l u))
