@@ -3,30 +3,38 @@ use Prim.Native.Nat.{ℕ, zero, suc, max, ◌+◌, ◌-◌, ◌≤◌}
 use native.Mathlib.Omega.{arith}
 use mathlib.Core.Path.{◌≡◌, refl, ap, sym, ◌∙◌}
 use mathlib.Core.List.{List, ◌++◌, append_assoc}
+use mathlib.Core.Bool.{true}
+use mathlib.Core.Logic.{⊎_elim}
 use lib.ListN.{length, take, drop, replicate, length-append, length-drop, length-replicate}
 use lib.Seq.{take_at}
-use borrow.Author.Tests.{ltb-false}
+use Rattle.search.proofs.Choice.{true-not-false, lt_or_le}
 use Rattle.table.specs.Bytes.{Bytes}
 use Rattle.table.specs.Find.{row_of}
 use Rattle.table.specs.Place.{length_of, place_of}
 use Rattle.table.specs.Read.{table_of}
-use Rattle.search.specs.Choice.{by_number}
-use Rattle.search.proofs.Choice.{when_zero}
-use Rattle.saving.specs.Save.{number_of, seen_of, result_of, save_fault, written, saved_of}
+use Rattle.std.specs.Prelude.{is_ok}
+use Rattle.std.specs.declared.result.Result.TheVariants.{Ok, Err}
+use Rattle.table.specs.Refusal.{answering}
+use Rattle.table.specs.declared.refusal.Refusal.TheVariants.{BadLength}
+use Rattle.saving.specs.Save.{Judgement, seen_of, result_of, save_fault, written, saved_of}
 use Rattle.saving.specs.Later.{State, stored, Holding, Edit, used_after, answer, after}
-use Rattle.saving.specs.declared.Saved.TheVariants.{Used, Refused}
 use Rattle.slices.proofs.Bytes.{bytes_append, bytes_take, bytes_drop}
-use Rattle.saving.proofs.Faults.{NoFault, passed, change_none, save-within, accepts}
+use Rattle.saving.proofs.Verdicts.{not-none}
+use Rattle.saving.proofs.Faults.{NoFault, passed, change_none, save-beyond, save-within, accepts}
 
--- the answer in the paper's terms: the fault's number, and the new used length where there is none
+-- what is no fault is accepted, and the other way round
 module _ (buffer : List ℕ) (used : ℕ) (old new : List ℕ) where
-  pub saved-number : number_of (saved_of buffer used old new) ≡ save_fault buffer used old new
-  unfolding saved_of by_number
-  saved-number = by (save_fault buffer used old new)
+  pub saved-ok : is_ok (saved_of buffer used old new) ≡ is_ok (save_fault buffer used old new)
+  unfolding saved_of
+  saved-ok = by (save_fault buffer used old new)
     where
-      by : (f : ℕ) → number_of (by_number Refused f (Used (length (result_of (take used buffer) old new)))) ≡ f
-      by zero = refl
-      by (suc f) = refl
+      by : (j : Judgement) → is_ok (answering j (length (result_of (take used buffer) old new))) ≡ is_ok j
+      by (Ok u) = refl
+      by (Err n) = refl
+
+no-fault : (j : Judgement) → is_ok j ≡ true → j ≡ Ok tt
+no-fault (Ok u) e = refl
+no-fault (Err n) e = absurd (true-not-false e refl)
 
 bytes-zeros : (n : ℕ) → Bytes (replicate n 0)
 bytes-zeros zero i = omega arith
@@ -45,25 +53,24 @@ module _ (x : State) (e : Edit) where
   result = result_of (stored x) e.old e.new
 
   -- a save that passes every test is accepted
-  pub passed-accepted : x.used ≤ length x.buffer → NoFault (length x.buffer) (stored x) e.old e.new → number_of (answer x e) ≡ 0
+  pub passed-accepted : x.used ≤ length x.buffer → NoFault (length x.buffer) (stored x) e.old e.new → is_ok (answer x e) ≡ true
   passed-accepted h p =
-      saved-number x.buffer x.used e.old e.new ∙ save-within x.buffer x.used e.old e.new h
-      ∙ change_none (length x.buffer) (stored x) e.old e.new p
+      saved-ok x.buffer x.used e.old e.new
+      ∙ ap (λ (j : Judgement). is_ok j) (save-within x.buffer x.used e.old e.new h ∙ change_none (length x.buffer) (stored x) e.old e.new p)
 
-  module _ (taken : number_of (answer x e) ≡ 0) where
-    no_fault : save_fault x.buffer x.used e.old e.new ≡ 0
-    no_fault = sym (saved-number x.buffer x.used e.old e.new) ∙ taken
+  module _ (taken : is_ok (answer x e) ≡ true) where
+    no_fault : save_fault x.buffer x.used e.old e.new ≡ Ok tt
+    no_fault = no-fault _ (sym (saved-ok x.buffer x.used e.old e.new) ∙ taken)
 
     -- an accepted one passed every test
     pub used-within : x.used ≤ length x.buffer
-    unfolding save_fault
-    used-within = ltb-false _ _ (when_zero 0 _ _ no_fault).0
+    used-within = ⊎_elim (λ h. not-none BadLength (sym (save-beyond x.buffer x.used e.old e.new h) ∙ no_fault)) (λ h. h) (lt_or_le (length x.buffer) x.used)
 
     pub all-passed : NoFault (length x.buffer) (stored x) e.old e.new
     all-passed = passed _ _ _ _ (sym (save-within x.buffer x.used e.old e.new used-within) ∙ no_fault)
 
     -- it answers the result's length, and the result is written
-    pub after-answer : answer x e ≡ Used (length result)
+    pub after-answer : answer x e ≡ Ok (length result)
     after-answer = sym (accepts x.buffer x.used e.old e.new no_fault).answers
 
     pub after-buffer : (after x e).buffer ≡ written x.buffer x.used result

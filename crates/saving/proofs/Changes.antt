@@ -9,6 +9,7 @@ use lib.ListN.{length, get_or, drop, set, length-set}
 use lib.Seq.{get_or-set_same, get_or-set_other, set-get_or, set-set}
 use lib.Dec.{eqb}
 use borrow.Author.Tests.{le-ltb, eq-eqb, eqb-true, not-false}
+use Rattle.std.specs.declared.result.Result.TheVariants.{Ok}
 use Rattle.table.specs.Bytes.{Bytes}
 use Rattle.table.specs.Record.{form_at, id_at, head_length, length_at}
 use Rattle.table.specs.Find.{row_of, rows}
@@ -54,7 +55,7 @@ result-splice : (s old new : List ℕ) → result_of s old new ≡ splice s (pla
 unfolding result_of
 result-splice s old new = refl
 
-module _ (s : List ℕ) (none : read_fault s ≡ 0) where
+module _ (s : List ℕ) (none : read_fault s ≡ Ok tt) where
   module _ (chain : ℕ) (l : chain < (table_of s).count) where
     own-seen : seen_of s (record_of s chain) < (table_of s).count
     own-seen = omega (arith, l, seen_by s (record_of s chain) chain l refl)

@@ -1,23 +1,25 @@
--- The order of the refusals: what the fault is at each step, and what a save then answers and leaves. Assumes nothing.
-use Prim.Native.Nat.{ℕ, zero, suc, ◌<◌, ◌≤◌}
+-- The order of the refusals: what the judgement is at each step, and what a save then answers and leaves. Assumes nothing.
+use Prim.Native.Nat.{ℕ, ◌<◌, ◌≤◌}
 use mathlib.Core.Path.{◌≡◌, refl, ap, ◌∙◌}
 use mathlib.Core.List.{List}
-use mathlib.Core.Bool.{true, false}
+use mathlib.Core.Bool.{Bool, true, false}
 use lib.ListN.{length, take}
 use borrow.Author.Tests.{lt-ltb, le-ltb, eq-eqb, ne_eqb, ltb-false, eqb-false}
-use Rattle.search.specs.Choice.{◌when◌else◌, by_number}
+use Rattle.search.specs.Choice.{◌when◌else◌}
 use Rattle.table.specs.Find.{row_of}
-use Rattle.table.specs.Read.{number_of, by_verdict, read_table, table_of}
-use Rattle.table.specs.declared.Verdict.{Verdict}
-use Rattle.table.specs.declared.Verdict.TheVariants.{Accepted, Refused as Faulty}
-use Rattle.search.proofs.Choice.{when_yes, when_no, when_zero}
-use Rattle.saving.specs.Save.{read_fault, seen_of, unfit, result_of, result_fault, replace_fault, change_fault, save_fault, written, saved_of, buffer_after, Saves}
-use Rattle.saving.specs.declared.Saved.TheVariants.{Used, Refused}
-use Rattle.saving.proofs.Verdicts.{refused-some, accepted_verdict}
+use Rattle.table.specs.Read.{by_verdict, refused_by, read_table, table_of}
+use Rattle.std.specs.declared.result.Result.TheVariants.{Ok, Err}
+use Rattle.table.specs.Refusal.{Verdict}
+use Rattle.table.specs.declared.refusal.Fault.{Fault}
+use Rattle.table.specs.declared.refusal.Refusal.{Refusal}
+use Rattle.table.specs.declared.refusal.Refusal.TheVariants.{BadLength, StaleRecord, BadRecord, BufferShort}
+use Rattle.search.proofs.Choice.{when_yes, when_no}
+use Rattle.saving.specs.Save.{Judgement, read_fault, seen_of, unfit, result_of, result_fault, replace_fault, change_fault, save_fault, written, saved_of, buffer_after, Saves}
+use Rattle.saving.proofs.Verdicts.{not-none, accepted_verdict}
 
 -- the result
 module _ (room : ℕ) (result : List ℕ) where
-  pub result-long : room < length result → result_fault room result ≡ 24
+  pub result-long : room < length result → result_fault room result ≡ Err BufferShort
   unfolding result_fault ◌when◌else◌
   result-long h = rw (lt-ltb _ _ h)
 
@@ -27,59 +29,60 @@ module _ (room : ℕ) (result : List ℕ) where
 
 module _ (room : ℕ) (s old new : List ℕ) where
   -- the table's own fault comes first
-  pub change_unread : (read_fault s ≡ 0 → ⊥) → change_fault room s old new ≡ read_fault s
+  pub change_unread : {f : Fault} → (read_table s).verdict ≡ Err f → change_fault room s old new ≡ Err f.0
   unfolding change_fault
-  change_unread h = by (read_table s).verdict h
-    where
-      by : (v : Verdict) → (number_of v ≡ 0 → ⊥) → by_verdict (λ n. n) v (replace_fault room s old new) ≡ number_of v
-      by Accepted g = absurd (g refl)
-      by (Faulty n place) g = refl
+  change_unread e = rw e
 
-  pub change_read : read_fault s ≡ 0 → change_fault room s old new ≡ replace_fault room s old new
+  pub change_read : read_fault s ≡ Ok tt → change_fault room s old new ≡ replace_fault room s old new
   unfolding change_fault
-  change_read e = ap (λ v. by_verdict (λ n. n) v (replace_fault room s old new)) (accepted_verdict s e)
+  change_read e = ap (λ v. by_verdict Err v (replace_fault room s old new)) (accepted_verdict s e)
 
-  pub replace_unseen : seen_of s old ≡ (table_of s).count → replace_fault room s old new ≡ 22
+  pub replace_unseen : seen_of s old ≡ (table_of s).count → replace_fault room s old new ≡ Err StaleRecord
   unfolding replace_fault
-  replace_unseen e = when_yes 22 _ (eq-eqb _ _ e)
+  replace_unseen e = when_yes (Err StaleRecord) _ (eq-eqb _ _ e)
 
   module _ (seen : seen_of s old ≡ (table_of s).count → ⊥) where
-    pub replace_unfit : unfit new (row_of (table_of s) (seen_of s old)).id ≡ true → replace_fault room s old new ≡ 23
+    pub replace_unfit : unfit new (row_of (table_of s) (seen_of s old)).id ≡ true → replace_fault room s old new ≡ Err BadRecord
     unfolding replace_fault
-    replace_unfit e = when_no 22 _ (ne_eqb _ _ seen) ∙ when_yes 23 _ e
+    replace_unfit e = when_no (Err StaleRecord) _ (ne_eqb _ _ seen) ∙ when_yes (Err BadRecord) _ e
 
     pub replace_result : unfit new (row_of (table_of s) (seen_of s old)).id ≡ false → replace_fault room s old new ≡ result_fault room (result_of s old new)
     unfolding replace_fault
-    replace_result e = when_no 22 _ (ne_eqb _ _ seen) ∙ when_no 23 _ e
+    replace_result e = when_no (Err StaleRecord) _ (ne_eqb _ _ seen) ∙ when_no (Err BadRecord) _ e
 
 -- no fault: what it says
 pub record NoFault (room : ℕ) (s old new : List ℕ) : Type 0 where
-  pub table : read_fault s ≡ 0
+  pub table : read_fault s ≡ Ok tt
   pub seen : seen_of s old ≡ (table_of s).count → ⊥
   pub fit : unfit new (row_of (table_of s) (seen_of s old)).id ≡ false
   pub fits : length (result_of s old new) ≤ room
-  pub result : read_fault (result_of s old new) ≡ 0
+  pub result : read_fault (result_of s old new) ≡ Ok tt
 
-pub passed : (room : ℕ) (s old new : List ℕ) → change_fault room s old new ≡ 0 → NoFault room s old new
+when_none : (n : Refusal) (j : Judgement) (t : Bool) → (Err n when t else j) ≡ Ok tt → (t ≡ false) × (j ≡ Ok tt)
+unfolding ◌when◌else◌
+when_none n j true e = not-none n e
+when_none n j false e = (refl, e)
+
+verdict_none : (v : Verdict) (j : Judgement) → by_verdict Err v j ≡ Ok tt → (refused_by v ≡ Ok tt) × (j ≡ Ok tt)
+verdict_none (Ok u) j e = (refl, e)
+verdict_none (Err f) j e = not-none f.0 e
+
+pub passed : (room : ℕ) (s old new : List ℕ) → change_fault room s old new ≡ Ok tt → NoFault room s old new
 unfolding change_fault replace_fault result_fault
 passed room s old new e =
-    let none = read_none (read_table s).verdict refl e in
-    let e22 = when_zero 21 _ _ none.1 in
-    let e23 = when_zero 22 _ _ e22.1 in
-    let e24 = when_zero 23 _ _ e23.1 in
-    record { table = none.0; seen = eqb-false _ _ e22.0; fit = e23.0; fits = ltb-false _ _ e24.0; result = e24.1 }
-  where
-    read_none : (v : Verdict) → (read_table s).verdict ≡ v → by_verdict (λ n. n) v (replace_fault room s old new) ≡ 0 → (read_fault s ≡ 0) × (replace_fault room s old new ≡ 0)
-    read_none Accepted f g = (ap number_of f, g)
-    read_none (Faulty n place) f g = absurd (refused-some s f (ap number_of f ∙ g))
+    let none = verdict_none (read_table s).verdict _ e in
+    let stale = when_none StaleRecord _ _ none.1 in
+    let bad = when_none BadRecord _ _ stale.1 in
+    let short = when_none BufferShort _ _ bad.1 in
+    record { table = none.0; seen = eqb-false _ _ stale.0; fit = bad.0; fits = ltb-false _ _ short.0; result = short.1 }
 
-pub change_none : (room : ℕ) (s old new : List ℕ) → NoFault room s old new → change_fault room s old new ≡ 0
+pub change_none : (room : ℕ) (s old new : List ℕ) → NoFault room s old new → change_fault room s old new ≡ Ok tt
 change_none room s old new p =
     change_read room s old new p.table ∙ replace_result room s old new p.seen p.fit ∙ result-read room _ p.fits ∙ p.result
 
 -- the save
 module _ (buffer : List ℕ) (used : ℕ) (old new : List ℕ) where
-  pub save-beyond : length buffer < used → save_fault buffer used old new ≡ 1
+  pub save-beyond : length buffer < used → save_fault buffer used old new ≡ Err BadLength
   unfolding save_fault ◌when◌else◌
   save-beyond h = rw (lt-ltb _ _ h)
 
@@ -88,12 +91,11 @@ module _ (buffer : List ℕ) (used : ℕ) (old new : List ℕ) where
   save-within h = rw (le-ltb _ _ h)
 
   -- a refusal leaves every byte
-  pub refuses : (f : ℕ) → save_fault buffer used old new ≡ f → (f ≡ 0 → ⊥) → Saves buffer used old new (Refused f) buffer
-  unfolding saved_of buffer_after by_number ◌when◌else◌
-  refuses zero e h = absurd (h refl)
-  refuses (suc f) e h = record { answers = rw e; leaves = rw (e, ne_eqb (suc f) 0 h) }
+  pub refuses : {n : Refusal} → save_fault buffer used old new ≡ Err n → Saves buffer used old new (Err n) buffer
+  unfolding saved_of buffer_after ◌when◌else◌
+  refuses e = record { answers = rw e; leaves = rw e }
 
-  pub accepts : save_fault buffer used old new ≡ 0
-      → Saves buffer used old new (Used (length (result_of (take used buffer) old new))) (written buffer used (result_of (take used buffer) old new))
-  unfolding saved_of buffer_after by_number ◌when◌else◌
+  pub accepts : save_fault buffer used old new ≡ Ok tt
+      → Saves buffer used old new (Ok (length (result_of (take used buffer) old new))) (written buffer used (result_of (take used buffer) old new))
+  unfolding saved_of buffer_after ◌when◌else◌
   accepts e = record { answers = rw e; leaves = rw e }

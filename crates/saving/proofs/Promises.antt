@@ -1,22 +1,26 @@
 -- What is promised of a save (01, 'Saving one record'): an edit made from an old copy never overwrites a newer one, and a
 -- refused save changes nothing. Assumes nothing.
-use Prim.Native.Nat.{ℕ, zero, suc, ◌<◌, ◌≤◌}
+use Prim.Native.Nat.{ℕ, ◌<◌, ◌≤◌}
 use native.Mathlib.Omega.{arith}
 use native.Mathlib.Decide.{ℕ_discrete}
 use mathlib.Core.Path.{◌≡◌, refl, ap, ap₂, sym, subst, ◌∙◌}
 use mathlib.Core.List.{List, [], ◌∷◌}
 use lib.ListN.{length, set}
 use lib.Seq.{length-take-le}
-use Rattle.search.specs.Choice.{by_number}
+use mathlib.Core.Bool.{Bool, true, false}
+use Rattle.std.specs.Prelude.{is_ok}
+use Rattle.std.specs.declared.result.Result.TheVariants.{Ok, Err}
 use Rattle.search.specs.Lists.{All}
 use Rattle.table.specs.Bytes.{Bytes}
 use Rattle.table.specs.Record.{id_at}
 use Rattle.table.specs.Find.{row_of, rows}
 use Rattle.table.specs.Read.{accepted, read_table, table_of}
-use Rattle.saving.specs.Save.{number_of, save_fault, seen_of, result_of, change_fault, written, saved_of}
+use Rattle.table.specs.Refusal.{answering}
+use Rattle.table.specs.declared.refusal.Refusal.TheVariants.{StaleRecord}
+use Rattle.saving.specs.Save.{Judgement, save_fault, seen_of, result_of, change_fault, written, saved_of}
 use Rattle.slices.specs.Stored.{record_of}
 use Rattle.saving.specs.Later.{State, stored, Holding, Edit, answer, after, after_all, Never}
-use Rattle.saving.specs.declared.Saved.TheVariants.{Used, Refused}
+use Rattle.search.proofs.Choice.{true-not-false}
 use Rattle.slices.proofs.Sameness.{same_true}
 use Rattle.saving.proofs.Written.{written_same}
 use Rattle.saving.proofs.Verdicts.{read-accepted}
@@ -24,16 +28,17 @@ use Rattle.saving.proofs.Seen.{seen_none}
 use Rattle.saving.proofs.Faults.{NoFault, change_read, replace_unseen, save-within, refuses}
 use Rattle.slices.proofs.Parts.{row_in}
 use Rattle.slices.proofs.Records.{record_id, record_alone}
-use Rattle.saving.proofs.After.{saved-number, passed-accepted, used-within, all-passed, after-answer, after-buffer, after-used, after-stored, after-length, after-holding}
+use Rattle.saving.proofs.After.{saved-ok, passed-accepted, used-within, all-passed, after-answer, after-buffer, after-used, after-stored, after-length, after-holding}
 use Rattle.slices.proofs.Bytes.{bytes_take}
 use Rattle.saving.proofs.Changes.{own-result, own-passes, was_read, is_seen, seen-old, count_kept, record_changed, record_kept, rows-kept, result-back, back_passes}
 
 -- a refused save changes nothing
-pub refused-leaves : (x : State) (e : Edit) → (number_of (answer x e) ≡ 0 → ⊥) → after x e ≡ x
-refused-leaves x e h =
-    let n = saved-number x.buffer x.used e.old e.new in
-    let r = refuses x.buffer x.used e.old e.new (save_fault x.buffer x.used e.old e.new) refl (λ z. h (n ∙ z)) in
-    rw (← r.leaves, ← r.answers)
+pub refused-leaves : (x : State) (e : Edit) → is_ok (answer x e) ≡ false → after x e ≡ x
+refused-leaves x e h = by (save_fault x.buffer x.used e.old e.new) refl
+  where
+    by : (j : Judgement) → save_fault x.buffer x.used e.old e.new ≡ j → after x e ≡ x
+    by (Ok u) f = absurd (true-not-false (saved-ok x.buffer x.used e.old e.new ∙ ap (λ (j : Judgement). is_ok j) f) h)
+    by (Err n) f = let r = refuses x.buffer x.used e.old e.new f in rw (← r.leaves, ← r.answers)
 
 -- what is accepted reads back as an accepted table whose rows are the old ones with exactly one replaced
 pub record OneReplaced (x : State) (e : Edit) : Type 0 where
@@ -42,7 +47,7 @@ pub record OneReplaced (x : State) (e : Edit) : Type 0 where
   pub seen : record_of (stored x) (seen_of (stored x) e.old) ≡ e.old
   pub replaced : rows (table_of (stored (after x e))) ≡ set (rows (table_of (stored x))) (seen_of (stored x) e.old) (row_in e.new)
 
-pub reads-back : (x : State) (e : Edit) → Bytes x.buffer → Bytes e.new → number_of (answer x e) ≡ 0 → OneReplaced x e
+pub reads-back : (x : State) (e : Edit) → Bytes x.buffer → Bytes e.new → is_ok (answer x e) ≡ true → OneReplaced x e
 reads-back x e bytes new-bytes ok =
     let p = all-passed x e ok in
     let s = bytes_take x.used x.buffer bytes in
@@ -57,13 +62,13 @@ reads-back x e bytes new-bytes ok =
 abbrev pub own : State → ℕ → Edit
 own x chain = record { old = record_of (stored x) chain; new = record_of (stored x) chain }
 
-pub own-saved : (x : State) → Holding x → (chain : ℕ) → chain < (table_of (stored x)).count → (answer x (own x chain) ≡ Used x.used) × (after x (own x chain) ≡ x)
+pub own-saved : (x : State) → Holding x → (chain : ℕ) → chain < (table_of (stored x)).count → (answer x (own x chain) ≡ Ok x.used) × (after x (own x chain) ≡ x)
 own-saved x h chain l =
     let n = length-take-le x.used x.buffer h.within in
     let passes = own-passes (stored x) h.right (bytes_take x.used x.buffer h.bytes) chain l (length x.buffer) (omega (arith, n, h.within)) in
     let same-result = own-result (stored x) h.right chain l in
     let taken = passed-accepted x (own x chain) h.within passes in
-    let same-used = after-answer x (own x chain) taken ∙ ap Used (ap length same-result ∙ n) in
+    let same-used = after-answer x (own x chain) taken ∙ ap Ok (ap length same-result ∙ n) in
     let same-buffer = after-buffer x (own x chain) taken ∙ ap (written x.buffer x.used) same-result ∙ written_same x.buffer x.used h.within in
     (same-used, rw (same-buffer, same-used))
 
@@ -77,15 +82,15 @@ module _ (x : State) (h : Holding x) where
   bytes : Bytes s
   bytes = bytes_take x.used x.buffer h.bytes
 
-  -- a save whose old record is none of the stored ones is refused with 22
-  pub unseen_refused : (e : Edit) → ((chain : ℕ) → chain < (table_of s).count → record_of s chain ≡ e.old → ⊥) → answer x e ≡ Refused 22
+  -- a save whose old record is none of the stored ones is refused
+  pub unseen_refused : (e : Edit) → ((chain : ℕ) → chain < (table_of s).count → record_of s chain ≡ e.old → ⊥) → answer x e ≡ Err StaleRecord
   unseen_refused e n =
       let none = seen_none s e.old (λ j l z. n j l (same_true _ _ z)) in
       let f = save-within x.buffer x.used e.old e.new h.within ∙ change_read (length x.buffer) s e.old e.new h.right ∙ replace_unseen (length x.buffer) s e.old e.new none in
-      sym (refuses x.buffer x.used e.old e.new 22 f (λ z. omega (arith, z))).answers
+      sym (refuses x.buffer x.used e.old e.new f).answers
 
   -- so it is where the old record differs from the stored one of that id
-  pub differing_refused : (e : Edit) (chain : ℕ) → chain < (table_of s).count → id_at e.old 0 ≡ (row_of (table_of s) chain).id → (e.old ≡ record_of s chain → ⊥) → answer x e ≡ Refused 22
+  pub differing_refused : (e : Edit) (chain : ℕ) → chain < (table_of s).count → id_at e.old 0 ≡ (row_of (table_of s) chain).id → (e.old ≡ record_of s chain → ⊥) → answer x e ≡ Err StaleRecord
   differing_refused e chain l id n =
       unseen_refused e
       (λ j m z. n (sym z ∙ ap (record_of s) (record_alone s (table_of s) read bytes j chain m l
@@ -96,7 +101,7 @@ Absent : List ℕ → State → Type 0
 Absent r x = (j : ℕ) → j < (table_of (stored x)).count → record_of (stored x) j ≡ r → ⊥
 
 -- after an accepted save none is where neither the new one nor any but the one replaced was
-absent-after : (x : State) (e : Edit) (bytes : Bytes x.buffer) (new-bytes : Bytes e.new) (ok : number_of (answer x e) ≡ 0) (r : List ℕ) → (e.new ≡ r → ⊥)
+absent-after : (x : State) (e : Edit) (bytes : Bytes x.buffer) (new-bytes : Bytes e.new) (ok : is_ok (answer x e) ≡ true) (r : List ℕ) → (e.new ≡ r → ⊥)
     → ((j : ℕ) → j < (table_of (stored x)).count → (j ≡ seen_of (stored x) e.old → ⊥) → record_of (stored x) j ≡ r → ⊥) → Absent r (after x e)
 unfolding Absent
 absent-after x e bytes new-bytes ok r n others =
@@ -110,14 +115,14 @@ absent-after x e bytes new-bytes ok r n others =
     elim (ℕ_discrete j chain) [ yes q ↦ n (sym changed ∙ ap (record_of (result_of (stored x) e.old e.new)) (sym q) ∙ z) | no q ↦ others j m q (sym (kept j m q) ∙ z) ])
 
 -- and so it stays, whatever is saved, while no accepted save stores r
-once : (r : List ℕ) (x : State) (e : Edit) → Holding x → Absent r x → Bytes e.new → (number_of (answer x e) ≡ 0 → e.new ≡ r → ⊥)
+once : (r : List ℕ) (x : State) (e : Edit) → Holding x → Absent r x → Bytes e.new → (is_ok (answer x e) ≡ true → e.new ≡ r → ⊥)
     → Holding (after x e) × Absent r (after x e)
 unfolding Absent
-once r x e h a b n = by (number_of (answer x e)) refl
+once r x e h a b n = by (is_ok (answer x e)) refl
   where
-    by : (m : ℕ) → number_of (answer x e) ≡ m → Holding (after x e) × Absent r (after x e)
-    by zero ok = (after-holding x e ok h.bytes b, absent-after x e h.bytes b ok r (n ok) (λ j l q. a j l))
-    by (suc m) f = subst (λ (y : State). Holding y × Absent r y) (sym (refused-leaves x e (λ z. omega (arith, z, f)))) (h, a)
+    by : (m : Bool) → is_ok (answer x e) ≡ m → Holding (after x e) × Absent r (after x e)
+    by true ok = (after-holding x e ok h.bytes b, absent-after x e h.bytes b ok r (n ok) (λ j l q. a j l))
+    by false f = subst (λ (y : State). Holding y × Absent r y) (sym (refused-leaves x e f)) (h, a)
 
 stays : (r : List ℕ) (x : State) → Holding x → Absent r x → (es : List Edit) → All (λ e. Bytes e.new) es → Never r x es
     → Holding (after_all x es) × Absent r (after_all x es)
@@ -125,11 +130,11 @@ unfolding after_all Never
 stays r x h a [] b n = (h, a)
 stays r x h a (e ∷ es) b n = let y = once r x e h a b.0 n.0 in stays r (after x e) y.0 y.1 es b.1 n.1
 
--- after an accepted save whose new record differs from the old, any save from that old record is refused with 22 until the
+-- after an accepted save whose new record differs from the old, any save from that old record is refused until the
 -- record is changed back
-pub stale_until_back : (x : State) (e : Edit) → Bytes x.buffer → Bytes e.new → number_of (answer x e) ≡ 0 → (e.new ≡ e.old → ⊥)
+pub stale_until_back : (x : State) (e : Edit) → Bytes x.buffer → Bytes e.new → is_ok (answer x e) ≡ true → (e.new ≡ e.old → ⊥)
     → (es : List Edit) → All (λ f. Bytes f.new) es → Never e.old (after x e) es
-    → (new : List ℕ) → answer (after_all (after x e) es) (record { old = e.old; new = new }) ≡ Refused 22
+    → (new : List ℕ) → answer (after_all (after x e) es) (record { old = e.old; new = new }) ≡ Err StaleRecord
 unfolding Absent
 stale_until_back x e bytes new-bytes ok n es b never new =
     let p = all-passed x e ok in
@@ -144,17 +149,17 @@ stale_until_back x e bytes new-bytes ok n es b never new =
 
 -- a record changed away and changed back counts as the one seen
 answer-is : (x : State) (e : Edit) → x.used ≤ length x.buffer
-    → answer x e ≡ by_number Refused (change_fault (length x.buffer) (stored x) e.old e.new) (Used (length (result_of (stored x) e.old e.new)))
+    → answer x e ≡ answering (change_fault (length x.buffer) (stored x) e.old e.new) (length (result_of (stored x) e.old e.new))
 unfolding saved_of
-answer-is x e h = ap (λ (f : ℕ). by_number Refused f (Used (length (result_of (stored x) e.old e.new)))) (save-within x.buffer x.used e.old e.new h)
+answer-is x e h = ap (λ (j : Judgement). answering j (length (result_of (stored x) e.old e.new))) (save-within x.buffer x.used e.old e.new h)
 
 pub record ChangedBack (x : State) (e : Edit) (back : Edit) : Type 0 where
-  pub taken : number_of (answer (after x e) back) ≡ 0
+  pub taken : is_ok (answer (after x e) back) ≡ true
   pub table : stored (after (after x e) back) ≡ stored x
   pub used : (after (after x e) back).used ≡ x.used
   pub seen : (new : List ℕ) → answer (after (after x e) back) (record { old = e.old; new = new }) ≡ answer x (record { old = e.old; new = new })
 
-pub changed_back : (x : State) (e : Edit) → Bytes x.buffer → Bytes e.new → number_of (answer x e) ≡ 0 → ChangedBack x e (record { old = e.new; new = e.old })
+pub changed_back : (x : State) (e : Edit) → Bytes x.buffer → Bytes e.new → is_ok (answer x e) ≡ true → ChangedBack x e (record { old = e.new; new = e.old })
 changed_back x e bytes new-bytes ok =
     let p = all-passed x e ok in
     let c = bytes_take x.used x.buffer bytes in
@@ -174,6 +179,6 @@ changed_back x e bytes new-bytes ok =
       used = same-used;
       seen = λ new.
           answer-is (after y back) (record { old = e.old; new = new }) (omega (arith, same-used, same-room, used-within x e ok))
-          ∙ ap₂ (λ (m : ℕ) (q : List ℕ). by_number Refused (change_fault m q e.old new) (Used (length (result_of q e.old new)))) same-room same-table
+          ∙ ap₂ (λ (m : ℕ) (q : List ℕ). answering (change_fault m q e.old new) (length (result_of q e.old new))) same-room same-table
           ∙ sym (answer-is x (record { old = e.old; new = new }) (used-within x e ok));
     }

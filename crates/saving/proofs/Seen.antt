@@ -1,11 +1,17 @@
--- Which stored record the old one is: laws of `seenOf`. Assumes nothing.
+-- Which stored record the old one is: laws of `seen_of`. Assumes nothing.
 use Prim.Native.Nat.{ℕ, ◌+◌, ◌-◌, ◌<◌, ◌≤◌}
 use native.Mathlib.Omega.{arith}
 use mathlib.Core.Path.{◌≡◌, ap, sym, ◌∙◌}
 use mathlib.Core.List.{List}
 use mathlib.Core.Bool.{true}
 use lib.ListN.{length}
-use Rattle.search.proofs.Choice.{true-not-false}
+use lib.Dec.{eqb}
+use borrow.Author.Tests.{eqb-true, eqb-false}
+use Rattle.std.specs.declared.option.Option.{Option}
+use Rattle.std.specs.declared.result.Result.{Result}
+use Rattle.std.specs.declared.result.Result.TheVariants.{Ok, Err}
+use Rattle.std.specs.Option.{ok_or}
+use Rattle.search.proofs.Choice.{when_cases, true-not-false}
 use Rattle.search.proofs.Find.{first_le, first_hit, first_miss, first-is, first-none}
 use Rattle.table.specs.Bytes.{Bytes}
 use Rattle.table.specs.Find.{row_of}
@@ -13,7 +19,7 @@ use Rattle.table.specs.Read.{accepted, read_table, table_of}
 use Rattle.table.specs.Place.{length_of, place_of}
 use Rattle.slices.specs.Slices.{same, splice}
 use Rattle.slices.specs.Stored.{record_of}
-use Rattle.saving.specs.Save.{seen_of, result_of}
+use Rattle.saving.specs.Save.{seen_of, seen_chain, result_of}
 use Rattle.slices.proofs.Sameness.{same_true, same-yes}
 use Rattle.slices.proofs.Splices.{splice-length}
 use Rattle.slices.proofs.Stored.{stored-holds, record_size}
@@ -35,6 +41,20 @@ module _ (s old : List ℕ) where
   pub seen_le : seen_of s old ≤ (table_of s).count
   unfolding seen_of
   seen_le = omega (arith, first_le (λ j. same (record_of s j) old) 0 (table_of s).count)
+
+  -- what is answered for the chain that was seen
+  module _ {E : Type 0} (e : E) {o : Option ℕ} {r : Result ℕ E} (is : o ≡ seen_chain s old) (asked : r ≡ ok_or o e) where
+    pub seen-there : {chain : ℕ} → r ≡ Ok chain → (chain ≡ seen_of s old) × (seen_of s old < (table_of s).count)
+    seen-there {chain} h = when_cases (λ q. ok_or q e ≡ Ok chain → (chain ≡ seen_of s old) × (seen_of s old < (table_of s).count)) (eqb (seen_of s old) (table_of s).count)
+        (λ b k. absurd (let z : ◌≡◌ {A = ℕ} 0 1 = cc in omega arith))
+        (λ b k. (cc, omega (arith, eqb-false _ _ b, seen_le)))
+        (ap (λ q. ok_or q e) (sym is) ∙ sym asked ∙ h)
+
+    pub seen-missing : {q : E} → r ≡ Err q → (seen_of s old ≡ (table_of s).count) × (q ≡ e)
+    seen-missing {q} h = when_cases (λ o. ok_or o e ≡ Err q → (seen_of s old ≡ (table_of s).count) × (q ≡ e)) (eqb (seen_of s old) (table_of s).count)
+        (λ b k. (eqb-true _ _ b, cc))
+        (λ b k. absurd (let z : ◌≡◌ {A = ℕ} 0 1 = cc in omega arith))
+        (ap (λ q. ok_or q e) (sym is) ∙ sym asked ∙ h)
 
   -- the record seen is the old one
   pub seen_record : seen_of s old < (table_of s).count → record_of s (seen_of s old) ≡ old

@@ -1,9 +1,8 @@
 -- Saves one after another, for the laws: what the next one finds.
-use Rattle.std.specs.Prelude.{ℕ, ◌≤◌, ◌≡◌, List, [], ◌∷◌, length, take}
+use Rattle.std.specs.Prelude.{ℕ, ◌≤◌, ◌≡◌, List, [], ◌∷◌, length, take, true, is_ok}
 use Rattle.table.specs.Bytes.{Bytes}
-use Rattle.saving.specs.Save.{number_of, read_fault, saved_of, buffer_after}
-use Rattle.saving.specs.declared.Saved.{Saved}
-use Rattle.saving.specs.declared.Saved.TheVariants.{Used, Refused}
+use Rattle.saving.specs.Save.{Saved, read_fault, saved_of, buffer_after}
+use Rattle.std.specs.declared.result.Result.TheVariants.{Ok, Err}
 
 -- a buffer with its used length
 pub record State : Type 0 where
@@ -18,7 +17,7 @@ stored x = take x.used x.buffer
 pub record Holding (x : State) : Type 0 where
   pub bytes : Bytes x.buffer
   pub within : x.used ≤ length x.buffer
-  pub right : read_fault (stored x) ≡ 0
+  pub right : read_fault (stored x) ≡ Ok tt
 
 -- a save: the old record as the editor saw it, and the new
 pub record Edit : Type 0 where
@@ -27,8 +26,8 @@ pub record Edit : Type 0 where
 
 -- the used length after an answer: the one answered, or as it was where the save is refused
 abbrev pub used_after : ℕ → Saved → ℕ
-used_after used (Used n) = n
-used_after used (Refused f) = used
+used_after used (Ok n) = n
+used_after used (Err f) = used
 
 -- what a save answers, and what it leaves
 abbrev pub answer : State → Edit → Saved
@@ -45,4 +44,4 @@ after_all x (e ∷ es) = after_all (after x e) es
 -- no accepted one of them stores that record
 unfoldable pub Never : List ℕ → State → List Edit → Type 0
 Never r x [] = Unit {0}
-Never r x (e ∷ es) = (number_of (answer x e) ≡ 0 → e.new ≡ r → ⊥) × Never r (after x e) es
+Never r x (e ∷ es) = (is_ok (answer x e) ≡ true → e.new ≡ r → ⊥) × Never r (after x e) es

@@ -1,5 +1,5 @@
 -- Saving one record: given a buffer, the used length, the old record as the editor saw it, and the new (01, 'Saving one record').
-use Rattle.std.specs.Prelude.{ℕ, max, ◌-◌, ◌≡◌, List, [], ◌∷◌, ◌++◌, Bool, not, ◌||◌, length, take, drop, replicate, ltb, eqb, is_ok, ⊤}
+use Rattle.std.specs.Prelude.{ℕ, max, ◌-◌, ◌≡◌, List, [], ◌∷◌, ◌++◌, Bool, not, ◌||◌, length, take, drop, replicate, ltb, eqb, is_ok, Some, None, ⊤}
 use Rattle.search.specs.Choice.{◌when◌else◌}
 use Rattle.search.specs.Find.{first}
 use Rattle.table.specs.Record.{form_at, id_at, head_length, length_at}
@@ -10,6 +10,7 @@ use Rattle.table.specs.Read.{by_verdict, refused_by, read_table, table_of}
 use Rattle.table.specs.Place.{length_of, place_of}
 use Rattle.slices.specs.Slices.{same, splice}
 use Rattle.slices.specs.Stored.{record_of}
+use Rattle.std.specs.declared.option.Option.{Option}
 use Rattle.std.specs.declared.result.Result.{Result}
 use Rattle.std.specs.declared.result.Result.TheVariants.{Ok, Err}
 use Rattle.table.specs.declared.refusal.Refusal.{Refusal}
@@ -19,13 +20,21 @@ use Rattle.table.specs.declared.refusal.Refusal.TheVariants.{BadLength, StaleRec
 abbrev pub Saved : Type 0
 Saved = Result ℕ Refusal
 
+-- no fault, or the first one
+abbrev pub Judgement : Type 0
+Judgement = Result ⊤ Refusal
+
 -- why the table that the bytes store is refused, if it is
-abbrev pub read_fault : List ℕ → Result ⊤ Refusal
+abbrev pub read_fault : List ℕ → Judgement
 read_fault s = refused_by (read_table s).verdict
 
 -- the number of the first chain whose stored record equals the old one, the count of chains if none does
 unfoldable pub seen_of : List ℕ → List ℕ → ℕ
 seen_of s old = first (λ chain. same (record_of s chain) old) 0 (table_of s).count
+
+-- that chain, if one does
+abbrev pub seen_chain : List ℕ → List ℕ → Option ℕ
+seen_chain s old = None when eqb (seen_of s old) (table_of s).count else Some (seen_of s old)
 
 -- a record lacks bytes of its fixed part, which is as long as its own mark says (02, request 7)
 abbrev pub cut : List ℕ → Bool
@@ -41,22 +50,22 @@ unfoldable pub result_of : List ℕ → List ℕ → List ℕ → List ℕ
 result_of s old new = splice s (place_of (table_of s) (seen_of s old)) (length_of (row_of (table_of s) (seen_of s old))) new
 
 -- the result is longer than the buffer, which has that much room; then a table's numbers on the result
-unfoldable pub result_fault : ℕ → List ℕ → Result ⊤ Refusal
+unfoldable pub result_fault : ℕ → List ℕ → Judgement
 result_fault room result = Err BufferShort when ltb room (length result) else read_fault result
 
 -- on an accepted table: 22, 23, 24, then a table's numbers on the result
-unfoldable pub replace_fault : ℕ → List ℕ → List ℕ → List ℕ → Result ⊤ Refusal
+unfoldable pub replace_fault : ℕ → List ℕ → List ℕ → List ℕ → Judgement
 replace_fault room s old new =
     Err StaleRecord when eqb (seen_of s old) (table_of s).count else
     Err BadRecord when unfit new (row_of (table_of s) (seen_of s old)).id else
     result_fault room (result_of s old new)
 
 -- a refused table refuses the save with its own number
-unfoldable pub change_fault : ℕ → List ℕ → List ℕ → List ℕ → Result ⊤ Refusal
+unfoldable pub change_fault : ℕ → List ℕ → List ℕ → List ℕ → Judgement
 change_fault room s old new = by_verdict Err (read_table s).verdict (replace_fault room s old new)
 
 -- the table is the first `used` bytes of the buffer; 1 where those are more than it has
-unfoldable pub save_fault : List ℕ → ℕ → List ℕ → List ℕ → Result ⊤ Refusal
+unfoldable pub save_fault : List ℕ → ℕ → List ℕ → List ℕ → Judgement
 save_fault buffer used old new =
     Err BadLength when ltb (length buffer) used else change_fault (length buffer) (take used buffer) old new
 

@@ -18,16 +18,12 @@ pub fn save(buffer: &mut [u8], used: u64, old: &[u8], new: &[u8]) -> Result<u32,
 {
     let room = buffer.len();
     if (room as u64) < used {
-        return Saved::Refused(1);
+        return Err(Refusal::BadLength);
     }
     let end = used as usize;
     let mut bytes = [0u8; Table::BYTES];
-    match judged(&buffer[..end], room, old, new, &mut bytes) {
-        0 => {
-            let n = end - old.len() + new.len();
-            store(buffer, end, &bytes[..n]);
-            Saved::Used(n as u32)
-        }
-        fault => Saved::Refused(fault),
-    }
+    judged(&buffer[..end], room, old, new, &mut bytes)?;
+    let n = end - old.len() + new.len();
+    store(buffer, end, &bytes[..n]);
+    Ok(n as u32)
 }

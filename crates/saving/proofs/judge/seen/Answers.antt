@@ -6,7 +6,9 @@ use mathlib.Core.Bool.{true}
 use lib.ListN.{take, drop}
 use borrow.Author.Count.{below_more}
 use native.Mathlib.Omega.{arith}
-use Rattle.search.proofs.Choice.{true-not-false}
+use borrow.Author.Tests.{eq-eqb, ne_eqb}
+use Rattle.std.specs.Prelude.{Some}
+use Rattle.search.proofs.Choice.{when_yes, when_no, true-not-false}
 use Rattle.table.specs.Find.{row_of}
 use Rattle.table.specs.Place.{length_of}
 use Rattle.table.specs.Code.Taken.{Stands}
@@ -21,7 +23,7 @@ use Rattle.saving.proofs.judge.seen.Goals.{After-record_length, In-loop-chain}
 
 -- `chain` is there
 within : (c : In-loop-chain) → c.loop-chain.chain < (table_of c.args.s.now).count
-within c = omega (arith, c.count-chains.ensures)
+within c = omega (arith, c.count-chain-end.ensures)
 
 there : (c : In-loop-chain) → Stands c.args.s.now c.loop-chain.at
 there c = stands c.requires c.loop-chain.invariant.0 (within c)
@@ -37,7 +39,7 @@ taken : (c : After-record_length) → record_of (bytes c) c.loop-chain.chain ≡
 unfolding record_of
 taken c = let s = bytes c in
     let l = c.loop-chain in
-    let row = row-there c.requires l.invariant.0 (omega (arith, c.count-chains.ensures)) in
+    let row = row-there c.requires l.invariant.0 (omega (arith, c.count-chain-end.ensures)) in
     let e : l.at + c.record_length.result - l.at ≡ length_of (row_of (table_of s) l.chain) = omega (arith, c.record_length.ensures, length-at s l.at, ap length_of row) in
     ap₂ (λ n p. take n (drop p s)) (sym e) (sym l.invariant.0)
 
@@ -57,7 +59,8 @@ pub returns-then-same : goal.returns-then-same
 returns-then-same c =
     let here = goal.at.returns-then-same c in
     let stored : same (record_of c.args.s.now c.loop-chain.chain) c.args.old.now ≡ true = rw (taken here.After-record_length) (sym c.same.ensures ∙ c.if-same.true) in
-    sym (seen-is c.args.s.now c.args.old.now c.loop-chain.chain (within here.In-loop-chain) stored c.loop-chain.invariant.1)
+    let is = seen-is c.args.s.now c.args.old.now c.loop-chain.chain (within here.In-loop-chain) stored c.loop-chain.invariant.1 in
+    sym (when_no _ _ (ne_eqb _ _ (omega (arith, is, within here.In-loop-chain))) ∙ ap Some is)
 
 pub loop-chain-preserved : goal.loop-chain-preserved
 loop-chain-preserved c = let l = c.loop-chain in
@@ -67,4 +70,4 @@ loop-chain-preserved c = let l = c.loop-chain in
     )
 
 pub returns : goal.returns
-returns c = c.count-chains.ensures ∙ sym (seen_none c.args.s.now c.args.old.now (λ j h. c.loop-chain.invariant.1 j (omega (arith, c.count-chains.ensures))))
+returns c = sym (when_yes _ _ (eq-eqb _ _ (seen_none c.args.s.now c.args.old.now (λ j h. c.loop-chain.invariant.1 j (omega (arith, c.count-chain-end.ensures, c.loop-chain-test.false))))))
