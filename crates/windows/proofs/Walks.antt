@@ -1,7 +1,7 @@
 -- Taking q = 1, 2, .. until the windows close: where the walk stands, one turn more, and how it ends. It goes by what a demand has to
 -- be, and by δ(1) = 0. Assumes nothing.
 use Prim.Native.Nat.{ℕ, zero-le, ◌+◌, ◌-◌, max, ◌≤◌, ◌<◌}
-use mathlib.Core.Path.{◌≡◌, subst, ap, ap₂, sym, ◌∙◌}
+use mathlib.Core.Path.{◌≡◌, refl, subst, ap, ap₂, sym, ◌∙◌}
 use mathlib.Core.Bool.{true}
 use mathlib.Core.Logic.{⊎_elim}
 use borrow.Author.Tests.{le-leb, leb-true, lt-ltb, le-ltb}
@@ -10,9 +10,10 @@ use native.Mathlib.Nat.{eq-or-lt_of_le, le_of_eq}
 use Rattle.search.proofs.Choice.{when_yes, when_no}
 use Rattle.search.proofs.Find.{first-is, first-none}
 use Rattle.table.specs.Limits.{horizon, max_activations}
-use Rattle.windows.specs.Window.{Solution, window_of}
+use Rattle.windows.specs.Window.{Window, Solution, window_of}
 use Rattle.windows.specs.Code.Climb.{Under}
 use Rattle.windows.specs.Latency.{ends, close_of, latency_at, latency_to, over_of, late_to, margin_of, figures, ends_with, windows_of}
+use Rattle.std.specs.Option.{ok_or}
 use Rattle.std.specs.declared.option.Option.TheVariants.{Some, None}
 use Rattle.windows.specs.declared.Windows.{Windows}
 use Rattle.std.specs.declared.result.Result.{Result}
@@ -22,6 +23,15 @@ use Rattle.table.specs.declared.refusal.Refusal.TheVariants.{PastHorizon, StillO
 use Rattle.windows.proofs.Least.{window-at, window-under, under_one, under_lift}
 use Rattle.windows.proofs.Growth.{Growing}
 use Rattle.windows.proofs.Latencies.{latency-none, latency-more, latency-is, latency-near, late-none, late-more, late-few}
+
+-- a window, by what is answered for one that is there, and for none
+pub window-known : (w : Window) {t : ℕ} → ok_or w PastHorizon ≡ Ok t → w ≡ Some t
+window-known (Some s) e = cc
+window-known None e = absurd (let z : ◌≡◌ {A = ℕ} 0 1 = cc in omega arith)
+
+pub window-unknown : (w : Window) {r : Refusal} → ok_or w PastHorizon ≡ Err r → (w ≡ None) × (r ≡ PastHorizon)
+window-unknown (Some s) e = absurd (let z : ◌≡◌ {A = ℕ} 0 1 = cc in omega arith)
+window-unknown None e = (refl, cc)
 
 module _ (demand : ℕ → ℕ → ℕ) (distance : ℕ → ℕ) where
   -- none of the activations before q ends the walk

@@ -16,7 +16,7 @@ use Rattle.windows.proofs.Growth.{load-growing}
 use Rattle.windows.proofs.Counting.{own-list, own-lists, counted_none}
 use Rattle.windows.proofs.Sweeps.{swept_start, swept_none, swept_past, swept_on}
 use Rattle.windows.proofs.sweeping.any_over.Goals as goal
-use Rattle.windows.proofs.sweeping.any_over.Goals.{After-deadline_at-deadline, After-delta, At-loop-done, In-At, Start}
+use Rattle.windows.proofs.sweeping.any_over.Goals.{After-deadline_at-deadline, After-delta, At-loop-done, In-Some, Start}
 
 -- the load, and its demand
 abbrev load : (c : Start) → Load
@@ -42,8 +42,8 @@ unfolding row_at
 told c = ap (over_by c) (c.deadline_at-deadline.ensures)
 
 -- the window that was found
-at : (c : In-At) → window_of ((demand_in ((load_of c.args.s.now c.args.own c.args.held.now))) (c.loop-done.done + 1)) ≡ At c.in-At.t
-at c = sym c.climb-w.ensures.window ∙ c.in-At.is
+at : (c : In-Some) → window_of ((demand_in ((load_of c.args.s.now c.args.own c.args.held.now))) (c.loop-done.done + 1)) ≡ Some c.in-Some.t
+at c = sym c.climb.ensures.window ∙ c.in-Some.is
 
 pub deadline_at-deadline-requires : goal.deadline_at-deadline-requires
 deadline_at-deadline-requires c = omega (arith, c.requires.0.stands.there)
@@ -54,12 +54,12 @@ loop-done-init c = (omega arith, swept_start _ _ _, counted_none (load (goal.at.
 pub overflow_add-q : goal.overflow_add-q
 overflow_add-q c = omega (arith, c.requires.1)
 
-pub climb-w-requires : goal.climb-w-requires
-climb-w-requires c = record { sound = c.requires.0; some = omega arith; few = omega (arith, c.requires.1); under = c.loop-done.invariant.1.under; counted = c.loop-done.invariant.2 }
+pub climb-requires : goal.climb-requires
+climb-requires c = record { sound = c.requires.0; some = omega arith; few = omega (arith, c.requires.1); under = c.loop-done.invariant.1.under; counted = c.loop-done.invariant.2 }
 
 pub returns-in_default : goal.returns-in_default
 returns-in_default c = sym (swept_none (demand (goal.at.returns-in_default c).Start) (δ (own_of (load (goal.at.returns-in_default c).Start))) c.deadline_at-deadline.result c.args.close c.loop-done.done c.loop-done-test.true
-    (sym c.climb-w.ensures.window ∙ c.in_default.is)) ∙ told (goal.at.returns-in_default c).At-loop-done
+    (sym c.climb.ensures.window ∙ c.in_default.is)) ∙ told (goal.at.returns-in_default c).At-loop-done
 
 pub delta-requires : goal.delta-requires
 delta-requires c = (own-lists (load (goal.at.delta-requires c).Start) c.requires.0, omega arith, omega (arith, c.requires.1))
@@ -72,15 +72,15 @@ pub overflow_add-delta : goal.overflow_add-delta
 overflow_add-delta c = omega (arith, starts c, δ-near c.requires.0.stands.good.list (c.loop-done.done + 1), deadline-le (goal.at.overflow_add-delta c).After-deadline_at-deadline, c.requires.1)
 
 pub returns-then-delta-deadline : goal.returns-then-delta-deadline
-returns-then-delta-deadline c = sym (swept_past (demand (goal.at.returns-then-delta-deadline c).Start) (δ (own_of (load (goal.at.returns-then-delta-deadline c).Start))) c.deadline_at-deadline.result c.args.close c.loop-done.done c.loop-done-test.true _ (at (goal.at.returns-then-delta-deadline c).In-At)
+returns-then-delta-deadline c = sym (swept_past (demand (goal.at.returns-then-delta-deadline c).Start) (δ (own_of (load (goal.at.returns-then-delta-deadline c).Start))) c.deadline_at-deadline.result c.args.close c.loop-done.done c.loop-done-test.true _ (at (goal.at.returns-then-delta-deadline c).In-Some)
     (omega (arith, starts (goal.at.returns-then-delta-deadline c).After-delta, c.if-delta-deadline.true))) ∙ told (goal.at.returns-then-delta-deadline c).At-loop-done
 
 pub loop-done-preserved : goal.loop-done-preserved
 loop-done-preserved c = (
   omega (arith, c.loop-done-test.true),
-  swept_on (demand (goal.at.loop-done-preserved c).Start) (δ (own_of (load (goal.at.loop-done-preserved c).Start))) c.deadline_at-deadline.result c.args.close c.loop-done.done c.loop-done-test.true _ (at (goal.at.loop-done-preserved c).In-At)
+  swept_on (demand (goal.at.loop-done-preserved c).Start) (δ (own_of (load (goal.at.loop-done-preserved c).Start))) c.deadline_at-deadline.result c.args.close c.loop-done.done c.loop-done-test.true _ (at (goal.at.loop-done-preserved c).In-Some)
       (load-growing (load (goal.at.loop-done-preserved c).Start) c.requires.0) c.loop-done.start c.loop-done.invariant.1 (omega (arith, starts (goal.at.loop-done-preserved c).After-delta, c.if-delta-deadline.false)),
-  c.climb-w.ensures.counted _ c.in-At.is,
+  c.climb.ensures.counted _ c.in-Some.is,
 )
 
 pub returns : goal.returns
