@@ -3,7 +3,6 @@ use Prim.Native.Nat.{ℕ, zero, suc, ◌+◌, ◌-◌, ◌≤◌, ◌<◌}
 use mathlib.Core.Path.{◌≡◌, refl, ap, sym, subst, ◌∙◌}
 use mathlib.Core.Bool.{Bool, false}
 use mathlib.Core.Logic.{⊎_elim}
-use lib.IntN.{ℤ}
 use borrow.Author.Tests.{le-leb, leb-true, leb-false, lt-ltb, le-ltb}
 use native.Mathlib.Omega.{arith}
 use native.Mathlib.Nat.{le_trans, le_of_eq, eq-or-lt_of_le}
@@ -14,9 +13,7 @@ use Rattle.windows.specs.Window.{Window, window_of}
 use Rattle.windows.specs.Latency.{ends, close_of, latency_to, late_to, margin_of, figures, ends_with, windows_of}
 use Rattle.std.specs.declared.option.Option.TheVariants.{Some, None}
 use Rattle.windows.specs.declared.Windows.{Windows}
-use Rattle.std.specs.declared.result.Result.{Result}
 use Rattle.std.specs.declared.result.Result.TheVariants.{Ok, Err}
-use Rattle.table.specs.declared.refusal.Refusal.{Refusal}
 use Rattle.table.specs.declared.refusal.Refusal.TheVariants.{PastHorizon, StillOpen}
 use Rattle.windows.proofs.Least.{window-at, window-under, under_lift}
 use Rattle.windows.proofs.Growth.{Growing}

@@ -8,7 +8,6 @@ use native.Mathlib.Omega.{arith}
 use native.Mathlib.Nat.{le_refl, le_trans, le_of_eq, eq-or-lt_of_le}
 use borrow.Author.Tests.{le-leb, lt-ltb, ltb-true}
 use lib.Dec.{ltb}
-use lib.IntN.{ℤ}
 use lib.Signed.{◌≤ℤ◌}
 use Rattle.search.specs.Lists.{sum_of}
 use Rattle.search.proofs.Choice.{when_cases, when_yes, true-not-false, lt_or_le}

@@ -15,8 +15,6 @@ use Rattle.windows.specs.Code.Climb.{Under}
 use Rattle.windows.specs.Latency.{ends, close_of, latency_at, latency_to, over_of, late_to, margin_of, figures, ends_with, windows_of}
 use Rattle.std.specs.Option.{ok_or}
 use Rattle.std.specs.declared.option.Option.TheVariants.{Some, None}
-use Rattle.windows.specs.declared.Windows.{Windows}
-use Rattle.std.specs.declared.result.Result.{Result}
 use Rattle.std.specs.declared.result.Result.TheVariants.{Ok, Err}
 use Rattle.table.specs.declared.refusal.Refusal.{Refusal}
 use Rattle.table.specs.declared.refusal.Refusal.TheVariants.{PastHorizon, StillOpen}

@@ -3,8 +3,8 @@ ghost use Rattle.std.specs.Prelude.{◌≡◌, ◌≤◌};
 ghost use Rattle.table.specs.Limits.{max_activations};
 ghost use Rattle.windows.specs.Code.Load.{load_of, Sound, over_in};
 
-use crate::climbing::climb;
 use crate::Own;
+use crate::climbing::climb;
 use arrivals::delta;
 use table::deadline_at;
 
