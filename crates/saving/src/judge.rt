@@ -3,6 +3,7 @@ ghost use Rattle.std.specs.Prelude.{◌≡◌, ◌+◌, ◌≤◌, length, Ok};
 ghost use Rattle.table.specs.Limits.{max_bytes};
 ghost use Rattle.table.specs.Read.{read_table};
 ghost use Rattle.table.specs.Code.Taken.{Taken};
+ghost use Rattle.table.specs.Fault.{is_chain};
 ghost use Rattle.saving.specs.Save.{seen_chain, cut as cut_of, unfit as unfitOf, result_of, result_fault, replace_fault, change_fault};
 ghost use Rattle.slices.specs.Slices.{splice};
 ghost use Rattle.saving.specs.Code.Ready.{Ready};
@@ -10,6 +11,12 @@ ghost use Rattle.saving.specs.Code.Ready.{Ready};
 use crate::writing::spliced;
 use slices::same;
 use table::{Mark, Refusal, Table};
+
+fn is_chain(m: Mark) -> bool
+    ensures { result ≡ is_chain m }
+{
+    m == Mark::Chain
+}
 
 // The number of the first chain whose stored record equals `old`, if one does.
 fn seen(s: &[u8], old: &[u8]) -> Option<usize>
@@ -44,7 +51,7 @@ fn unfit(new: &[u8], id: u16) -> bool
     if cut(new) {
         return true;
     }
-    if table::mark_of(table::form_at(new, 0)) != Mark::Chain {
+    if !is_chain(table::mark_of(table::form_at(new, 0))) {
         return true;
     }
     if new.len() != table::record_length(new, 0) {
@@ -55,7 +62,14 @@ fn unfit(new: &[u8], id: u16) -> bool
 
 // Judges the result, `new` in the place of `gone` bytes from `at` on: whether there is room for it, then as a table. Only one within the
 // greater limit is built, in `out`; a longer one has a bad length whatever its mark.
-fn result(s: &[u8], at: usize, gone: usize, new: &[u8], room: usize, out: &mut [u8]) -> Result<(), Refusal>
+fn result(
+    s: &[u8],
+    at: usize,
+    gone: usize,
+    new: &[u8],
+    room: usize,
+    out: &mut [u8],
+) -> Result<(), Refusal>
     requires { (at + gone ≤ length s.now) × (length out.old ≡ max_bytes) }
     ensures { Ready (result_fault room (splice s.now at gone new.now)) (splice s.now at gone new.now) out.new result }
 {
@@ -72,7 +86,13 @@ fn result(s: &[u8], at: usize, gone: usize, new: &[u8], room: usize, out: &mut [
 }
 
 // Judges `new` in the place of the record `old` of an accepted table: the two records, then the result.
-fn replaced(s: &[u8], room: usize, old: &[u8], new: &[u8], out: &mut [u8; Table::BYTES]) -> Result<(), Refusal>
+fn replaced(
+    s: &[u8],
+    room: usize,
+    old: &[u8],
+    new: &[u8],
+    out: &mut [u8; Table::BYTES],
+) -> Result<(), Refusal>
     requires { (read_table s.now).verdict ≡ Ok tt }
     ensures { Ready (replace_fault room s.now old.now new.now) (result_of s.now old.now new.now) out.new result }
 {
@@ -85,7 +105,13 @@ fn replaced(s: &[u8], room: usize, old: &[u8], new: &[u8], out: &mut [u8; Table:
 }
 
 // The table's own fault comes first. Where there is none, `out` begins with the result.
-pub fn judged(s: &[u8], room: usize, old: &[u8], new: &[u8], out: &mut [u8; Table::BYTES]) -> Result<(), Refusal>
+pub fn judged(
+    s: &[u8],
+    room: usize,
+    old: &[u8],
+    new: &[u8],
+    out: &mut [u8; Table::BYTES],
+) -> Result<(), Refusal>
     ensures { Ready (change_fault room s.now old.now new.now) (result_of s.now old.now new.now) out.new result }
 {
     table::judge(s)?;

@@ -21,10 +21,10 @@ use Rattle.saving.proofs.Verdicts.{not-none, read-accepted}
 use Rattle.saving.proofs.Seen.{seen-there, seen-missing, seen-inside, result-is}
 use Rattle.saving.proofs.Faults.{replace_unseen, replace_unfit, replace_result}
 use Rattle.saving.proofs.judge.replaced.Goals as goal
-use Rattle.saving.proofs.judge.replaced.Goals.{After-place-at, After-unfit, In_ok-chain, Start}
+use Rattle.saving.proofs.judge.replaced.Goals.{After-place-at, After-unfit, After-seen, In_ok-chain}
 
 -- the table holds its records
-held : (c : Start) → Taken c.args.s.now
+held : (c : After-seen) → Taken c.args.s.now
 held c = taken c.args.s.now (λ i. (c.type_inv.s i).fits) c.requires
 
 -- and a stored record is the old one, in its place
@@ -41,7 +41,7 @@ unfolding row_at
 judged-fit c t p h = c.unfit.ensures ∙ ap (unfit c.args.new.now) (c.id_at.ensures ∙ ap (λ (r : Row). r.id) (row-there t p h))
 
 pub seen-requires : goal.seen-requires
-seen-requires c = held c
+seen-requires c = taken c.args.s.now (λ i. (c.type_inv.s i).fits) c.requires
 
 pub returns-in_err-chain : goal.returns-in_err-chain
 returns-in_err-chain c = let a = c.args in
@@ -51,19 +51,19 @@ returns-in_err-chain c = let a = c.args in
 
 pub place-at-requires : goal.place-at-requires
 place-at-requires c = let at = goal.at.place-at-requires c in
-    (held at.Start, omega (arith, found at.In_ok-chain))
+    (held at.After-seen, omega (arith, found at.In_ok-chain))
 
 pub id_at-requires : goal.id_at-requires
 id_at-requires c = let at = goal.at.id_at-requires c in
     let f = found at.In_ok-chain in
-    omega (arith, (stands (held at.Start) (place c f.0) f.1).there)
+    omega (arith, (stands (held at.After-seen) (place c f.0) f.1).there)
 
 pub returns-then-unfit : goal.returns-then-unfit
 returns-then-unfit c = let a = c.args in
     let at = goal.at.returns-then-unfit c in
     let f = found at.In_ok-chain in
     let h = f.1 in
-    let fit = judged-fit at.After-unfit (held at.Start) (place at.After-place-at f.0) h in
+    let fit = judged-fit at.After-unfit (held at.After-seen) (place at.After-place-at f.0) h in
     record { faulty = sym (replace_unfit a.room a.s.now a.old.now a.new.now (λ z. omega (arith, h, z)) (sym fit ∙ c.if-unfit.true)); begins = λ z. not-none _ z }
 
 pub result-requires : goal.result-requires
@@ -78,7 +78,7 @@ returns c = let a = c.args in
     let at = goal.at.returns c in
     let f = found at.In_ok-chain in
     let h = f.1 in
-    let fit = judged-fit at.After-unfit (held at.Start) (place at.After-place-at f.0) h in
+    let fit = judged-fit at.After-unfit (held at.After-seen) (place at.After-place-at f.0) h in
     let there = ap (λ (p : ℕ). splice a.s.now p (length a.old.now) a.new.now) (place at.After-place-at f.0)
     ∙ result-is a.s.now a.old.now (read-accepted a.s.now (ap refused_by c.requires)) (λ i. (c.type_inv.s i).fits) h a.new.now in
     record {

@@ -20,20 +20,20 @@ returns-then-cut c = rw (← c.cut.ensures, c.if-cut.true)
 pub form_at-requires : goal.form_at-requires
 form_at-requires c = omega (arith, there c)
 
-pub returns-then-ne : goal.returns-then-ne
+pub returns-then-not-is_chain : goal.returns-then-not-is_chain
 unfolding unfit
-returns-then-ne c = rw (← c.cut.ensures, c.if-cut.false, ← c.form_at.ensures, ← c.mark_of.ensures, ?, c.if-ne.true)
+returns-then-not-is_chain c = rw (← c.cut.ensures, c.if-cut.false, ← c.form_at.ensures, ← c.mark_of.ensures, ← c.is_chain.ensures, c.if-not-is_chain.true)
 
 pub record_length-requires : goal.record_length-requires
 record_length-requires c = omega (arith, there (goal.at.record_length-requires c).Else-cut)
 
 pub returns-then-new-record_length : goal.returns-then-new-record_length
 unfolding unfit
-returns-then-new-record_length c = rw (← c.cut.ensures, c.if-cut.false, ← c.record_length.ensures, ← c.form_at.ensures, ← c.mark_of.ensures, ?, c.if-ne.false, ne_eqb _ _ c.if-new-record_length.true)
+returns-then-new-record_length c = rw (← c.cut.ensures, c.if-cut.false, ← c.record_length.ensures, ← c.form_at.ensures, ← c.mark_of.ensures, ← c.is_chain.ensures, c.if-not-is_chain.false, ne_eqb _ _ c.if-new-record_length.true)
 
 pub id_at-requires : goal.id_at-requires
 id_at-requires c = omega (arith, there (goal.at.id_at-requires c).Else-cut)
 
 pub returns : goal.returns
 unfolding unfit
-returns c = rw (← c.cut.ensures, c.if-cut.false, ← c.record_length.ensures, ← c.form_at.ensures, ← c.mark_of.ensures, ?, c.if-ne.false, eq-eqb _ _ c.if-new-record_length.false, ← c.id_at.ensures)
+returns c = rw (← c.cut.ensures, c.if-cut.false, ← c.record_length.ensures, ← c.form_at.ensures, ← c.mark_of.ensures, ← c.is_chain.ensures, c.if-not-is_chain.false, eq-eqb _ _ c.if-new-record_length.false, ← c.id_at.ensures)
