@@ -19,8 +19,8 @@ use Rattle.table.specs.Code.Taken.{Taken}
 use Rattle.table.specs.declared.Row.{Row}
 use Rattle.table.specs.declared.Table.{Table}
 use Rattle.table.specs.declared.Mark.TheVariants.{Chain, Task}
-use Rattle.table.specs.declared.Verdict.{Verdict}
-use Rattle.table.specs.declared.Verdict.TheVariants.{Accepted}
+use Rattle.std.specs.declared.result.Result.TheVariants.{Ok}
+use Rattle.table.specs.Refusal.{Verdict}
 use Rattle.table.proofs.Marks.{task-there}
 use Rattle.table.proofs.Words.{word_back, take_next}
 use Rattle.table.proofs.Accepted.{taken}
@@ -122,7 +122,7 @@ module _ (s : List ℕ) (bytes : Bytes s) where
         (sym (take_next s at (h + n + k) (8 * tasks_at s at) ∙ rw (take_next s at (h + n) k, take_next s at h n)))
 
 -- an accepted table
-module _ (s : List ℕ) (bytes : Bytes s) (verdict : (read_table s).verdict ≡ Accepted) where
+module _ (s : List ℕ) (bytes : Bytes s) (verdict : (read_table s).verdict ≡ Ok tt) where
   abbrev t : Table
   t = table_of s
 

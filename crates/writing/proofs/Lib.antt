@@ -3,14 +3,13 @@ pub mod Typed
 pub mod Ids
 pub mod Lefts
 pub mod Forms
-pub mod Numbers
+pub mod Faults
 pub mod Pieces
 pub mod Puts
 pub mod Fields
 pub mod Verdicts
 pub mod Judging
 pub mod Answering
-pub mod Fillings
 pub mod Loops
 pub mod Refusals
 pub mod Promises

@@ -3,7 +3,7 @@ use Prim.Native.Nat.{ℕ, zero, suc, min, ◌+◌, ◌<◌, ◌≤◌}
 use native.Mathlib.Omega.{arith}
 use mathlib.Core.Path.{◌≡◌, refl, ap, sym, subst, ◌∙◌}
 use mathlib.Core.List.{List, [], ◌∷◌, ◌++◌, map, flatten, append_assoc, append-nil}
-use mathlib.Core.Bool.{true}
+use mathlib.Core.Bool.{true, false}
 use mathlib.Core.Logic.{⊎_elim}
 use borrow.Author.Tests.{le-ltb, ne_eqb}
 use lib.ListN.{length, get_or, take, length-map}
@@ -15,11 +15,10 @@ use Rattle.table.specs.Bytes.{bytes_of, Bytes}
 use Rattle.table.specs.Record.{largest_form, form_at, end_record, pad, known_of}
 use Rattle.table.specs.Find.{rows}
 use Rattle.table.specs.Fault.{mark_of}
-use Rattle.table.specs.Read.{empty, number_of, records, limit_of, read_table, table_of}
+use Rattle.table.specs.Read.{empty, Reading, refused_by, records, limit_of, read_table, table_of}
 use Rattle.table.specs.declared.Row.{Row}
-use Rattle.table.specs.declared.Reading.{Reading}
-use Rattle.table.specs.declared.Verdict.{Verdict}
-use Rattle.table.specs.declared.Verdict.TheVariants.{Accepted}
+use Rattle.std.specs.declared.result.Result.TheVariants.{Ok, Err}
+use Rattle.table.specs.Refusal.{Verdict}
 use Rattle.table.proofs.Firsts.{or_none}
 use Rattle.table.proofs.Widths.{limit-largest, limit-least}
 use Rattle.table.proofs.Words.{bytes-of, end-length}
@@ -32,13 +31,13 @@ use Rattle.slices.proofs.Parsed.{parts-rows}
 use Rattle.table.specs.Record.{task_record}
 use Rattle.writing.specs.Rows.{is_form, form_mark, gap_bytes, count_byte, head_bytes, distance_bytes, task_bytes, pieces, list_bytes, tasks_bytes, row_bytes, table_bytes, cleared, Typed}
 use Rattle.writing.specs.Write as write
-use Rattle.writing.specs.Code.Tally.{form_wrong, row_number, unjudged, judged_with, judged_all, Small, JudgedWith, most_judged, JudgedRows}
+use Rattle.writing.specs.Code.Tally.{Refused, form_wrong, row_refusal, unjudged, Judgement, judged_with, judged_all, refusal_of, Fits, Small, SmallIn, JudgedWith, most_judged, JudgedRows}
 use Rattle.writing.specs.declared.judged.Tally.{Tally}
 use Rattle.writing.proofs.Forms.{mark-own, form-chain, are-bytes, lacks-none, known-flag}
-use Rattle.writing.proofs.Numbers.{number-none, with-before, with-other, with-many, with-fault, with_none}
+use Rattle.writing.proofs.Faults.{refused-not, with-other, with-many, with-fault, with_none}
 use Rattle.writing.proofs.Pieces.{row-length}
 use Rattle.writing.proofs.Fields.{Stored, mark-stored, stored}
-use Rattle.writing.proofs.Verdicts.{says-number, row_read, length-read}
+use Rattle.writing.proofs.Verdicts.{says-refused, row_read, length-read}
 use Rattle.writing.proofs.Judging.{rows_verdict, Counts, GoodRows, judged-good}
 use Rattle.writing.proofs.Answering.{table-length}
 use Rattle.writing.proofs.Loops.{small-start}
@@ -135,31 +134,39 @@ table-bytes rs =
 
 judged-one : (j : Tally) (r : Row) → Typed r → Small j → JudgedWith j r (judged_with j r)
 judged-one j r f s = ⊎_elim
-    (λ l. own (with-before f s (λ z. omega (arith, z, l))))
-    (λ l. let none : j.number ≡ 0 = omega arith in
-    ⊎_elim
-    (λ w. own (with-other f s none w))
+    (λ w. own (with-other f w))
     (λ w. ⊎_elim
-    (λ g. let few : j.count ≡ max_chains → ⊥ = λ e. omega (arith, e, g) in
-    ⊎_elim
-    (λ h. own (with-fault f s none w few (row_number j r) refl (λ z. omega (arith, z, h))))
-    (λ h. own (with_none f s none w few (row_number j r) refl (omega arith)))
-    (lt_or_le 0 (row_number j r)))
-    (λ g. own (with-many f s none w (omega (arith, s.count))))
+    (λ g. by w (λ e. omega (arith, e, g)) (row_refusal j r) refl)
+    (λ g. own (with-many f w (omega (arith, s.count))))
     (lt_or_le j.count max_chains))
-    (true_or_false (form_wrong j.form r.form)))
-    (lt_or_le 0 j.number)
+    (true_or_false (form_wrong j.form r.form))
   where
-    own : {v : Tally} → JudgedWith j r v → JudgedWith j r (judged_with j r)
+    own : {v : Judgement} → JudgedWith j r v → JudgedWith j r (judged_with j r)
     own w = subst (JudgedWith j r) w.is w
 
-judged-small : (rs : List Row) (j : Tally) → All Typed rs → Small j → Small (judged_all j rs)
-unfolding judged_all
-judged-small [] j f s = s
-judged-small (r ∷ rs) j f s = judged-small rs (judged_with j r) f.1 (judged-one j r f.0 s).small
+    by : form_wrong j.form r.form ≡ false → (j.count ≡ max_chains → ⊥) → (n : Refused) → row_refusal j r ≡ n → JudgedWith j r (judged_with j r)
+    by w few (Ok u) e = own (with_none f w few s e)
+    by w few (Err n) e = own (with-fault f w few e)
 
-pub all-judged : (rs : List Row) → All Typed (take most_judged rs) → JudgedRows rs (judged_all unjudged (take most_judged rs))
-all-judged rs f = record { fits = f; small = judged-small (take most_judged rs) unjudged f small-start; is = refl }
+judged-small : (rs : List Row) (v : Judgement) → All Typed rs → SmallIn v → SmallIn (judged_all v rs)
+unfolding judged_all
+judged-small rs (Err n) f s = tt
+judged-small [] (Ok j) f s = s
+judged-small (r ∷ rs) (Ok j) f s = judged-small rs (judged_with j r) f.1 (judged-one j r f.0 s).small
+
+all-fit : (rs : List Row) (v : Judgement) → All Typed rs → Fits v rs
+unfolding Fits
+all-fit rs (Err n) f = tt
+all-fit [] (Ok j) f = tt
+all-fit (r ∷ rs) (Ok j) f = (f.0, all-fit rs (judged_with j r) f.1)
+
+pub all-judged : (rs : List Row) → All Typed (take most_judged rs) → JudgedRows rs (judged_all (Ok unjudged) (take most_judged rs))
+all-judged rs f = record { fits = all-fit (take most_judged rs) (Ok unjudged) f; small = judged-small (take most_judged rs) (Ok unjudged) f small-start; is = refl }
+
+-- without a fault they are good
+pub sound : (v : Judgement) → refusal_of v ≡ Ok tt → (j : Tally) × (v ≡ Ok j)
+sound (Ok j) e = (j, refl)
+sound (Err n) e = absurd (refused-not e)
 
 -- Rows that are written
 
@@ -198,30 +205,33 @@ limit-first [] form f c e h = omega (arith, table-length [], limit-least (form_a
 limit-first (r ∷ rs) form f c e h = subst (λ (n : ℕ). length (table_bytes (r ∷ rs)) ≤ n) (sym (limit-largest (form_at (table_bytes (r ∷ rs)) 0) (first-mark r rs c.0.form ∙ f.0 ∙ e))) h
 
 module _ (rs : List Row) (f : All Typed rs) where
-  pub judged : JudgedRows rs (judged_all unjudged (take most_judged rs))
+  pub judged : JudgedRows rs (judged_all (Ok unjudged) (take most_judged rs))
   judged = all-judged rs (all_take Typed most_judged rs f)
 
-  module _ (verdict : write.verdict_on rs ≡ Accepted) where
-    abbrev v : Tally
-    v = judged_all unjudged (take most_judged rs)
+  module _ (verdict : write.verdict_on rs ≡ Ok tt) where
+    abbrev known : (j : Tally) × (judged_all (Ok unjudged) (take most_judged rs) ≡ Ok j)
+    known = sound _ (sym (says-refused (rows_verdict rs _ judged)) ∙ ap refused_by verdict)
 
-    sound : v.number ≡ 0
-    sound = (number-none _ _ (sym (says-number (rows_verdict rs _ judged)) ∙ ap number_of verdict)).0
+    abbrev v : Tally
+    v = known.0
+
+    found : JudgedRows rs (Ok v)
+    found = subst (JudgedRows rs) known.1 judged
 
     pub good : GoodRows rs unjudged v
-    good = judged-good rs _ judged sound
+    good = judged-good rs v found
 
     -- good rows are never too long
     pub short : length (table_bytes rs) ≤ limit (table_bytes rs)
     short =
-        let small = judged.small in
+        let small = found.small in
         let long = table-length rs in
         ⊎_elim
         (λ e. limit-first rs v.form good.forms good.rows e (omega (arith, long, good.bytes, small.bytes, small.count, small.tasks)))
         (λ h. omega (arith, limit-least (form_at (table_bytes rs) 0), long, good.bytes, small.gap_bytes_holds h, small.count, small.tasks))
         (form_or v.form)
 
-    pub read : (read_table (table_bytes rs)).verdict ≡ Accepted
+    pub read : (read_table (table_bytes rs)).verdict ≡ Ok tt
     unfolding write.verdict_on
     read = ap (λ (r : Reading). r.verdict) (verdict_short rs short) ∙ verdict
 

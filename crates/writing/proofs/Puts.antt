@@ -1,14 +1,12 @@
--- Bytes put one after the other, and the answer. Assumes nothing.
-use Prim.Native.Nat.{ℕ, zero, suc, min, ◌+◌, ◌*◌, ◌<◌, ◌≤◌}
+-- Bytes put one after the other. Assumes nothing.
+use Prim.Native.Nat.{ℕ, min, ◌+◌, ◌*◌, ◌<◌, ◌≤◌}
 use native.Mathlib.Omega.{arith}
 use native.Mathlib.Numerals.{add-one}
 use mathlib.Core.Path.{◌≡◌, refl, ap, sym, subst, ◌∙◌}
 use mathlib.Core.List.{List, [], ◌++◌, append_assoc, append-nil}
-use mathlib.Core.Bool.{Bool, true, false}
+use mathlib.Core.Bool.{true}
 use mathlib.Core.Logic.{⊎_elim}
 use borrow.Author.Tests.{lt-ltb, le-ltb}
-use lib.Dec.{ltb}
-use Rattle.search.specs.Choice.{◌when◌else◌, by_number}
 use Rattle.search.proofs.Choice.{when_yes, when_no, lt_or_le}
 use Rattle.slices.specs.Code.Wrote.{Wrote}
 use Rattle.slices.proofs.Writes.{wrote_on}
@@ -18,10 +16,7 @@ use Rattle.table.specs.declared.Row.{Row}
 use Rattle.table.proofs.Words.{bytes-join}
 use Rattle.table.specs.Record.{task_record}
 use Rattle.writing.specs.Rows.{is_form, gap_bytes, count_byte, head_bytes, distance_bytes, pieces, list_bytes}
-use Rattle.writing.specs.Code.Tally.{first_number}
-use Rattle.writing.specs.Code.Put.{distance_of, judged_number, table_length, write_answer}
-use Rattle.writing.specs.declared.judged.Tally.{Tally}
-use Rattle.writing.specs.declared.Written.TheVariants.{Used, Refused}
+use Rattle.writing.specs.Code.Put.{distance_of}
 use Rattle.writing.proofs.Forms.{mark-own}
 use Rattle.writing.proofs.Pieces.{more-pieces}
 
@@ -72,36 +67,3 @@ distances-on list n i {before} {mid} {after} {at} {here} {next} w v = ⊎_elim
     subst (λ text. Wrote before at text after next) (append-nil (list_bytes list (min i n)) ∙ ap (list_bytes list) e)
     (wrote_on w (subst (λ text. Wrote mid here text after next) (when_no _ _ (le-ltb _ _ l)) v)))
     (lt_or_le i n)
-
--- The answer
-
--- the first number is the answer; where there is none, the length
-module _ (k l : ℕ) (t : Bool) where
-  pub first-answers : (n : ℕ) → n ≡ first_number k (24 when t else 0) → (n ≡ 0 → ⊥) → Refused n ≡ by_number Refused k (Refused 24 when t else Used l)
-  unfolding by_number ◌when◌else◌
-  first-answers n e h = ap Refused e ∙ by k t (λ z. h (e ∙ z))
-    where
-      by : (k : ℕ) (t : Bool) → (first_number k (24 when t else 0) ≡ 0 → ⊥) → Refused (first_number k (24 when t else 0)) ≡ by_number Refused k (Refused 24 when t else Used l)
-      by zero true h = refl
-      by zero false h = absurd (h refl)
-      by (suc k) t h = refl
-
-  pub none_answers : first_number k (24 when t else 0) ≡ 0 → Used l ≡ by_number Refused k (Refused 24 when t else Used l)
-  unfolding by_number ◌when◌else◌
-  none_answers = by k t
-    where
-      by : (k : ℕ) (t : Bool) → first_number k (24 when t else 0) ≡ 0 → Used l ≡ by_number Refused k (Refused 24 when t else Used l)
-      by zero true e = absurd (omega (arith, e))
-      by zero false e = refl
-      by (suc k) t e = absurd (omega (arith, e))
-
--- a refusal has a number
-some_number : (k l n : ℕ) (t : Bool) → by_number Refused k (Refused 24 when t else Used l) ≡ Refused n → n ≡ 0 → ⊥
-unfolding by_number ◌when◌else◌
-some_number zero l n true e z = let x : ◌≡◌ {A = ℕ} 24 0 = cc in omega arith
-some_number zero l n false e z = let x : ◌≡◌ {A = ℕ} 0 1 = cc in omega arith
-some_number (suc k) l n t e z = let x : ◌≡◌ {A = ℕ} (suc k) 0 = cc in omega arith
-
-pub refused-number : (j : Tally) (room n : ℕ) → write_answer j room ≡ Refused n → n ≡ 0 → ⊥
-unfolding write_answer
-refused-number j room n e = some_number (judged_number j) (table_length j) n (ltb room (table_length j)) e

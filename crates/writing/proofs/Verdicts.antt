@@ -1,4 +1,4 @@
--- A verdict and its number, apart from the place; what the reader says of a stored row is what its values say. Assumes nothing.
+-- A verdict and its refusal, apart from the place; what the reader says of a stored row is what its values say. Assumes nothing.
 use Prim.Native.Nat.{ℕ, zero, suc, min, max, ◌+◌, ◌*◌, ◌-◌, ◌<◌, ◌≤◌}
 use native.Mathlib.Omega.{arith}
 use mathlib.Core.Path.{◌≡◌, refl, ap, sym, subst, ◌∙◌}
@@ -9,7 +9,7 @@ use borrow.Author.Tests.{lt-ltb, le-ltb}
 use lib.Dec.{eqb, ltb}
 use lib.ListN.{length, get_or, take}
 use lib.Seq.{ext_get_or, get_or-take, length-take-le}
-use Rattle.search.specs.Choice.{◌when◌else◌, by_number}
+use Rattle.search.specs.Choice.{◌when◌else◌}
 use Rattle.search.specs.Find.{first}
 use Rattle.search.proofs.Choice.{when_no, lt_or_le}
 use Rattle.table.specs.Limits.{max_tasks, max_all_tasks, max_distances, max_distance, max_largest, max_cost}
@@ -18,62 +18,62 @@ use Rattle.table.specs.Record.{form_at, id_place, kind_place, overload_place, de
 use Rattle.table.specs.Find.{used}
 use Rattle.table.specs.Fault.{◌then◌, outside, mark_of, identity_fault, times_fault, counts_fault, head_fault, fall_fault, last_fault, gap_short, gap_fault, distances_fault, list_fault, short_fault, largest_fault, task_mark_fault, values_fault, task_rest_fault, task_fault, tasks_fault, chain_fault}
 use Rattle.table.specs.Place.{length_of, tasks_start}
-use Rattle.table.specs.Read.{number_of, unless, by_verdict, refusal}
+use Rattle.table.specs.Read.{Reading, unless, by_verdict, refusal, refused_by}
 use Rattle.table.specs.declared.Row.{Row}
 use Rattle.table.specs.declared.Table.{Table}
-use Rattle.table.specs.declared.Reading.{Reading}
-use Rattle.table.specs.declared.Verdict.{Verdict}
-use Rattle.table.specs.declared.Verdict.TheVariants.{Accepted, Refused}
+use Rattle.std.specs.declared.result.Result.{Result}
+use Rattle.std.specs.declared.result.Result.TheVariants.{Ok, Err}
+use Rattle.table.specs.Refusal.{Verdict}
+use Rattle.table.specs.declared.refusal.Refusal.{Refusal}
+use Rattle.table.specs.declared.refusal.Refusal.TheVariants.{BytesMissing, BadId, BadKind, BadDeadline, BadGap, BadTaskCount, BadTask, BadListLength, BadDistance, LastIsZero, GapTooSmall, BadLargest}
 use Rattle.table.proofs.Firsts.{or_left, or_right}
 use Rattle.table.proofs.Lists.{length-spaced, spaced-at}
 use Rattle.table.proofs.Widths.{known-most}
 use Rattle.writing.specs.Rows.{gap_of, flag_of, cleared, Typed}
-use Rattle.writing.specs.Code.Tally.{bears, identity_number, times_number, counts_number, list_number, largest_number, task_wrong, tasks_number, first_number, lists_number, row_number}
+use Rattle.writing.specs.Code.Tally.{Refused, bears, identity_refusal, times_refusal, counts_refusal, list_refusal, largest_refusal, task_wrong, tasks_refusal, first_refusal, lists_refusal, row_refusal}
 use Rattle.writing.specs.declared.judged.Tally.{Tally}
-use Rattle.writing.proofs.Numbers.{number-none, counts-none}
+use Rattle.writing.proofs.Faults.{refusal-none, counts-none}
 use Rattle.writing.proofs.Forms.{known-flag}
 use Rattle.writing.proofs.Fields.{largest_start, Stored}
 
--- the verdict has that number, 0 for an accepted one
-pub data Says : Verdict → ℕ → Type 0 where
-  none : Says Accepted 0
-  fault : (n place : ℕ) → Says (Refused (suc n) place) (suc n)
+-- the verdict refuses so, its place left out
+pub data Says : Verdict → Refused → Type 0 where
+  none : Says (Ok tt) (Ok tt)
+  fault : (n : Refusal) (place : ℕ) → Says (Err (n, place)) (Err n)
 
-pub says-number : {v : Verdict} {n : ℕ} → Says v n → number_of v ≡ n
-says-number Says.none = refl
-says-number (Says.fault n place) = refl
+pub says-refused : {v : Verdict} {n : Refused} → Says v n → refused_by v ≡ n
+says-refused Says.none = refl
+says-refused (Says.fault n place) = refl
 
--- it refuses as its number does
-pub says-by : {A : Type 0} {v : Verdict} {n : ℕ} → Says v n → (refuse : ℕ → A) (answer : A) → by_verdict refuse v answer ≡ by_number refuse n answer
-unfolding by_number
-says-by Says.none refuse answer = refl
-says-by (Says.fault n place) refuse answer = refl
+-- what follows it is the same
+pub says-by : {A : Type 0} {v : Verdict} {n : Refused} → Says v n → (answer : Result A Refusal) → by_verdict Err v answer ≡ first_refusal n answer
+says-by Says.none answer = refl
+says-by (Says.fault n place) answer = refl
 
-pub says_none : {v : Verdict} {n : ℕ} → Says v n → n ≡ 0 → v ≡ Accepted
+pub says_none : {v : Verdict} {n : Refused} → Says v n → n ≡ Ok tt → v ≡ Ok tt
 says_none Says.none e = refl
-says_none (Says.fault n place) e = absurd (omega arith)
+says_none (Says.fault n place) e = absurd (let z : ◌≡◌ {A = ℕ} 0 1 = cc in omega arith)
 
 -- one test
-pub says_when : (n place : ℕ) {v : Verdict} {m : ℕ} (t : Bool) → Says v m → Says (Refused (suc n) place when t else v) (suc n when t else m)
+pub says_when : (n : Refusal) (place : ℕ) {v : Verdict} {m : Refused} (t : Bool) → Says v m → Says (Err (n, place) when t else v) (Err n when t else m)
 unfolding ◌when◌else◌
 says_when n place true s = Says.fault n place
 says_when n place false s = s
 
 -- the first of two; the second counts only where the first is none
-pub says_then : {a b : Verdict} {n m : ℕ} → Says a n → (n ≡ 0 → Says b m) → Says (a then b) (first_number n m)
-unfolding ◌then◌ by_number
+pub says_then : {a b : Verdict} {n m : Refused} → Says a n → (n ≡ Ok tt → Says b m) → Says (a then b) (first_refusal n m)
+unfolding ◌then◌
 says_then Says.none s = s refl
 says_then (Says.fault n place) s = Says.fault n place
 
-pub says-unless : {v : Verdict} (r : Reading) {n m : ℕ} → Says v n → (n ≡ 0 → Says r.verdict m) → Says (unless refusal v r).verdict (first_number n m)
-unfolding unless by_number
+pub says-unless : {v : Verdict} (r : Reading) {n m : Refused} → Says v n → (n ≡ Ok tt → Says r.verdict m) → Says (unless refusal v r).verdict (first_refusal n m)
+unfolding unless
 says-unless r Says.none s = s refl
 says-unless r (Says.fault n place) s = Says.fault n place
 
-first_assoc : (a b c : ℕ) → first_number (first_number a b) c ≡ first_number a (first_number b c)
-unfolding by_number
-first_assoc zero b c = refl
-first_assoc (suc a) b c = refl
+first_assoc : (a b c : Refused) → first_refusal (first_refusal a b) c ≡ first_refusal a (first_refusal b c)
+first_assoc (Ok u) b c = refl
+first_assoc (Err n) b c = refl
 
 -- Tests of a count that stands in one byte
 
@@ -94,36 +94,36 @@ cut-tasks before x = ⊎_elim
 
 -- The lists, whatever place is told
 
-first_says : (n at to : ℕ) (t : Bool) (v w : Verdict) → Says v (number_of w) → Says (Refused (suc n) at when t else v) (number_of (Refused (suc n) to when t else w))
+first_says : (n : Refusal) (at to : ℕ) (t : Bool) (v w : Verdict) → Says v (refused_by w) → Says (Err (n, at) when t else v) (refused_by (Err (n, to) when t else w))
 unfolding ◌when◌else◌
 first_says n at to true v w s = Says.fault n at
 first_says n at to false v w s = s
 
-one-says : (n at to : ℕ) (t : Bool) → Says (Refused (suc n) at when t else Accepted) (number_of (Refused (suc n) to when t else Accepted))
-one-says n at to t = first_says n at to t Accepted Accepted Says.none
+one-says : (n : Refusal) (at to : ℕ) (t : Bool) → Says (Err (n, at) when t else Ok tt) (refused_by (Err (n, to) when t else Ok tt))
+one-says n at to t = first_says n at to t (Ok tt) (Ok tt) Says.none
 
-fall_says : (before : ℕ) (ds : List ℕ) (at to : ℕ) → Says (fall_fault before ds at) (number_of (fall_fault before ds to))
+fall_says : (before : ℕ) (ds : List ℕ) (at to : ℕ) → Says (fall_fault before ds at) (refused_by (fall_fault before ds to))
 unfolding fall_fault
 fall_says before [] at to = Says.none
-fall_says before (d ∷ ds) at to = first_says 28 at to (outside before max_distance d) _ _ (fall_says d ds (at + 4) (to + 4))
+fall_says before (d ∷ ds) at to = first_says BadDistance at to (outside before max_distance d) _ _ (fall_says d ds (at + 4) (to + 4))
 
-short-says : (before : ℕ) (ds ls : List ℕ) (at to : ℕ) → Says (short_fault before ds ls at) (number_of (short_fault before ds ls to))
+short-says : (before : ℕ) (ds ls : List ℕ) (at to : ℕ) → Says (short_fault before ds ls at) (refused_by (short_fault before ds ls to))
 unfolding short_fault
 short-says before ds [] at to = Says.none
 short-says before [] (l ∷ ls) at to = Says.none
-short-says before (d ∷ ds) (l ∷ ls) at to = first_says 32 at to (outside (max before d) max_largest l) _ _ (short-says l ds ls (at + 4) (to + 4))
+short-says before (d ∷ ds) (l ∷ ls) at to = first_says BadLargest at to (outside (max before d) max_largest l) _ _ (short-says l ds ls (at + 4) (to + 4))
 
-list-says : (gap : ℕ) (ds : List ℕ) (at place : ℕ) → Says (distances_fault gap ds at place) (list_number gap ds)
-unfolding distances_fault last_fault gap_fault list_number
+list-says : (gap : ℕ) (ds : List ℕ) (at place : ℕ) → Says (distances_fault gap ds at place) (list_refusal gap ds)
+unfolding distances_fault last_fault gap_fault list_refusal
 list-says gap ds at place =
-    subst (Says (fall_fault 0 ds at then last_fault ds at then gap_fault gap ds place)) (sym (says-number (by 0 0))) (by at place)
+    subst (Says (fall_fault 0 ds at then last_fault ds at then gap_fault gap ds place)) (sym (says-refused (by 0 0))) (by at place)
   where
-    -- the numbers that are told from the place 0 on
+    -- the refusals that are told from the place 0 on
     by : (a p : ℕ) → Says (fall_fault 0 ds a then last_fault ds a then gap_fault gap ds p)
-        (first_number (number_of (fall_fault 0 ds 0)) (first_number (number_of (last_fault ds 0)) (number_of (gap_fault gap ds 0))))
+        (first_refusal (refused_by (fall_fault 0 ds 0)) (first_refusal (refused_by (last_fault ds 0)) (refused_by (gap_fault gap ds 0))))
     by a p = says_then (fall_says 0 ds a 0)
-        (λ z. says_then (one-says 29 (a + 4 * (length ds - 1)) (0 + 4 * (length ds - 1)) (eqb (get_or ds (length ds - 1) 0) 0))
-        (λ y. one-says 30 p 0 (not (eqb gap 0) && gap_short gap 1 ds)))
+        (λ z. says_then (one-says LastIsZero (a + 4 * (length ds - 1)) (0 + 4 * (length ds - 1)) (eqb (get_or ds (length ds - 1) 0) 0))
+        (λ y. one-says GapTooSmall p 0 (not (eqb gap 0) && gap_short gap 1 ds)))
 
 -- A stored row
 
@@ -143,23 +143,23 @@ module _ (s : List ℕ) (at : ℕ) (r : Row) (st : Stored s at r) where
   flag = flag_of r.form r.flag
 
   identity_says : (t : Table) (ids : List ℕ) → (eqb r.id 0 || used t r.id) ≡ (eqb r.id 0 || bears ids r.id)
-      → Says (identity_fault s at t) (identity_number ids r.id r.kind r.overload)
-  unfolding identity_fault identity_number
+      → Says (identity_fault s at t) (identity_refusal ids r.id r.kind r.overload)
+  unfolding identity_fault identity_refusal
   identity_says t ids e = rw (st.id, st.kind, st.overload, e)
-      (says_when 3 (id_place at) _ (says_when 4 (kind_place at) _ (says_when 4 (overload_place at) _ Says.none)))
+      (says_when BadId (id_place at) _ (says_when BadKind (kind_place at) _ (says_when BadKind (overload_place at) _ Says.none)))
 
-  times_says : Says (times_fault s at) (times_number r.deadline gap)
-  unfolding times_fault times_number
-  times_says = rw (st.deadline, st.gap) (says_when 5 (deadline_place at) _ (says_when 6 (gap_place at) _ Says.none))
+  times_says : Says (times_fault s at) (times_refusal r.deadline gap)
+  unfolding times_fault times_refusal
+  times_says = rw (st.deadline, st.gap) (says_when BadDeadline (deadline_place at) _ (says_when BadGap (gap_place at) _ Says.none))
 
-  counts-says : (before : ℕ) → Says (counts_fault s at before) (counts_number before r.listed r.tasks)
-  unfolding counts_fault counts_number
+  counts-says : (before : ℕ) → Says (counts_fault s at before) (counts_refusal before r.listed r.tasks)
+  unfolding counts_fault counts_refusal
   counts-says before = rw (st.listed, st.tasks, cut max_distances r.listed (omega arith), cut-tasks before r.tasks)
-      (says_when 27 (listed_place s at) _ (says_when 8 (tasks_place s at) _ Says.none))
+      (says_when BadListLength (listed_place s at) _ (says_when BadTaskCount (tasks_place s at) _ Says.none))
 
   head-says : (t : Table) (ids : List ℕ) → (eqb r.id 0 || used t r.id) ≡ (eqb r.id 0 || bears ids r.id)
       → Says (head_fault s at t)
-      (first_number (identity_number ids r.id r.kind r.overload) (first_number (times_number r.deadline gap) (counts_number t.tasks r.listed r.tasks)))
+      (first_refusal (identity_refusal ids r.id r.kind r.overload) (first_refusal (times_refusal r.deadline gap) (counts_refusal t.tasks r.listed r.tasks)))
   unfolding head_fault ◌when◌else◌
   head-says t ids e = rw (le-ltb (length s) (at + head_length (form_at s at)) (omega (arith, st.there, ap gap_width st.form)))
       (says_then (identity_says t ids e) (λ z. says_then times_says (λ y. counts-says t.tasks)))
@@ -221,16 +221,16 @@ module _ (s : List ℕ) (at : ℕ) (r : Row) (st : Stored s at r) where
     pub length-read : length_at s at ≡ length_of r
     length-read = omega (arith, first-is, tasks-is)
 
-    list-there-says : Says (list_fault s at) (list_number gap (distances r))
+    list-there-says : Says (list_fault s at) (list_refusal gap (distances r))
     unfolding list_fault ◌when◌else◌
     list-there-says = rw (le-ltb (length s) (largest_place s at) (omega (arith, st.there, largest-is)), st.gap, distances-read)
         (list-says gap (distances r) (list_place s at) (gap_place at))
 
-    largest-there-says : Says (largest_fault s at) (largest_number r)
-    unfolding largest_fault largest_number
+    largest-there-says : Says (largest_fault s at) (largest_refusal r)
+    unfolding largest_fault largest_refusal
     largest-there-says =
-        let there = when_no (Refused 2 (length s)) (short_fault 0 (distances r) (largests r) (largest_place s at)) (le-ltb (length s) (first_task s at) (omega (arith, st.there, first-is))) in
-        rw (distances-read, largests-read, there, st.flag) (says_when 32 (gap_place at) _ (short-says 0 (distances r) (largests r) (largest_place s at) 0))
+        let there = when_no (Err (BytesMissing, length s)) (short_fault 0 (distances r) (largests r) (largest_place s at)) (le-ltb (length s) (first_task s at) (omega (arith, st.there, first-is))) in
+        rw (distances-read, largests-read, there, st.flag) (says_when BadLargest (gap_place at) _ (short-says 0 (distances r) (largests r) (largest_place s at) 0))
 
     abbrev place : ℕ → ℕ
     place i = at + tasks_start r + 8 * i
@@ -238,13 +238,13 @@ module _ (s : List ℕ) (at : ℕ) (r : Row) (st : Stored s at r) where
     abbrev wrong : ℕ → Bool
     wrong = task_wrong r.priority r.cost
 
-    -- two tests with one number are one
-    one-test : (n : ℕ) (a b : Bool) → (n when a else n when b else 0) ≡ (n when a || b else 0)
+    -- two tests with one refusal are one
+    one-test : (n : Refusal) (a b : Bool) → ◌≡◌ {A = Refused} (Err n when a else Err n when b else Ok tt) (Err n when a || b else Ok tt)
     unfolding ◌when◌else◌
     one-test n true b = refl
     one-test n false b = refl
 
-    task-says : (i : ℕ) → i < r.tasks → Says (task_fault s (place i)) (10 when wrong i else 0)
+    task-says : (i : ℕ) → i < r.tasks → Says (task_fault s (place i)) (Err BadTask when wrong i else Ok tt)
     unfolding task_fault task_mark_fault task_rest_fault values_fault mark_of ◌when◌else◌ ◌then◌
     task-says i h =
         rw (
@@ -253,43 +253,44 @@ module _ (s : List ℕ) (at : ℕ) (r : Row) (st : Stored s at r) where
           le-ltb (length s) (place i + 8) (omega (arith, st.there, h)),
           st.priority i h,
           st.cost i h,
-          ← one-test 10 (eqb (get_or r.priority i 0) 0) (outside 1 max_cost (get_or r.cost i 0)),
+          ← one-test BadTask (eqb (get_or r.priority i 0) 0) (outside 1 max_cost (get_or r.cost i 0)),
         )
-        (says_when 9 (priority_place (place i)) (eqb (get_or r.priority i 0) 0) (says_when 9 (cost_place (place i)) (outside 1 max_cost (get_or r.cost i 0)) Says.none))
+        (says_when BadTask (priority_place (place i)) (eqb (get_or r.priority i 0) 0) (says_when BadTask (cost_place (place i)) (outside 1 max_cost (get_or r.cost i 0)) Says.none))
 
     -- the first wrong task is the next one, or one of those after it
-    next-wrong : (i k : ℕ) → i < r.tasks → (w : Bool) → first_number (10 when w else 0) (10 when ltb k r.tasks else 0) ≡ (10 when ltb (i when w else k) r.tasks else 0)
-    unfolding by_number ◌when◌else◌
+    next-wrong : (i k : ℕ) → i < r.tasks → (w : Bool)
+        → ◌≡◌ {A = Refused} (first_refusal (Err BadTask when w else Ok tt) (Err BadTask when ltb k r.tasks else Ok tt)) (Err BadTask when ltb (i when w else k) r.tasks else Ok tt)
+    unfolding ◌when◌else◌
     next-wrong i k h true = rw (lt-ltb i r.tasks h)
     next-wrong i k h false = refl
 
-    tasks-says : (m i : ℕ) → i + m ≡ r.tasks → Says (tasks_fault s m (place i)) (10 when ltb (first wrong i m) r.tasks else 0)
+    tasks-says : (m i : ℕ) → i + m ≡ r.tasks → Says (tasks_fault s m (place i)) (Err BadTask when ltb (first wrong i m) r.tasks else Ok tt)
     unfolding tasks_fault first
-    tasks-says zero i e = subst (Says Accepted) (sym (when_no 10 0 (le-ltb i r.tasks (omega (arith, e))))) Says.none
+    tasks-says zero i e = subst (Says (Ok tt)) (sym (when_no (Err BadTask) (Ok tt) (le-ltb i r.tasks (omega (arith, e))))) Says.none
     tasks-says (suc m) i e =
         let h : i < r.tasks = omega (arith, e) in
         let p : place i + 8 ≡ place (suc i) = omega arith in
         subst (Says (task_fault s (place i) then tasks_fault s m (place i + 8))) (next-wrong i (first wrong (suc i) m) h (wrong i))
         (says_then (task-says i h) (λ z. rw p (tasks-says m (suc i) (omega (arith, e)))))
 
-    lists-says : Says (list_fault s at then largest_fault s at then tasks_fault s (tasks_at s at) (first_task s at)) (lists_number r)
-    unfolding lists_number tasks_number
+    lists-says : Says (list_fault s at then largest_fault s at then tasks_fault s (tasks_at s at) (first_task s at)) (lists_refusal r)
+    unfolding lists_refusal tasks_refusal
     lists-says =
         let z : place 0 ≡ first_task s at = omega (arith, first-is) in
         says_then list-there-says (λ y. says_then largest-there-says (λ x.
-        rw tasks-is (subst (λ (n : ℕ). Says (tasks_fault s r.tasks n) (10 when ltb (first wrong 0 r.tasks) r.tasks else 0)) z (tasks-says r.tasks 0 (omega arith)))))
+        rw tasks-is (subst (λ (n : ℕ). Says (tasks_fault s r.tasks n) (Err BadTask when ltb (first wrong 0 r.tasks) r.tasks else Ok tt)) z (tasks-says r.tasks 0 (omega arith)))))
 
   -- the reader says of the record what the values say of the row
   pub chain-says : Typed r → (j : Tally) (t : Table) → (eqb r.id 0 || used t r.id) ≡ (eqb r.id 0 || bears j.ids r.id) → t.tasks ≡ j.tasks
-      → Says (chain_fault s at t) (row_number j r)
-  unfolding chain_fault row_number
+      → Says (chain_fault s at t) (row_refusal j r)
+  unfolding chain_fault row_refusal
   chain-says f j t e g =
-      let id = identity_number j.ids r.id r.kind r.overload in
-      let times = times_number r.deadline gap in
-      let counts = counts_number j.tasks r.listed r.tasks in
-      let head : Says (head_fault s at t) (first_number id (first_number times counts)) = subst (λ (n : ℕ). Says (head_fault s at t) (first_number id (first_number times (counts_number n r.listed r.tasks)))) g (head-says t j.ids e) in
+      let id = identity_refusal j.ids r.id r.kind r.overload in
+      let times = times_refusal r.deadline gap in
+      let counts = counts_refusal j.tasks r.listed r.tasks in
+      let head : Says (head_fault s at t) (first_refusal id (first_refusal times counts)) = subst (λ (n : ℕ). Says (head_fault s at t) (first_refusal id (first_refusal times (counts_refusal n r.listed r.tasks)))) g (head-says t j.ids e) in
       subst (Says (head_fault s at t then list_fault s at then largest_fault s at then tasks_fault s (tasks_at s at) (first_task s at)))
-      (first_assoc id (first_number times counts) (lists_number r) ∙ ap (first_number id) (first_assoc times counts (lists_number r)))
+      (first_assoc id (first_refusal times counts) (lists_refusal r) ∙ ap (first_refusal id) (first_assoc times counts (lists_refusal r)))
       (says_then head (λ z.
-      let c = counts-none j.tasks r.listed r.tasks (number-none times counts (number-none id (first_number times counts) z).1).1 in
+      let c = counts-none j.tasks r.listed r.tasks (refusal-none times counts (refusal-none id (first_refusal times counts) z).1).1 in
       lists-says f c.1 c.2))

@@ -1,5 +1,5 @@
 -- Reading a table into rows (02, request 2): what the call answers, and what it leaves in the rows.
-use Rattle.std.specs.Prelude.{ℕ, ◌≡◌, List, [], ◌∷◌, ◌++◌, length, drop, ltb, is_ok}
+use Rattle.std.specs.Prelude.{ℕ, ◌≡◌, List, ◌++◌, length, drop, ltb, is_ok}
 use Rattle.search.specs.Choice.{◌when◌else◌}
 use Rattle.table.specs.Find.{rows}
 use Rattle.table.specs.Read.{by_verdict, read_table, table_of}

@@ -1,5 +1,5 @@
 -- Writing a table from rows (02, requests 2 and 7): what the call answers, and what it leaves in the buffer.
-use Rattle.std.specs.Prelude.{ℕ, ◌≤◌, ◌≡◌, List, [], ◌∷◌, ◌++◌, ◌⊎◌, length, drop, ltb, is_ok}
+use Rattle.std.specs.Prelude.{ℕ, ◌≤◌, ◌≡◌, List, ◌++◌, ◌⊎◌, length, drop, ltb, is_ok}
 use Rattle.search.specs.Choice.{◌when◌else◌}
 use Rattle.table.specs.Limits.{max_chains}
 use Rattle.table.specs.Read.{empty, by_verdict, records}

@@ -3,20 +3,19 @@ ghost use Rattle.std.specs.Prelude.{◌≡◌, ◌+◌, ◌*◌, ◌<◌, ◌≤
 ghost use Rattle.table.specs.Limits.{max_chains, max_distances, max_tasks};
 ghost use Rattle.table.specs.Record.{known, record_length};
 ghost use Rattle.table.specs.Fault.{short_fault};
-ghost use Rattle.table.specs.Read.{number_of};
+ghost use Rattle.table.specs.Read.{refused_by};
 ghost use Rattle.writing.specs.Rows.{gap_of};
-ghost use Rattle.writing.specs.Code.Tally.{form_wrong, bears as bearsOf, list_number, largest_number, tasks_number, lists_number, row_number, unjudged as unjudgedOf, faulted as faultedOf, counted as countedOf, Small, CountedRoom, JudgedWith};
+ghost use Rattle.writing.specs.Code.Tally.{form_wrong, bears as bearsOf, list_refusal, largest_refusal, tasks_refusal, lists_refusal, row_refusal, unjudged as unjudgedOf, counted as countedOf, Small, CountedRoom, JudgedWith};
 
-use table::{Row, Table, outside};
+use table::{Refusal, Row, Table, outside};
 
 // A form that no row has: it stands for that of the rows before the first, so that one test tells whether a later one's is right.
 const NO_FORM: u32 = 65_536;
 
-// What is known of the rows so far: the number of the first fault, 0 for none; of the good rows before it, their form, how many they are,
-// their tasks in all, the length of their records, and their ids, the newest first.
+// What is known of the rows so far, all of them good: their form, how many they are, their tasks in all, the length of their records, and
+// their ids, the newest first.
 #[derive(Clone, Copy)]
 pub struct Tally {
-    pub number: u32,
     pub form: u32,
     pub count: usize,
     pub tasks: usize,
@@ -99,142 +98,144 @@ fn beyond(gap: u32, i: usize, d: u32) -> bool
     u64::from(gap) * (i as u64 + 1) < u64::from(d)
 }
 
-// 29, 30 or 31: the first n distances, and the gap, in one pass. Where no distance falls the last is the greatest, so it alone is held
-// against the limit.
-fn list_number(gap: u32, list: &[u32; Table::DISTANCES], n: usize) -> u32
+// The first n distances, and the gap, in one pass. Where no distance falls the last is the greatest, so it alone is held against the
+// limit.
+fn list_refusal(gap: u32, list: &[u32; Table::DISTANCES], n: usize) -> Result<(), Refusal>
     requires { (1 ≤ n) × (n ≤ max_distances) × (length list.now ≡ max_distances) }
-    ensures { result ≡ list_number gap (take n list.now) }
+    ensures { result ≡ list_refusal gap (take n list.now) }
 {
     let mut short = false;
     let mut before: u32 = 0;
     for i in 0..n {
         let d = list[i];
         if d < before {
-            return 29;
+            return Err(Refusal::BadDistance);
         }
         short |= beyond(gap, i, d);
         before = d;
     }
     if Table::DISTANCE < before {
-        return 29;
+        return Err(Refusal::BadDistance);
     }
     if before == 0 {
-        return 30;
+        return Err(Refusal::LastIsZero);
     }
     if gap == 0 {
-        return 0;
+        return Ok(());
     }
     if short {
-        return 31;
+        return Err(Refusal::GapTooSmall);
     }
-    0
+    Ok(())
 }
 
-// 33: the first of n largest distances that falls, exceeds the limit or lies below the smallest for its count.
-fn short_number(list: &[u32; Table::DISTANCES], largest: &[u32; Table::DISTANCES], n: usize) -> u32
+// The first of n largest distances that falls, exceeds the limit or lies below the smallest for its count.
+fn short_refusal(
+    list: &[u32; Table::DISTANCES],
+    largest: &[u32; Table::DISTANCES],
+    n: usize,
+) -> Result<(), Refusal>
     requires { (n ≤ max_distances) × (length list.now ≡ max_distances) × (length largest.now ≡ max_distances) }
-    ensures { result ≡ number_of (short_fault 0 (take n list.now) (take n largest.now) 0) }
+    ensures { result ≡ refused_by (short_fault 0 (take n list.now) (take n largest.now) 0) }
 {
     let mut before: u32 = 0;
     for i in 0..n {
         let d = largest[i];
         if d < list[i] {
-            return 33;
+            return Err(Refusal::BadLargest);
         }
         if outside(before, Table::LARGEST, d) {
-            return 33;
+            return Err(Refusal::BadLargest);
         }
         before = d;
     }
-    0
+    Ok(())
 }
 
-// 33: the flag of a row, then its largest distances, its list length without a fault. `CH` has neither.
-fn largest_number(row: Row) -> u32
+// The flag of a row, then its largest distances, its list length without a fault. `CH` has neither.
+fn largest_refusal(row: Row) -> Result<(), Refusal>
     requires { row.listed ≤ max_distances }
-    ensures { result ≡ largest_number row }
+    ensures { result ≡ largest_refusal row }
 {
     if row.form != Row::LARGEST_FORM {
-        return 0;
+        return Ok(());
     }
     if 1 < row.flag {
-        return 33;
+        return Err(Refusal::BadLargest);
     }
     if row.flag == 0 {
-        return 0;
+        return Ok(());
     }
     let list = row.list;
     let largest = row.largest;
-    short_number(&list, &largest, row.listed)
+    short_refusal(&list, &largest, row.listed)
 }
 
-// 10: the priorities and costs of the first n tasks.
-fn tasks_number(priority: &[u16; Table::TASKS], cost: &[u32; Table::TASKS], n: usize) -> u32
+// The priorities and costs of the first n tasks.
+fn tasks_refusal(
+    priority: &[u16; Table::TASKS],
+    cost: &[u32; Table::TASKS],
+    n: usize,
+) -> Result<(), Refusal>
     requires { n ≤ max_tasks }
-    ensures { result ≡ tasks_number priority.now cost.now n }
+    ensures { result ≡ tasks_refusal priority.now cost.now n }
 {
     for i in 0..n {
         if priority[i] == 0 || outside(1, Table::COST, cost[i]) {
-            return 10;
+            return Err(Refusal::BadTask);
         }
     }
-    0
+    Ok(())
 }
 
-// The number of a row's lists and tasks, its counts without a fault.
-fn lists_number(row: Row) -> u32
+// A row's lists and tasks, its counts without a fault.
+fn lists_refusal(row: Row) -> Result<(), Refusal>
     requires { (1 ≤ row.listed) × (row.listed ≤ max_distances) × (row.tasks ≤ max_tasks) }
-    ensures { result ≡ lists_number row }
+    ensures { result ≡ lists_refusal row }
 {
     let list = row.list;
-    let in_list = list_number(gap_of(row.form, row.gap), &list, row.listed);
-    if in_list != 0 {
-        return in_list;
-    }
-    let in_largest = largest_number(row);
-    if in_largest != 0 {
-        return in_largest;
-    }
+    list_refusal(gap_of(row.form, row.gap), &list, row.listed)?;
+    largest_refusal(row)?;
     let priority = row.priority;
     let cost = row.cost;
-    tasks_number(&priority, &cost, row.tasks)
+    tasks_refusal(&priority, &cost, row.tasks)
 }
 
-// The number of a row's first fault but that of its form, after those judged. The tests stand one after the other, each with its return:
-// handed on, a number would be chosen and tested again.
-fn row_number(judged: Tally, row: Row) -> u32
+// All of a row but its form, after those judged. The tests stand one after the other, each with its return: handed on, a refusal would be
+// chosen and tested again.
+fn row_refusal(judged: Tally, row: Row) -> Result<(), Refusal>
     requires { Small judged }
-    ensures { result ≡ row_number judged row }
+    ensures { result ≡ row_refusal judged row }
 {
     let ids = judged.ids;
     if row.id == 0 {
-        return 4;
+        return Err(Refusal::BadId);
     }
     if bears(&ids, row.id) {
-        return 4;
+        return Err(Refusal::BadId);
     }
     if 1 < row.kind {
-        return 5;
+        return Err(Refusal::BadKind);
     }
     if 1 < row.overload {
-        return 5;
+        return Err(Refusal::BadKind);
     }
     if outside(1, Table::DEADLINE, row.deadline) {
-        return 6;
+        return Err(Refusal::BadDeadline);
     }
     if Table::GAP < gap_of(row.form, row.gap) {
-        return 7;
+        return Err(Refusal::BadGap);
     }
     if row.listed < 1 || Table::DISTANCES < row.listed {
-        return 28;
+        return Err(Refusal::BadListLength);
     }
     if row.tasks < 1 || Table::TASKS < row.tasks {
-        return 9;
+        return Err(Refusal::BadTaskCount);
     }
     if Table::ALL_TASKS < judged.tasks + row.tasks {
-        return 9;
+        return Err(Refusal::BadTaskCount);
     }
-    lists_number(row)
+    lists_refusal(row)
 }
 
 // Nothing is judged yet.
@@ -242,22 +243,12 @@ pub fn unjudged() -> Tally
     ensures { result ≡ unjudgedOf }
 {
     Tally {
-        number: 0,
         form: NO_FORM,
         count: 0,
         tasks: 0,
         bytes: 0,
         ids: [0u16; Table::CHAINS],
     }
-}
-
-// The same with a fault.
-fn faulted(judged: Tally, number: u32) -> Tally
-    ensures { result ≡ faultedOf judged number }
-{
-    let mut with = judged;
-    with.number = number;
-    with
 }
 
 // The same with one good row more.
@@ -268,7 +259,6 @@ fn counted(judged: Tally, row: Row) -> Tally
     let before = judged.ids;
     let ids = after_id(row.id, &before);
     Tally {
-        number: 0,
         form: u32::from(row.form),
         count: judged.count + 1,
         tasks: judged.tasks + row.tasks,
@@ -277,23 +267,17 @@ fn counted(judged: Tally, row: Row) -> Tally
     }
 }
 
-// What is known with one row more.
-pub fn judged_with(judged: Tally, row: Row) -> Tally
+// What is known with one row more, where it is good too.
+pub fn judged_with(judged: Tally, row: Row) -> Result<Tally, Refusal>
     requires { Small judged }
     ensures { JudgedWith judged row result }
 {
-    if judged.number != 0 {
-        return judged;
-    }
     if form_wrong(judged.form, row.form) {
-        return faulted(judged, 3);
+        return Err(Refusal::BadMark);
     }
     if judged.count == Table::CHAINS {
-        return faulted(judged, 11);
+        return Err(Refusal::BadChainCount);
     }
-    let number = row_number(judged, row);
-    if number != 0 {
-        return faulted(judged, number);
-    }
-    counted(judged, row)
+    row_refusal(judged, row)?;
+    Ok(counted(judged, row))
 }

@@ -6,7 +6,6 @@ ghost use Rattle.std.specs.Prelude.{◌≡◌, ◌+◌};
 ghost use Rattle.writing.specs.Write.{Writes};
 ghost use Rattle.writing.specs.Fill.{Fills};
 ghost use Rattle.writing.specs.Code.Tally.{JudgedRows};
-ghost use Rattle.writing.specs.Code.Rows.{Answers, rows_filled};
 ghost use Rattle.table.specs.Code.Taken.{Stands};
 ghost use Rattle.table.specs.Record.{length_at};
 
@@ -14,60 +13,35 @@ mod judged;
 mod put;
 
 use judged::{Tally, judged_with, unjudged};
-use put::{end, put_row, rows_put};
+use put::{fitted, put_row};
 pub use put::{put_end, put_gap, put_list};
-use table::{Row, Table, Verdict};
+use table::{Refusal, Row, Table};
 
 // Judges the rows, in order.
-fn judge(rows: &[Row]) -> Tally
+fn judge(rows: &[Row]) -> Result<Tally, Refusal>
     ensures { JudgedRows rows.now result }
 {
     // A 17th row decides.
     let n = rows.len().min(Table::CHAINS + 1);
     let mut judged = unjudged();
     for chain in 0..n {
-        judged = judged_with(judged, rows[chain]);
+        judged = judged_with(judged, rows[chain])?;
     }
-    judged
+    Ok(judged)
 }
 
 // The table of the rows becomes the first bytes of `out`; refused, every byte stays. All rows are judged before the first byte is put.
 pub fn write(rows: &[Row], out: &mut [u8]) -> Result<u32, Refusal>
     ensures { Writes rows.now out.old result out.new }
 {
-    let judged = judge(rows);
+    let judged = judge(rows)?;
+    let length = fitted(judged, out.len())?;
     let mut at = 0;
-    for chain in 0..rows_put(judged, out.len()) {
+    for chain in 0..judged.count {
         at = put_row(out, at, rows[chain]);
     }
-    end(judged, out, at)
-}
-
-// What is answered of a table, where there is room for so many rows.
-fn answered(s: &[u8], room: usize) -> Result<u32, Refusal>
-    ensures { Answers s.now room result }
-{
-    match table::judge(s) {
-        Verdict::Accepted => {
-            let chains = table::count(s);
-            if room < chains {
-                Filled::Refused(24)
-            } else {
-                Filled::Chains(chains as u32)
-            }
-        }
-        Verdict::Refused(n, _) => Filled::Refused(n),
-    }
-}
-
-// How many rows are filled by that answer.
-fn rows_filled(answer: Result<u32, Refusal>) -> usize
-    ensures { result ≡ rows_filled answer }
-{
-    match answer {
-        Filled::Chains(n) => n as usize,
-        Filled::Refused(_) => 0,
-    }
+    put_end(out, at, judged.count);
+    Ok(length)
 }
 
 // Where the record after the one at `at` starts.
@@ -82,11 +56,15 @@ fn after(s: &[u8], at: usize) -> usize
 pub fn read(s: &[u8], rows: &mut [Row]) -> Result<u32, Refusal>
     ensures { Fills s.now rows.old result rows.new }
 {
-    let answer = answered(s, rows.len());
+    table::judge(s)?;
+    let chains = table::count(s);
+    if rows.len() < chains {
+        return Err(Refusal::BufferShort);
+    }
     let mut at = 0;
-    for chain in 0..rows_filled(answer) {
+    for chain in 0..chains {
         rows[chain] = table::row_at(s, at);
         at = after(s, at);
     }
-    answer
+    Ok(chains as u32)
 }

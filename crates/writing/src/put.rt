@@ -5,9 +5,7 @@ ghost use Rattle.slices.specs.Slices.{splice};
 ghost use Rattle.slices.specs.Code.Wrote.{Wrote};
 ghost use Rattle.table.specs.Record.{gap_width, head_length, task_record, end_record, known_of};
 ghost use Rattle.writing.specs.Rows.{is_form, count_byte, gap_bytes, head_bytes, list_bytes, tasks_bytes, row_bytes};
-ghost use Rattle.writing.specs.Code.Tally.{first_number};
-ghost use Rattle.search.specs.Choice.{◌when◌else◌};
-ghost use Rattle.writing.specs.Code.Put.{distance_of, write_answer, rows_put, RowRoom, EndRoom, Ends};
+ghost use Rattle.writing.specs.Code.Put.{distance_of, fitted, RowRoom};
 
 use crate::judged::{Tally, known_of};
 use table::{Refusal, Row, Table, put_u16, put_u32};
@@ -140,44 +138,19 @@ pub fn put_row(out: &mut [u8], at: usize, row: Row) -> usize
     put_tasks(out, after_largest, &priority, &cost, row.tasks)
 }
 
-// The number, or 0 where it is not called for.
-fn number_if(called: bool, n: u32) -> u32
-    ensures { result ≡ (n when called else 0) }
-{
-    if called { n } else { 0 }
-}
-
-// The first of two numbers that is not 0.
-fn first_number(n: u32, m: u32) -> u32
-    ensures { result ≡ first_number n m }
-{
-    if n != 0 { n } else { m }
-}
-
-// What a write into so much room answers, by what was judged: the rows' number, 11 where there is no row, then 24.
-fn answer_of(judged: Tally, room: usize) -> Result<u32, Refusal>
+// How long the table of good rows is, where there are any and it fits into so much room.
+pub fn fitted(judged: Tally, room: usize) -> Result<u32, Refusal>
     requires { judged.bytes ≤ 4096 }
-    ensures { result ≡ write_answer judged room }
+    ensures { result ≡ fitted judged room }
 {
     let n = judged.bytes + 4;
-    let rules = first_number(judged.number, number_if(judged.count == 0, 11));
-    let short = number_if(room < n, 24);
-    let number = first_number(rules, short);
-    if number != 0 {
-        return Written::Refused(number);
+    if judged.count == 0 {
+        return Err(Refusal::BadChainCount);
     }
-    Written::Used(n as u32)
-}
-
-// How many rows are then put: all, or none.
-pub fn rows_put(judged: Tally, room: usize) -> usize
-    requires { judged.bytes ≤ 4096 }
-    ensures { result ≡ rows_put judged room }
-{
-    match answer_of(judged, room) {
-        Written::Used(_) => judged.count,
-        Written::Refused(_) => 0,
+    if room < n {
+        return Err(Refusal::BufferShort);
     }
+    Ok(n as u32)
 }
 
 // The end record of so many chains: `EN`, and their number in the two bytes above it.
@@ -186,19 +159,4 @@ pub fn put_end(out: &mut [u8], at: usize, count: usize)
     ensures { out.new ≡ splice out.old at 4 (end_record count) }
 {
     put_u32(out, at, 20_037 + 65_536 * (count as u32));
-}
-
-// The answer; where the rows are put, the end record after them.
-pub fn end(judged: Tally, out: &mut [u8], at: usize) -> Result<u32, Refusal>
-    requires { EndRoom judged out.old at }
-    ensures { Ends judged out.old at result out.new }
-{
-    let answer = answer_of(judged, out.len());
-    match answer {
-        Written::Used(_) => {
-            put_end(out, at, judged.count);
-            answer
-        }
-        Written::Refused(_) => answer,
-    }
 }

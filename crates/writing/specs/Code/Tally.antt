@@ -1,18 +1,30 @@
 -- What the code finds of rows by their values. The laws say that it is what the reader finds of their bytes.
-use Rattle.std.specs.Prelude.{ℕ, ◌+◌, ◌*◌, ◌<◌, ◌≤◌, ◌≡◌, List, [], ◌∷◌, Bool, false, not, ◌||◌, length, get_or, take, replicate, eqb, ltb}
-use Rattle.search.specs.Choice.{◌when◌else◌, by_number}
+use Rattle.std.specs.Prelude.{ℕ, ◌+◌, ◌*◌, ◌<◌, ◌≤◌, ◌≡◌, List, [], ◌∷◌, Bool, false, not, ◌||◌, length, get_or, take, replicate, eqb, ltb, ⊤, Ok, Err}
+use Rattle.std.specs.declared.result.Result.{Result}
+use Rattle.search.specs.Choice.{◌when◌else◌}
 use Rattle.search.specs.Find.{first}
-use Rattle.search.specs.Lists.{All}
 use Rattle.table.specs.Limits.{max_chains, max_tasks, max_all_tasks, max_distances, max_deadline, max_gap, max_cost}
 use Rattle.table.specs.Record.{largest_form, distances, largests}
 use Rattle.table.specs.Fault.{outside, distances_fault, short_fault}
 use Rattle.table.specs.Place.{length_of}
-use Rattle.table.specs.Read.{number_of}
+use Rattle.table.specs.Read.{refused_by}
+use Rattle.table.specs.Refusal.{answering}
 use Rattle.table.specs.declared.Row.{Row}
+use Rattle.table.specs.declared.refusal.Refusal.{Refusal}
+use Rattle.table.specs.declared.refusal.Refusal.TheVariants.{BadMark, BadId, BadKind, BadDeadline, BadGap, BadTaskCount, BadTask, BadChainCount, BadListLength, BadLargest}
 use Rattle.writing.specs.Rows.{is_form, gap_of, flag_of, Typed}
 use Rattle.writing.specs.declared.judged.Tally.{Tally}
 
--- The first fault of a row, as its number, 0 for none
+-- why something is refused, if it is
+abbrev pub Refused : Type 0
+Refused = Result ⊤ Refusal
+
+-- the first of two refusals; what follows the first may be an answer
+abbrev pub first_refusal : {A : Type 0} → Refused → Result A Refusal → Result A Refusal
+first_refusal (Ok u) a = a
+first_refusal (Err n) a = Err n
+
+-- The first fault of a row
 
 -- what stands for the form before the first row: no row has it
 abbrev pub no_form : ℕ
@@ -28,70 +40,61 @@ bears [] id = false
 bears (n ∷ ids) id = eqb n id || bears ids id
 
 -- the id is 0 or one of the ids; the kind, the overload mark
-unfoldable pub identity_number : List ℕ → ℕ → ℕ → ℕ → ℕ
-identity_number ids id kind overload =
-    4 when eqb id 0 || bears ids id else
-    5 when ltb 1 kind else
-    5 when ltb 1 overload else
-    0
+unfoldable pub identity_refusal : List ℕ → ℕ → ℕ → ℕ → Refused
+identity_refusal ids id kind overload =
+    Err BadId when eqb id 0 || bears ids id else
+    Err BadKind when ltb 1 kind else
+    Err BadKind when ltb 1 overload else
+    Ok tt
 
-unfoldable pub times_number : ℕ → ℕ → ℕ
-times_number deadline gap = 6 when outside 1 max_deadline deadline else 7 when ltb max_gap gap else 0
+unfoldable pub times_refusal : ℕ → ℕ → Refused
+times_refusal deadline gap = Err BadDeadline when outside 1 max_deadline deadline else Err BadGap when ltb max_gap gap else Ok tt
 
 -- the counts, after so many tasks
-unfoldable pub counts_number : ℕ → ℕ → ℕ → ℕ
-counts_number before listed tasks =
-    28 when outside 1 max_distances listed else
-    9 when outside 1 max_tasks tasks || ltb max_all_tasks (before + tasks) else
-    0
+unfoldable pub counts_refusal : ℕ → ℕ → ℕ → Refused
+counts_refusal before listed tasks =
+    Err BadListLength when outside 1 max_distances listed else
+    Err BadTaskCount when outside 1 max_tasks tasks || ltb max_all_tasks (before + tasks) else
+    Ok tt
 
-unfoldable pub list_number : ℕ → List ℕ → ℕ
-list_number gap ds = number_of (distances_fault gap ds 0 0)
+unfoldable pub list_refusal : ℕ → List ℕ → Refused
+list_refusal gap ds = refused_by (distances_fault gap ds 0 0)
 
 -- the flag, and the largest distances beside the smallest
-unfoldable pub largest_number : Row → ℕ
-largest_number r = 33 when ltb 1 (flag_of r.form r.flag) else number_of (short_fault 0 (distances r) (largests r) 0)
+unfoldable pub largest_refusal : Row → Refused
+largest_refusal r = Err BadLargest when ltb 1 (flag_of r.form r.flag) else refused_by (short_fault 0 (distances r) (largests r) 0)
 
 -- task i has a wrong value; one of n tasks has
 abbrev pub task_wrong : List ℕ → List ℕ → ℕ → Bool
 task_wrong priority cost i = eqb (get_or priority i 0) 0 || outside 1 max_cost (get_or cost i 0)
 
-unfoldable pub tasks_number : List ℕ → List ℕ → ℕ → ℕ
-tasks_number priority cost n = 10 when ltb (first (task_wrong priority cost) 0 n) n else 0
-
--- the first of two numbers that is not 0
-abbrev pub first_number : ℕ → ℕ → ℕ
-first_number n m = by_number (λ k. k) n m
+unfoldable pub tasks_refusal : List ℕ → List ℕ → ℕ → Refused
+tasks_refusal priority cost n = Err BadTask when ltb (first (task_wrong priority cost) 0 n) n else Ok tt
 
 -- of a row's lists and tasks, and of all of it but its form, after those judged
-unfoldable pub lists_number : Row → ℕ
-lists_number r =
-    first_number (list_number (gap_of r.form r.gap) (distances r))
-    (first_number (largest_number r)
-    (tasks_number r.priority r.cost r.tasks))
+unfoldable pub lists_refusal : Row → Refused
+lists_refusal r =
+    first_refusal (list_refusal (gap_of r.form r.gap) (distances r))
+    (first_refusal (largest_refusal r)
+    (tasks_refusal r.priority r.cost r.tasks))
 
-unfoldable pub row_number : Tally → Row → ℕ
-row_number j r =
-    first_number (identity_number j.ids r.id r.kind r.overload)
-    (first_number (times_number r.deadline (gap_of r.form r.gap))
-    (first_number (counts_number j.tasks r.listed r.tasks)
-    (lists_number r)))
+unfoldable pub row_refusal : Tally → Row → Refused
+row_refusal j r =
+    first_refusal (identity_refusal j.ids r.id r.kind r.overload)
+    (first_refusal (times_refusal r.deadline (gap_of r.form r.gap))
+    (first_refusal (counts_refusal j.tasks r.listed r.tasks)
+    (lists_refusal r)))
 
 -- Rows one after the other
 
 -- nothing judged yet
 abbrev pub unjudged : Tally
-unjudged = record { number = 0; form = no_form; count = 0; tasks = 0; bytes = 0; ids = replicate max_chains 0 }
-
--- a fault was found
-abbrev pub faulted : Tally → ℕ → Tally
-faulted j n = record { number = n; form = j.form; count = j.count; tasks = j.tasks; bytes = j.bytes; ids = j.ids }
+unjudged = record { form = no_form; count = 0; tasks = 0; bytes = 0; ids = replicate max_chains 0 }
 
 -- one good row more, its id the first; 16 ids have places, so none is lost
 abbrev pub counted : Tally → Row → Tally
 counted j r =
     record {
-      number = 0;
       form = r.form;
       count = j.count + 1;
       tasks = j.tasks + r.tasks;
@@ -99,18 +102,33 @@ counted j r =
       ids = r.id ∷ take 15 j.ids;
     }
 
--- the first fault stays; a wrong form is 3, a 17th row 11
-unfoldable pub judged_with : Tally → Row → Tally
-judged_with j r =
-    j when not (eqb j.number 0) else
-    faulted j 3 when form_wrong j.form r.form else
-    faulted j 11 when eqb j.count max_chains else
-    faulted j (row_number j r) when not (eqb (row_number j r) 0) else
-    counted j r
+-- what is known of good rows, or why rows are refused
+abbrev pub Judgement : Type 0
+Judgement = Result Tally Refusal
 
-unfoldable pub judged_all : Tally → List Row → Tally
-judged_all j [] = j
-judged_all j (r ∷ rs) = judged_all (judged_with j r) rs
+-- with one row more: a wrong form is 3, a 17th row 11
+unfoldable pub judged_with : Tally → Row → Judgement
+judged_with j r =
+    Err BadMark when form_wrong j.form r.form else
+    Err BadChainCount when eqb j.count max_chains else
+    answering (row_refusal j r) (counted j r)
+
+-- the first fault decides
+unfoldable pub judged_all : Judgement → List Row → Judgement
+judged_all (Err n) rs = Err n
+judged_all (Ok j) [] = Ok j
+judged_all (Ok j) (r ∷ rs) = judged_all (judged_with j r) rs
+
+-- why the rows are refused, if they are: 11 where there is none
+abbrev pub refusal_of : Judgement → Refused
+refusal_of (Ok j) = Err BadChainCount when eqb j.count 0 else Ok tt
+refusal_of (Err n) = Err n
+
+-- each row up to the first fault has its fields' widths
+unfoldable pub Fits : Judgement → List Row → Type 0
+Fits (Err n) rs = ⊤
+Fits (Ok j) [] = ⊤
+Fits (Ok j) (r ∷ rs) = Typed r × Fits (judged_with j r) rs
 
 -- what is judged stays within the limits: a record has at most 77 bytes beside its tasks, one with a gap 48
 pub record Small (j : Tally) : Type 0 where
@@ -129,10 +147,15 @@ pub record CountedRoom (j : Tally) (r : Row) : Type 0 where
   pub of_tasks : r.tasks ≤ max_tasks
   pub places : length j.ids ≡ max_chains
 
+-- what is known of good rows is
+abbrev pub SmallIn : Judgement → Type 0
+SmallIn (Ok j) = Small j
+SmallIn (Err n) = ⊤
+
 -- v is what was judged with the row
-pub record JudgedWith (j : Tally) (r : Row) (v : Tally) : Type 0 where
+pub record JudgedWith (j : Tally) (r : Row) (v : Judgement) : Type 0 where
   pub fits : Typed r
-  pub small : Small v
+  pub small : SmallIn v
   pub is : v ≡ judged_with j r
 
 -- so many rows are looked at: a 17th decides
@@ -140,7 +163,7 @@ abbrev pub most_judged : ℕ
 most_judged = max_chains + 1
 
 -- v is what was judged of the rows
-pub record JudgedRows (rs : List Row) (v : Tally) : Type 0 where
-  pub fits : All Typed (take most_judged rs)
-  pub small : Small v
-  pub is : v ≡ judged_all unjudged (take most_judged rs)
+pub record JudgedRows (rs : List Row) (v : Judgement) : Type 0 where
+  pub fits : Fits (Ok unjudged) (take most_judged rs)
+  pub small : SmallIn v
+  pub is : v ≡ judged_all (Ok unjudged) (take most_judged rs)

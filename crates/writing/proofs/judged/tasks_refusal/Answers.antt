@@ -6,9 +6,9 @@ use borrow.Author.Count.{below_more}
 use borrow.Author.Tests.{ne_eqb}
 use Rattle.search.proofs.Choice.{true-not-false}
 use Rattle.table.proofs.Firsts.{or_none}
-use Rattle.writing.proofs.Numbers.{task-wrong, tasks-wrong, tasks-right}
-use Rattle.writing.proofs.judged.tasks_number.Goals as goal
-use Rattle.writing.proofs.judged.tasks_number.Goals.{then-priority-i-eq0-via-then-priority-i-eq0, then-priority-i-eq0-via-else-priority-i-eq0+then-outside}
+use Rattle.writing.proofs.Faults.{task-wrong, tasks-wrong, tasks-right}
+use Rattle.writing.proofs.judged.tasks_refusal.Goals as goal
+use Rattle.writing.proofs.judged.tasks_refusal.Goals.{then-priority-i-eq0-via-then-priority-i-eq0, then-priority-i-eq0-via-else-priority-i-eq0+then-outside}
 
 pub loop-i-init : goal.loop-i-init
 loop-i-init c = λ j h e. absurd (omega arith)

@@ -8,18 +8,20 @@ use lib.ListN.{get_or, take}
 use borrow.Author.Tests.{lt-ltb, eq-eqb, ne_eqb}
 use Rattle.search.specs.Choice.{◌when◌else◌}
 use Rattle.search.proofs.Choice.{when_yes}
+use Rattle.std.specs.declared.result.Result.TheVariants.{Ok, Err}
 use Rattle.table.specs.Fault.{fall_fault}
-use Rattle.table.specs.Read.{number_of}
-use Rattle.writing.specs.Code.Tally.{list_number}
-use Rattle.writing.proofs.Numbers.{list-falls, Passed, passed_none, passed-stop, passed_on, passed-all, passed-number}
-use Rattle.writing.proofs.judged.list_number.Goals as goal
+use Rattle.table.specs.Read.{refused_by}
+use Rattle.table.specs.declared.refusal.Refusal.TheVariants.{BadDistance}
+use Rattle.writing.specs.Code.Tally.{list_refusal}
+use Rattle.writing.proofs.Faults.{list-falls, Passed, passed_none, passed-stop, passed_on, passed-all, passed-number}
+use Rattle.writing.proofs.judged.list_refusal.Goals as goal
 
 pub loop-i-init : goal.loop-i-init
 loop-i-init c = passed_none _ _ _
 
 -- a fall decides
-fallen : (gap : ℕ) (ds : List ℕ) → number_of (fall_fault 0 ds 0) ≡ 29 → 29 ≡ list_number gap ds
-fallen gap ds e = sym (list-falls gap ds (λ z. omega (arith, sym e ∙ z)) ∙ e)
+fallen : (gap : ℕ) (ds : List ℕ) → refused_by (fall_fault 0 ds 0) ≡ Err BadDistance → Err BadDistance ≡ list_refusal gap ds
+fallen gap ds e = sym (list-falls gap ds e)
 
 pub returns-then-d-before : goal.returns-then-d-before
 returns-then-d-before c = let a = c.args in
@@ -36,7 +38,7 @@ pub returns-then-before-gt-DISTANCE : goal.returns-then-before-gt-DISTANCE
 returns-then-before-gt-DISTANCE c = let a = c.args in
     let l = c.loop-i in
     let e : l.i ≡ a.n = omega arith in
-    fallen a.gap (take a.n a.list.now) (passed-all l.invariant (omega (arith, c.requires)) e ∙ when_yes 29 0 (lt-ltb _ _ c.if-before-gt-DISTANCE.true))
+    fallen a.gap (take a.n a.list.now) (passed-all l.invariant (omega (arith, c.requires)) e ∙ when_yes (Err BadDistance) (Ok tt) (lt-ltb _ _ c.if-before-gt-DISTANCE.true))
 
 pub returns-then-before-eq0 : goal.returns-then-before-eq0
 unfolding ◌when◌else◌

@@ -4,12 +4,14 @@ use native.Mathlib.Omega.{arith}
 use mathlib.Core.Path.{◌≡◌, refl, sym, ◌∙◌}
 use mathlib.Core.Bool.{true}
 use lib.ListN.{get_or, take}
+use Rattle.std.specs.declared.result.Result.TheVariants.{Err}
 use Rattle.table.specs.Limits.{max_largest}
 use Rattle.table.specs.Fault.{outside, short_fault}
-use Rattle.table.specs.Read.{number_of}
-use Rattle.writing.proofs.Numbers.{short-below, short-outside, short-inside, short-stop, short-next, short-done}
-use Rattle.writing.proofs.judged.short_number.Goals as goal
-use Rattle.writing.proofs.judged.short_number.Goals.{At-loop-i}
+use Rattle.table.specs.Read.{refused_by}
+use Rattle.table.specs.declared.refusal.Refusal.TheVariants.{BadLargest}
+use Rattle.writing.proofs.Faults.{short-below, short-outside, short-inside, short-stop, short-next, short-done}
+use Rattle.writing.proofs.judged.short_refusal.Goals as goal
+use Rattle.writing.proofs.judged.short_refusal.Goals.{At-loop-i}
 
 pub loop-i-init : goal.loop-i-init
 loop-i-init c = refl
@@ -17,7 +19,7 @@ loop-i-init c = refl
 -- the next one is wrong
 wrong : (c : At-loop-i) → c.loop-i.i < c.args.n
     → outside (max c.loop-i.before (get_or c.args.list.now c.loop-i.i 0)) max_largest (get_or c.args.largest.now c.loop-i.i 0) ≡ true
-    → 33 ≡ number_of (short_fault 0 (take c.args.n c.args.list.now) (take c.args.n c.args.largest.now) 0)
+    → Err BadLargest ≡ refused_by (short_fault 0 (take c.args.n c.args.list.now) (take c.args.n c.args.largest.now) 0)
 wrong c h e = let a = c.args in
     sym (short-stop a.list.now a.largest.now a.n (omega (arith, c.requires)) (omega (arith, c.requires)) c.loop-i.i c.loop-i.before h e) ∙ c.loop-i.invariant
 
