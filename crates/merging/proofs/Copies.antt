@@ -19,7 +19,7 @@ use Rattle.table.specs.Find.{row_of, find_of}
 use Rattle.table.specs.Read.{accepted, read_table, table_of}
 use Rattle.table.specs.Place.{place_of}
 use Rattle.table.specs.declared.Table.{Table}
-use Rattle.table.specs.declared.Verdict.TheVariants.{Accepted}
+use Rattle.std.specs.declared.result.Result.TheVariants.{Ok}
 use Rattle.table.specs.Code.Taken.{Taken}
 use Rattle.table.proofs.Accepted.{taken}
 use Rattle.table.proofs.Firsts.{none_or}
@@ -63,7 +63,7 @@ alone-apart (n ∷ l) h (suc i) zero a b e = absurd (there l i (omega arith) e h
 alone-apart (n ∷ l) h (suc i) (suc j) a b e = ap suc (alone-apart l h.1 i j (omega arith) (omega arith) e)
 
 -- an accepted table of bytes
-module _ (s : List ℕ) (bytes : Bytes s) (verdict : (read_table s).verdict ≡ Accepted) where
+module _ (s : List ℕ) (bytes : Bytes s) (verdict : (read_table s).verdict ≡ Ok tt) where
   abbrev t : Table
   t = table_of s
 

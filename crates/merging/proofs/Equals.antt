@@ -11,7 +11,7 @@ use Rattle.search.proofs.Choice.{when_yes, when_no}
 use Rattle.table.specs.Bytes.{Bytes}
 use Rattle.table.specs.Place.{place_of}
 use Rattle.table.specs.Read.{read_table, table_of}
-use Rattle.table.specs.declared.Verdict.TheVariants.{Accepted}
+use Rattle.std.specs.declared.result.Result.TheVariants.{Ok}
 use Rattle.table.proofs.Firsts.{or_right}
 use Rattle.slices.proofs.Records.{length-records}
 use Rattle.slices.proofs.Ends.{end-stored}
@@ -39,7 +39,7 @@ unfolding keep
 keep-every [] h = refl
 keep-every (r ∷ rs) h = when_yes _ _ h.0 ∙ ap (λ (l : List (List ℕ)). r ∷ l) (keep-every rs h.1)
 
-module _ (s : List ℕ) (bytes : Bytes s) (verdict : (read_table s).verdict ≡ Accepted) where
+module _ (s : List ℕ) (bytes : Bytes s) (verdict : (read_table s).verdict ≡ Ok tt) where
   abbrev rs : List (List ℕ)
   rs = records_in s bytes verdict
 

@@ -1,25 +1,24 @@
 -- What the judgement of the three tables says, and what is answered for it. Assumes nothing.
 use Prim.Native.Nat.{ℕ}
-use mathlib.Core.Path.{◌≡◌, refl, sym}
+use mathlib.Core.Path.{◌≡◌, refl, ap, sym, ◌∙◌}
 use mathlib.Core.List.{List}
 use lib.ListN.{length}
-use borrow.Author.Tests.{ne_eqb}
 use native.Mathlib.Omega.{arith}
 use Rattle.search.specs.Choice.{by_number}
 use Rattle.search.proofs.Choice.{when_no}
+use Rattle.std.specs.Prelude.{⊤}
+use Rattle.std.specs.declared.result.Result.{Result}
+use Rattle.std.specs.declared.result.Result.TheVariants.{Ok, Err}
 use Rattle.table.specs.Bytes.{Bytes}
-use Rattle.table.specs.Read.{unless, read_table}
-use Rattle.table.specs.declared.Verdict.{Verdict}
-use Rattle.table.specs.declared.Verdict.TheVariants.{Accepted as Faultless, Refused as Faulty}
+use Rattle.table.specs.Refusal.{Verdict}
+use Rattle.table.specs.Read.{unless, by_verdict, read_table}
+use Rattle.table.specs.declared.refusal.Refusal.{Refusal}
 use Rattle.table.proofs.Accepted.{taken}
-use Rattle.table.proofs.Fields.{some_number}
 use Rattle.merging.specs.Versions.{Versions, three, by_versions}
 use Rattle.merging.specs.Rule.{conflict_above}
-use Rattle.merging.specs.Merge.{number_of, result_of, fitted, merged_of, Merges}
-use Rattle.merging.specs.declared.Merged.{Merged}
-use Rattle.merging.specs.declared.Merged.TheVariants as answer
-use Rattle.merging.specs.declared.judged.Judged.{Judged}
-use Rattle.merging.specs.declared.judged.Judged.TheVariants.{Accepted, Ancestor, First, Second}
+use Rattle.merging.specs.Merge.{Answer, refusal_of, of_ancestor, of_first, of_second, result_of, fitted, merged_of, Merges}
+use Rattle.merging.specs.declared.Unmerged.{Unmerged}
+use Rattle.merging.specs.declared.Unmerged.TheVariants.{Conflict}
 use Rattle.merging.specs.Code.Parts.{AllTaken}
 use Rattle.merging.specs.Code.Judged.{judged_of, AllAccepted}
 
@@ -28,73 +27,68 @@ pub all-taken : {ancestor first second : List ℕ} → AllAccepted (three ancest
 all-taken {ancestor} {first} {second} a b c d =
     record { of_ancestor = taken ancestor b a.ancestor; of_first = taken first c a.first; of_second = taken second d a.second }
 
--- what a judgement says of the three verdicts
-Says : Versions → Judged → Type 0
-Says v Accepted = AllAccepted v
-Says v (Ancestor n place) = (read_table v.ancestor).verdict ≡ Faulty n place
-Says v (First n place) = ((read_table v.ancestor).verdict ≡ Faultless) × ((read_table v.first).verdict ≡ Faulty n place)
-Says v (Second n place) = ((read_table v.ancestor).verdict ≡ Faultless) × ((read_table v.first).verdict ≡ Faultless) × ((read_table v.second).verdict ≡ Faulty n place)
+-- no table is refused
+abbrev accepts : Result ⊤ Unmerged
+accepts = Ok tt
+
+-- an answer after the judgement, where a refusal is answered in its own way
+abbrev after : {A : Type 0} → (Unmerged → A) → Result ⊤ Unmerged → A → A
+after refuse (Ok u) answer = answer
+after refuse (Err e) answer = refuse e
 
 module _ (v : Versions) where
-  says : Says v (judged_of v)
-  unfolding judged_of unless Says
-  says = by (read_table v.ancestor).verdict (read_table v.first).verdict (read_table v.second).verdict refl refl refl
+  -- none is refused
+  pub says-accepted : judged_of v ≡ Ok tt → AllAccepted v
+  unfolding judged_of unless
+  says-accepted = by (read_table v.ancestor).verdict (read_table v.first).verdict (read_table v.second).verdict refl refl refl
     where
+      apart : {e : Unmerged} → Err e ≡ accepts → ⊥
+      apart e = let z : ◌≡◌ {A = ℕ} 0 1 = cc in omega arith
+
       by : (a b c : Verdict) → (read_table v.ancestor).verdict ≡ a → (read_table v.first).verdict ≡ b → (read_table v.second).verdict ≡ c
-          → Says v (unless Ancestor a (unless First b (unless Second c Accepted)))
-      by (Faulty n place) b c e f g = e
-      by Faultless (Faulty n place) c e f g = (e, f)
-      by Faultless Faultless (Faulty n place) e f g = (e, f, g)
-      by Faultless Faultless Faultless e f g = record { ancestor = e; first = f; second = g }
-
-  says_as : {j : Judged} → judged_of v ≡ j → Says v j
-  says_as e = rw (← e) says
-
-  pub says-accepted : judged_of v ≡ Accepted → AllAccepted v
-  unfolding Says
-  says-accepted e = says_as e
+          → unless of_ancestor a (unless of_first b (unless of_second c accepts)) ≡ accepts → AllAccepted v
+      by (Err x) b c e f g h = absurd (apart h)
+      by (Ok u) (Err x) c e f g h = absurd (apart h)
+      by (Ok u) (Ok w) (Err x) e f g h = absurd (apart h)
+      by (Ok u) (Ok w) (Ok x) e f g h = record { ancestor = e; first = f; second = g }
 
   -- three accepted tables are asked
-  pub asked : {A : Type 0} (refuse : ℕ → A) (answer : A) → AllAccepted v → by_versions refuse v answer ≡ answer
+  pub asked : {A : Type 0} (refuse : Refusal → A) (answer : A) → AllAccepted v → by_versions refuse v answer ≡ answer
   asked refuse answer a = rw (a.ancestor, a.first, a.second)
 
-  -- a refused one refuses with its number
-  module _ {A : Type 0} (refuse : ℕ → A) (answer : A) {n place : ℕ} where
-    pub refused-ancestor : judged_of v ≡ Ancestor n place → by_versions refuse v answer ≡ refuse n
-    unfolding Says
-    refused-ancestor e = let s = says_as e in rw s
+  -- a refused one refuses
+  module _ {e : Unmerged} (is : judged_of v ≡ Err e) where
+    pub refused : {A : Type 0} (refuse : Refusal → A) (answer : A) → by_versions refuse v answer ≡ refuse (refusal_of e)
+    unfolding judged_of unless
+    refused {A} refuse answer =
+        by (read_table v.ancestor).verdict (read_table v.first).verdict (read_table v.second).verdict ∙ ap (λ (r : Result ⊤ Unmerged). told r) is
+      where
+        told : Result ⊤ Unmerged → A
+        told r = after (λ e. refuse (refusal_of e)) r answer
 
-    pub refused-first : judged_of v ≡ First n place → by_versions refuse v answer ≡ refuse n
-    unfolding Says
-    refused-first e = let s = says_as e in rw (s.0, s.1)
+        by : (a b c : Verdict) → by_verdict refuse a (by_verdict refuse b (by_verdict refuse c answer)) ≡ told (unless of_ancestor a (unless of_first b (unless of_second c accepts)))
+        by (Err f) b c = refl
+        by (Ok u) (Err f) c = refl
+        by (Ok u) (Ok w) (Err f) = refl
+        by (Ok u) (Ok w) (Ok x) = refl
 
-    pub refused-second : judged_of v ≡ Second n place → by_versions refuse v answer ≡ refuse n
-    unfolding Says
-    refused-second e = let s = says_as e in rw (s.0, s.1, s.2)
+    merged-refused : (room : ℕ) → merged_of room v ≡ Err e
+    unfolding judged_of merged_of unless
+    merged-refused room =
+        by (read_table v.ancestor).verdict (read_table v.first).verdict (read_table v.second).verdict (by_number (λ id. Err (Conflict id)) (conflict_above v 0) (fitted room (result_of v)))
+        ∙ ap (λ (r : Result ⊤ Unmerged). after Err r (by_number (λ id. Err (Conflict id)) (conflict_above v 0) (fitted room (result_of v)))) is
+      where
+        by : (a b c : Verdict) (rest : Answer) → unless of_ancestor a (unless of_first b (unless of_second c rest)) ≡ after Err (unless of_ancestor a (unless of_first b (unless of_second c accepts))) rest
+        by (Err f) b c rest = refl
+        by (Ok u) (Err f) c rest = refl
+        by (Ok u) (Ok w) (Err f) rest = refl
+        by (Ok u) (Ok w) (Ok x) rest = refl
 
--- a merge
-module _ (v : Versions) (buffer : List ℕ) where
-  -- an answer with a number leaves the buffer
-  refuses : (m : Merged) → m ≡ merged_of (length buffer) v → (number_of m ≡ 0 → ⊥) → Merges v buffer m buffer
-  refuses m e h = record { answers = e; leaves = sym (when_no _ _ (ne_eqb (number_of m) 0 h)) }
-
-  module _ {n place : ℕ} where
-    pub merge-ancestor : judged_of v ≡ Ancestor n place → Merges v buffer (answer.Ancestor n place) buffer
-    unfolding merged_of unless Says
-    merge-ancestor e = let s = says_as v e in
-        refuses (answer.Ancestor n place) (rw s) (λ z. omega (arith, z, some_number v.ancestor s))
-
-    pub merge-first : judged_of v ≡ First n place → Merges v buffer (answer.First n place) buffer
-    unfolding merged_of unless Says
-    merge-first e = let s = says_as v e in
-        refuses (answer.First n place) (rw (s.0, s.1)) (λ z. omega (arith, z, some_number v.first s.1))
-
-    pub merge-second : judged_of v ≡ Second n place → Merges v buffer (answer.Second n place) buffer
-    unfolding merged_of unless Says
-    merge-second e = let s = says_as v e in
-        refuses (answer.Second n place) (rw (s.0, s.1, s.2)) (λ z. omega (arith, z, some_number v.second s.2))
+    -- and a merge leaves the buffer
+    pub merge-refused : (buffer : List ℕ) → Merges v buffer (Err e) buffer
+    merge-refused buffer = record { answers = sym (merged-refused (length buffer)); leaves = sym (when_no _ _ refl) }
 
 -- of three accepted tables: 32, and then what follows
-pub merge-asked : (v : Versions) (room : ℕ) → AllAccepted v → merged_of room v ≡ by_number answer.Conflict (conflict_above v 0) (fitted room (result_of v))
+pub merge-asked : (v : Versions) (room : ℕ) → AllAccepted v → merged_of room v ≡ by_number (λ id. Err (Conflict id)) (conflict_above v 0) (fitted room (result_of v))
 unfolding merged_of unless
 merge-asked v room a = rw (a.ancestor, a.first, a.second)

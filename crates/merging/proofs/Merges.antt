@@ -11,7 +11,7 @@ use Rattle.search.specs.Lists.{some, keep, All}
 use Rattle.search.proofs.Choice.{when_yes, when_no, true-not-false}
 use Rattle.table.specs.Bytes.{Bytes}
 use Rattle.table.specs.Read.{read_table}
-use Rattle.table.specs.declared.Verdict.TheVariants.{Accepted}
+use Rattle.std.specs.declared.result.Result.TheVariants.{Ok}
 use Rattle.table.proofs.Firsts.{none_or, or_right}
 use Rattle.slices.specs.Slices.{same}
 use Rattle.slices.proofs.Sameness.{same_true, same-yes, same_no}
@@ -138,7 +138,7 @@ module _ (v : Versions) (e : Edited v) where
       ∙ ap (λ (t : Bool). t || among (ids_of v.second) id) (among-joined (ids_of v.ancestor) (ids_of v.first) id)
 
   -- an id of none of the three is missing in each
-  unlisted : (s : List ℕ) (bytes : Bytes s) (verdict : (read_table s).verdict ≡ Accepted) (id : ℕ) → among (ids_of s) id ≡ false → state_of s id ≡ []
+  unlisted : (s : List ℕ) (bytes : Bytes s) (verdict : (read_table s).verdict ≡ Ok tt) (id : ℕ) → among (ids_of s) id ≡ false → state_of s id ≡ []
   unlisted s bytes verdict id h =
       state_picked s bytes verdict id ∙ pick-none id (records_in s bytes verdict) (ap (λ (l : List ℕ). among l id) (ids_borne s bytes verdict) ∙ h)
 
@@ -160,7 +160,7 @@ module _ (v : Versions) (e : Edited v) where
     unlisted-alike = by_alike (state_of v.ancestor id) (state_of v.first id) (state_of v.second id) _ _ _ alike
 
   -- a record that is taken bears its id
-  bears : (s : List ℕ) (bytes : Bytes s) (verdict : (read_table s).verdict ≡ Accepted) (id : ℕ) → is_record (state_of s id) ≡ true → id_in (state_of s id) ≡ id
+  bears : (s : List ℕ) (bytes : Bytes s) (verdict : (read_table s).verdict ≡ Ok tt) (id : ℕ) → is_record (state_of s id) ≡ true → id_in (state_of s id) ≡ id
   bears s bytes verdict id h =
       let f = state_picked s bytes verdict id in
       ap id_in f ∙ pick-bears id (records_in s bytes verdict) (ap is_record (sym f) ∙ h)

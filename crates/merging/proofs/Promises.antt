@@ -16,8 +16,9 @@ use Rattle.search.proofs.Lists.{perm_sum}
 use Rattle.table.specs.Bytes.{Bytes}
 use Rattle.table.specs.Find.{row_of, rows}
 use Rattle.table.specs.Read.{read_table, table_of}
-use Rattle.table.specs.declared.Verdict.{Verdict}
-use Rattle.table.specs.declared.Verdict.TheVariants.{Accepted, Refused}
+use Rattle.table.specs.Refusal.{Verdict}
+use Rattle.std.specs.declared.result.Result.TheVariants.{Ok, Err}
+use Rattle.table.specs.declared.refusal.Refusal.{Refusal}
 use Rattle.table.proofs.Firsts.{not-accepted}
 use Rattle.table.proofs.Accepted.{taken}
 use Rattle.slices.specs.Slices.{same}
@@ -112,22 +113,22 @@ module _ (v : Versions) (e : Edited v) where
   swapped-length =
       omega (arith, result-length v e, result-length (swapped v) (edited_swapped e), flatten-length (taken_records v), flatten-length (taken_records (swapped v)), perm_sum length (swapped_perm v e))
 
-  pub swapped-accepted : (read_table (result_of v)).verdict ≡ Accepted → (read_table (result_of (swapped v))).verdict ≡ Accepted
+  pub swapped-accepted : (read_table (result_of v)).verdict ≡ Ok tt → (read_table (result_of (swapped v))).verdict ≡ Ok tt
   swapped-accepted verdict =
       accepted-again (swapped v) (edited_swapped e) (result_of v) (result-bytes v e) verdict
       (subst (λ (rs : List (List ℕ)). Permᴰ rs (taken_records (swapped v))) (sym (result-records v e verdict)) (swapped_perm v e))
 
-  pub swapped_rows : (read_table (result_of v)).verdict ≡ Accepted → Permᴰ (rows (table_of (result_of v))) (rows (table_of (result_of (swapped v))))
+  pub swapped_rows : (read_table (result_of v)).verdict ≡ Ok tt → Permᴰ (rows (table_of (result_of v))) (rows (table_of (result_of (swapped v))))
   swapped_rows verdict =
       rw (result_rows v e verdict, result_rows (swapped v) (edited_swapped e) (swapped-accepted verdict)) (Permᴰ.map row_in (swapped_perm v e))
 
-pub swapped-refused : (v : Versions) → Edited v → {n place : ℕ} → (read_table (result_of v)).verdict ≡ Refused n place
-    → (m : ℕ) × (q : ℕ) × ((read_table (result_of (swapped v))).verdict ≡ Refused m q)
+pub swapped-refused : (v : Versions) → Edited v → {n : Refusal} {place : ℕ} → (read_table (result_of v)).verdict ≡ Err (n, place)
+    → (m : Refusal) × (q : ℕ) × ((read_table (result_of (swapped v))).verdict ≡ Err (m, q))
 swapped-refused v e h = by (read_table (result_of (swapped v))).verdict refl
   where
-    by : (w : Verdict) → (read_table (result_of (swapped v))).verdict ≡ w → (m : ℕ) × (q : ℕ) × ((read_table (result_of (swapped v))).verdict ≡ Refused m q)
-    by Accepted f = absurd (not-accepted (sym h ∙ swapped-accepted (swapped v) (edited_swapped e) f))
-    by (Refused m q) f = (m, q, f)
+    by : (w : Verdict) → (read_table (result_of (swapped v))).verdict ≡ w → (m : Refusal) × (q : ℕ) × ((read_table (result_of (swapped v))).verdict ≡ Err (m, q))
+    by (Ok u) f = absurd (not-accepted (sym h ∙ swapped-accepted (swapped v) (edited_swapped e) f))
+    by (Err g) f = (g.0, g.1, f)
 
 -- the ancestor's records that stay stand first in both
 pub map-alike : {A B : Type 0} (f g : A → B) → ((a : A) → f a ≡ g a) → (l : List A) → map f l ≡ map g l
@@ -150,13 +151,13 @@ pub staying-swapped : (v : Versions) → staying (swapped v) ≡ staying v
 staying-swapped v = ap (λ (rs : List (List ℕ)). flatten (keep is_record rs)) (map-alike (taken_of (swapped v)) (taken_of v) (taken-swapped v) (ids_of v.ancestor))
 
 -- A copy that gives every state that is taken: the other is unchanged
-module _ (v : Versions) (e : Edited v) (s : List ℕ) (bytes : Bytes s) (verdict : (read_table s).verdict ≡ Accepted) (gives : (id : ℕ) → taken_of v id ≡ state_of s id) where
+module _ (v : Versions) (e : Edited v) (s : List ℕ) (bytes : Bytes s) (verdict : (read_table s).verdict ≡ Ok tt) (gives : (id : ℕ) → taken_of v id ≡ state_of s id) where
   given_perm : Permᴰ (records_in s bytes verdict) (taken_records v)
   given_perm =
       pick_perm (records_in s bytes verdict) (taken_records v) (records-alone s bytes verdict) (taken-alone v e) (all-records s bytes verdict) (taken-records v e)
       (λ id. sym (state_picked s bytes verdict id) ∙ sym (gives id) ∙ sym (taken-picked v e id))
 
-  pub given-accepted : (read_table (result_of v)).verdict ≡ Accepted
+  pub given-accepted : (read_table (result_of v)).verdict ≡ Ok tt
   given-accepted = accepted-again v e s bytes verdict given_perm
 
   pub given-length : length (result_of v) ≡ length s
@@ -194,7 +195,7 @@ no_conflict v e none above = ⊎_elim
 -- no table has the id 0
 pub zero-alike : (v : Versions) → Edited v → conflict_of v 0 ≡ false
 zero-alike v e =
-    let none : (s : List ℕ) → Bytes s → (read_table s).verdict ≡ Accepted → state_of s 0 ≡ [] = λ s bytes verdict.
+    let none : (s : List ℕ) → Bytes s → (read_table s).verdict ≡ Ok tt → state_of s 0 ≡ [] = λ s bytes verdict.
     state_missing s 0 (λ j h f. omega (arith, ((taken s bytes verdict).good.row j h).id, eqb-true (row_of (table_of s) j).id 0 f)) in
     by_alike (state_of v.ancestor 0) (state_of v.first 0) (state_of v.second 0) _ _ _
     (same-yes _ _ (none v.first e.of_first e.all.first ∙ sym (none v.second e.of_second e.all.second)))

@@ -5,27 +5,27 @@ use mathlib.Core.Path.{◌≡◌, refl, ap, sym, ◌∙◌}
 use mathlib.Core.List.{List, [], ◌∷◌, ◌++◌, flatten}
 use lib.Dec.{eqb}
 use lib.ListN.{length, drop, length-append}
-use borrow.Author.Tests.{lt-ltb, le-ltb, ltb-false, eq-eqb, ne_eqb}
+use borrow.Author.Tests.{lt-ltb, le-ltb, ltb-false}
 use Rattle.search.specs.Choice.{◌when◌else◌, by_number}
 use Rattle.search.specs.Lists.{keep}
 use Rattle.search.proofs.Choice.{when_yes, when_no, when_cases}
 use Rattle.table.specs.Limits.{max_bytes}
 use Rattle.table.specs.Bytes.{word}
 use Rattle.table.specs.Record.{end_record}
-use Rattle.table.specs.Read.{unless, read_table}
-use Rattle.table.specs.declared.Verdict.{Verdict}
-use Rattle.table.specs.declared.Verdict.TheVariants.{Accepted, Refused}
-use Rattle.table.specs.declared.Reading.{Reading}
+use Rattle.table.specs.Read.{Reading, unless, read_table}
+use Rattle.table.specs.Refusal.{Verdict}
+use Rattle.std.specs.declared.result.Result.TheVariants.{Ok, Err}
+use Rattle.table.specs.declared.refusal.Fault.{Fault}
+use Rattle.table.specs.declared.refusal.Refusal.TheVariants.{BadLength}
 use Rattle.table.proofs.Words.{end-length}
 use Rattle.table.proofs.Firsts.{or_right}
 use Rattle.table.proofs.Widths.{beyond-both}
 use Rattle.table.proofs.Standing.{longest_record}
 use Rattle.table.proofs.Steps.{read-long}
-use Rattle.table.proofs.Fields.{some_number}
 use Rattle.merging.specs.Versions.{Versions, three}
 use Rattle.merging.specs.Rule.{taken_of, order}
-use Rattle.merging.specs.Merge.{is_record, taken_records, result_of, fitted}
-use Rattle.merging.specs.declared.Merged.TheVariants.{Used, Conflict, NoRoom, Result}
+use Rattle.merging.specs.Merge.{of_merged, is_record, taken_records, result_of, fitted}
+use Rattle.merging.specs.declared.Unmerged.TheVariants.{Conflict, NoRoom, Merged}
 use Rattle.merging.specs.Code.Parts.{AllTaken}
 use Rattle.merging.specs.Code.Size.{states_of, least_of, result_from, Fits}
 use Rattle.merging.proofs.Sizes.{taken-short, more_bytes}
@@ -45,34 +45,31 @@ module _ (v : Versions) (ids before : List ℕ) where
   abbrev result : List ℕ
   result = result_from (states_of v ids)
 
-  pub fits-conflict : (id : ℕ) → least_of v ids ≡ id → (id ≡ 0 → ⊥) → Fits v ids before (Conflict id) before
+  pub fits-conflict : (id : ℕ) → least_of v ids ≡ id → (id ≡ 0 → ⊥) → Fits v ids before (Err (Conflict id)) before
   unfolding by_number ◌when◌else◌
   fits-conflict zero e h = absurd (h refl)
   fits-conflict (suc id) e h = record { answers = rw e; leaves = refl }
 
   module _ (none : least_of v ids ≡ 0) where
-    pub fits_not : length before < length result → Fits v ids before NoRoom before
+    pub fits_not : length before < length result → Fits v ids before (Err NoRoom) before
     unfolding by_number fitted ◌when◌else◌
     fits_not h = record { answers = rw (none, lt-ltb _ _ h); leaves = refl }
 
     module _ (h : length result ≤ length before) where
-      by_verdict_lem : (w : Verdict) → (read_table result).verdict ≡ w → by_number Conflict (least_of v ids) (fitted (length before) result) ≡ unless Result w (Used (length result))
+      by_verdict_lem : (w : Verdict) → (read_table result).verdict ≡ w → by_number (λ id. Err (Conflict id)) (least_of v ids) (fitted (length before) result) ≡ unless of_merged w (Ok (length result))
       unfolding by_number fitted ◌when◌else◌
       by_verdict_lem w e = rw (none, le-ltb _ _ h, e)
 
-      pub fits_refused : {n place : ℕ} → (read_table result).verdict ≡ Refused n place → Fits v ids before (Result n place) before
+      pub fits_refused : {f : Fault} → (read_table result).verdict ≡ Err f → Fits v ids before (Err (Merged f)) before
       unfolding unless
-      fits_refused {n} {place} e = record {
-        answers = sym (by_verdict_lem (Refused n place) e);
-        leaves = sym (when_no _ _ (ne_eqb n 0 (λ z. omega (arith, z, some_number result e))));
-      }
+      fits_refused {f} e = record { answers = sym (by_verdict_lem (Err f) e); leaves = sym (when_no _ _ refl) }
 
-      pub fits-long : max_bytes < length result → Fits v ids before (Result 1 0) before
+      pub fits-long : max_bytes < length result → Fits v ids before (Err (Merged (BadLength, 0))) before
       fits-long l = fits_refused (ap (λ (r : Reading). r.verdict) (read-long result (or_right (eqb (length result) 0) _ (beyond-both result (word 2 result 0) l))))
 
-      pub fits-accepted : (read_table result).verdict ≡ Accepted → Fits v ids before (Used (length result)) (result ++ drop (length result) before)
+      pub fits-accepted : (read_table result).verdict ≡ Ok tt → Fits v ids before (Ok (length result)) (result ++ drop (length result) before)
       unfolding unless
-      fits-accepted e = record { answers = sym (by_verdict_lem Accepted e); leaves = sym (when_yes _ _ (eq-eqb 0 0 refl)) }
+      fits-accepted e = record { answers = sym (by_verdict_lem (Ok tt) e); leaves = sym (when_yes _ _ refl) }
 
 -- states that are no records add no byte
 flatten-records : (states : List (List ℕ)) → flatten (keep is_record states) ≡ flatten states

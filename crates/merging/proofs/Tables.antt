@@ -23,8 +23,10 @@ use Rattle.table.specs.Code.Good.{GoodTable}
 use Rattle.table.specs.declared.Row.{Row}
 use Rattle.table.specs.declared.Table.{Table}
 use Rattle.table.specs.declared.Mark.TheVariants.{End}
-use Rattle.table.specs.declared.Verdict.{Verdict}
-use Rattle.table.specs.declared.Verdict.TheVariants.{Accepted, Refused}
+use Rattle.table.specs.Refusal.{Verdict, numbered}
+use Rattle.std.specs.declared.result.Result.TheVariants.{Ok, Err}
+use Rattle.table.specs.declared.refusal.Refusal.{Refusal}
+use Rattle.table.specs.declared.refusal.Refusal.TheVariants.{BadMark, BadChainCount}
 use Rattle.table.proofs.Accepted.{taken, accepted-short}
 use Rattle.table.proofs.Widths.{limit-least}
 use Rattle.slices.specs.Stored.{record_of, form_in, OneForm, Mixed}
@@ -32,7 +34,7 @@ use Rattle.slices.proofs.Bytes.{bytes_append, bytes_take, bytes_drop, bytes-flat
 use Rattle.slices.proofs.Parts.{Parts, row_in, all-at, map_at}
 use Rattle.slices.proofs.Parsed.{parts-rows}
 use Rattle.slices.proofs.Records.{records_from, length-records, records-at, record_form, parts-count, parts_record, parts-form}
-use Rattle.slices.proofs.Sound.{Sound, record_sound, tasks_in, NoTable, tasks-first, no_table, mixed-refused}
+use Rattle.slices.proofs.Sound.{Sound, named, record_sound, tasks_in, NoTable, tasks-first, no_table, mixed-refused}
 use Rattle.merging.specs.Versions.{Versions, state_of, ids_of}
 use Rattle.merging.specs.Rule.{taken_of, among, joined, order}
 use Rattle.merging.specs.Merge.{is_record, taken_records, result_of}
@@ -86,7 +88,7 @@ end_mark n = ap mark_of (end-mark-word n)
 
 module _ (v : Versions) (e : Edited v) where
   taken-of : (P : List ℕ → Type 0)
-      → ((s : List ℕ) → Bytes s → (read_table s).verdict ≡ Accepted → (chain : ℕ) → chain < (table_of s).count → P (record_of s chain)) → All P (taken_records v)
+      → ((s : List ℕ) → Bytes s → (read_table s).verdict ≡ Ok tt → (chain : ℕ) → chain < (table_of s).count → P (record_of s chain)) → All P (taken_records v)
   unfolding taken_records
   taken-of P each =
       kept_of P (taken_of v)
@@ -94,7 +96,7 @@ module _ (v : Versions) (e : Edited v) where
       (copy v.first e.of_first e.all.first id) (copy v.second e.of_second e.all.second id) (λ z. absurd (omega (arith, ltb-true 0 0 z))))
       (order v)
     where
-      copy : (s : List ℕ) → Bytes s → (read_table s).verdict ≡ Accepted → (id : ℕ) → is_record (state_of s id) ≡ true → P (state_of s id)
+      copy : (s : List ℕ) → Bytes s → (read_table s).verdict ≡ Ok tt → (id : ℕ) → is_record (state_of s id) ≡ true → P (state_of s id)
       copy s bytes verdict id h =
           let f = state_picked s bytes verdict id in
           subst P (sym f) (picked_of P id (records_in s bytes verdict) (records-of P s (table_of s).count (each s bytes verdict) (table_of s).count 0 (omega arith)) (ap is_record (sym f) ∙ h))
@@ -141,7 +143,7 @@ module _ (v : Versions) (e : Edited v) where
       (map_at id_in (taken_records v) i [] 0 a ∙ h ∙ sym (map_at id_in (taken_records v) j [] 0 b))
 
   -- why it can be refused
-  pub refused_for : {n place : ℕ} → (read_table (result_of v)).verdict ≡ Refused n place → NoTable (taken_records v) n
+  pub refused_for : {n : Refusal} {place : ℕ} → (read_table (result_of v)).verdict ≡ Err (n, place) → NoTable (taken_records v) (numbered n)
   refused_for =
       no_table (taken_records v) (end_record (length (taken_records v))) (result_of v) result_parts all_sound apart
       (end_mark (length (taken_records v))) (end-count (length (taken_records v)) few)
@@ -155,13 +157,13 @@ module _ (v : Versions) (e : Edited v) where
 
   -- mixed forms are 3, unless the length or a field before the first record of the other form is at fault
   pub mixed-result : (i : ℕ) → Mixed (taken_records v) i → length (result_of v) ≤ limit_of (form_in (taken_records v) 0) → i ≤ max_chains
-      → tasks_in (take i (taken_records v)) ≤ max_all_tasks → (place : ℕ) × ((read_table (result_of v)).verdict ≡ Refused 3 place)
+      → tasks_in (take i (taken_records v)) ≤ max_all_tasks → (place : ℕ) × ((read_table (result_of v)).verdict ≡ Err (BadMark, place))
   mixed-result =
       mixed-refused (taken_records v) (end_record (length (taken_records v))) (result_of v) result_parts all_sound apart
       (end_mark (length (taken_records v))) (end-count (length (taken_records v)) few) result-bytes
 
   -- an accepted result: its records are those taken, and each id has the state that was
-  module _ (verdict : (read_table (result_of v)).verdict ≡ Accepted) where
+  module _ (verdict : (read_table (result_of v)).verdict ≡ Ok tt) where
     abbrev t : Table
     t = table_of (result_of v)
 
@@ -192,7 +194,7 @@ module _ (v : Versions) (e : Edited v) where
     unfolding taken_records
     none-taken = none_kept (map (taken_of v) (order v)) (all-given (taken_of v) missing (order v))
 
-    pub emptied-refused : (place : ℕ) × ((read_table (result_of v)).verdict ≡ Refused 11 place) × (length (result_of v) ≤ 4)
+    pub emptied-refused : (place : ℕ) × ((read_table (result_of v)).verdict ≡ Err (BadChainCount, place)) × (length (result_of v) ≤ 4)
     unfolding flatten sum_of
     emptied-refused = by (read_table (result_of v)).verdict refl
       where
@@ -206,12 +208,12 @@ module _ (v : Versions) (e : Edited v) where
         number (NoTable.chains f alike h) = absurd (omega (arith, h, ap length none-taken))
         number (NoTable.none f h) = f
 
-        by : (w : Verdict) → (read_table (result_of v)).verdict ≡ w → (place : ℕ) × ((read_table (result_of v)).verdict ≡ Refused 11 place) × (length (result_of v) ≤ 4)
-        by Accepted f = absurd (omega (arith, ap length (sym (result-records f)) ∙ length-records (result_of v) (table_of (result_of v)).count 0, ap length none-taken, (taken (result_of v) result-bytes f).good.some))
-        by (Refused n place) f = (place, f ∙ ap (λ k. Refused k place) (number (refused_for f)), omega (arith, result-length, short))
+        by : (w : Verdict) → (read_table (result_of v)).verdict ≡ w → (place : ℕ) × ((read_table (result_of v)).verdict ≡ Err (BadChainCount, place)) × (length (result_of v) ≤ 4)
+        by (Ok u) f = absurd (omega (arith, ap length (sym (result-records f)) ∙ length-records (result_of v) (table_of (result_of v)).count 0, ap length none-taken, (taken (result_of v) result-bytes f).good.some))
+        by (Err f) e = let h : (read_table (result_of v)).verdict ≡ Err (f.0, f.1) = e in (f.1, h ∙ ap (λ n. Err (n, f.1)) (named f.0 11 (number (refused_for e))), omega (arith, result-length, short))
 
   -- records of an accepted table, in any order, are an accepted result
-  module _ (s : List ℕ) (bytes : Bytes s) (verdict : (read_table s).verdict ≡ Accepted) (p : Permᴰ (records_in s bytes verdict) (taken_records v)) where
+  module _ (s : List ℕ) (bytes : Bytes s) (verdict : (read_table s).verdict ≡ Ok tt) (p : Permᴰ (records_in s bytes verdict) (taken_records v)) where
     abbrev rs : List (List ℕ)
     rs = records_in s bytes verdict
 
@@ -237,7 +239,7 @@ module _ (v : Versions) (e : Edited v) where
         let all = records-of (λ (r : List ℕ). form_at r 0 ≡ form_at s 0) s (table_of s).count (record_form s (table_of s) read bytes) (table_of s).count 0 (omega arith) in
         all-at (λ (r : List ℕ). form_at r 0 ≡ form_at s 0) (taken_records v) i [] (perm_all (λ (r : List ℕ). form_at r 0 ≡ form_at s 0) p all) h
 
-    pub accepted-again : (read_table (result_of v)).verdict ≡ Accepted
+    pub accepted-again : (read_table (result_of v)).verdict ≡ Ok tt
     accepted-again = by (read_table (result_of v)).verdict refl
       where
         good : GoodTable (table_of s)
@@ -253,6 +255,6 @@ module _ (v : Versions) (e : Edited v) where
         never (NoTable.chains f alike h) = omega (arith, h, same_count, good.few)
         never (NoTable.none f h) = omega (arith, h, some)
 
-        by : (w : Verdict) → (read_table (result_of v)).verdict ≡ w → w ≡ Accepted
-        by Accepted f = refl
-        by (Refused n place) f = absurd (never (refused_for f))
+        by : (w : Verdict) → (read_table (result_of v)).verdict ≡ w → w ≡ Ok tt
+        by (Ok u) f = refl
+        by (Err f) e = absurd (never (refused_for e))

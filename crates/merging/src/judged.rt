@@ -10,14 +10,7 @@ use table::judge;
 pub fn judge_all(ancestor: &[u8], first: &[u8], second: &[u8]) -> Result<(), Unmerged>
     ensures { result ≡ judged_of (versions ancestor.entry first.entry second.entry) }
 {
-    match judge(ancestor) {
-        Verdict::Refused(number, at) => Judged::Ancestor(number, at),
-        Verdict::Accepted => match judge(first) {
-            Verdict::Refused(number, at) => Judged::First(number, at),
-            Verdict::Accepted => match judge(second) {
-                Verdict::Refused(number, at) => Judged::Second(number, at),
-                Verdict::Accepted => Judged::Accepted,
-            },
-        },
-    }
+    judge(ancestor).map_err(Unmerged::Ancestor)?;
+    judge(first).map_err(Unmerged::First)?;
+    judge(second).map_err(Unmerged::Second)
 }

@@ -13,7 +13,7 @@ use crate::Unmerged;
 use crate::conflicts::lesser;
 use crate::states::{step_past, taken, weigh};
 use slices::put;
-use table::{Table, Verdict, put_u32};
+use table::{Fault, Refusal, Table, judge, put_u32};
 
 // The smallest id in conflict, 0 if there is none; how long the records taken are in all, and how many they are.
 #[derive(Clone, Copy)]
@@ -89,8 +89,8 @@ fn build<'a>(
     put_u32(out, end, 20_037 + 65_536 * (records as u32));
 }
 
-// 32, 24, then a table's numbers on the result, which is built in a place of its own where it is no longer than a table can be; without a
-// fault it becomes the first bytes of `out`.
+// The smallest id in conflict, no room, then the result's own fault: it is built in a place of its own where it is no longer than a table can
+// be; without a fault it becomes the first bytes of `out`.
 pub fn fit<'a>(
     ancestor: &[u8],
     first: &'a [u8],
@@ -103,22 +103,18 @@ pub fn fit<'a>(
 {
     let size = size_of(ancestor, first, second, ids);
     if size.conflict != 0 {
-        return Merged::Conflict(size.conflict);
+        return Err(Unmerged::Conflict(size.conflict));
     }
     let n = size.bytes + 4;
     if out.len() < n {
-        return Merged::NoRoom;
+        return Err(Unmerged::NoRoom);
     }
     if Table::BYTES < n {
-        return Merged::Result(1, 0);
+        return Err(Unmerged::Merged(Fault(Refusal::BadLength, 0)));
     }
     let mut bytes = [0u8; Table::BYTES];
     build(ancestor, first, second, ids, size.records, &mut bytes);
-    match table::judge(&bytes[..n]) {
-        Verdict::Accepted => {
-            put(out, 0, &bytes[..n]);
-            Merged::Used(n as u32)
-        }
-        Verdict::Refused(number, at) => Merged::Result(number, at),
-    }
+    judge(&bytes[..n]).map_err(Unmerged::Merged)?;
+    put(out, 0, &bytes[..n]);
+    Ok(n as u32)
 }

@@ -6,10 +6,10 @@ use Rattle.search.specs.Lists.{keep}
 use Rattle.merging.specs.Versions.{Versions}
 use Rattle.merging.specs.Rule.{taken_of, conflict_of, least}
 use Rattle.table.specs.Record.{end_record}
-use Rattle.merging.specs.Merge.{is_record, fitted, buffer_after}
+use Rattle.merging.specs.Merge.{Answer, is_record, fitted, buffer_after}
 use Rattle.merging.specs.declared.result.Size.{Size}
-use Rattle.merging.specs.declared.Merged.{Merged}
-use Rattle.merging.specs.declared.Merged.TheVariants.{Conflict}
+use Rattle.std.specs.declared.result.Result.TheVariants.{Err}
+use Rattle.merging.specs.declared.Unmerged.TheVariants.{Conflict}
 
 -- the states taken of ids, those that are missing too
 abbrev pub states_of : Versions → List ℕ → List (List ℕ)
@@ -34,6 +34,6 @@ pub record PutThere (bytes before after : List ℕ) (r : ℕ) : Type 0 where
   pub long : length after ≡ length before
 
 -- what is answered of three accepted tables with these ids, and left in the buffer
-pub record Fits (v : Versions) (ids before : List ℕ) (r : Merged) (after : List ℕ) : Type 0 where
-  pub answers : r ≡ by_number Conflict (least_of v ids) (fitted (length before) (result_from (states_of v ids)))
+pub record Fits (v : Versions) (ids before : List ℕ) (r : Answer) (after : List ℕ) : Type 0 where
+  pub answers : r ≡ by_number (λ id. Err (Conflict id)) (least_of v ids) (fitted (length before) (result_from (states_of v ids)))
   pub leaves : after ≡ buffer_after r (result_from (states_of v ids)) before

@@ -6,7 +6,7 @@ use lib.ListN.{length, take, length-map}
 use native.Mathlib.Omega.{arith}
 use Rattle.search.proofs.Keeping.{keep-length}
 use Rattle.table.specs.Read.{read_table}
-use Rattle.table.specs.declared.Verdict.TheVariants.{Accepted}
+use Rattle.std.specs.Prelude.{Ok}
 use Rattle.slices.proofs.Splices.{splice-first}
 use Rattle.slices.specs.Slices.{splice}
 use Rattle.slices.specs.Code.Begins.{Begins}
@@ -89,19 +89,14 @@ slice_bounds-put-end c = sym (length-take-n (goal.at.slice_bounds-put-end c).Aft
 pub put-requires : goal.put-requires
 put-requires c = omega (arith, length-take-n (goal.at.put-requires c).After-build, c.if-out-n.false)
 
-pub returns-in-Accepted : goal.returns-in-Accepted
-returns-in-Accepted c =
-    let here = goal.at.returns-in-Accepted c in
+pub returns-in_err-map_err : goal.returns-in_err-map_err
+returns-in_err-map_err c = let x : Unit = c.map_err.ensures.cases in ?
+
+pub returns : goal.returns
+returns c =
+    let here = goal.at.returns c in
     let made = here.After-build in
-    let is : (read_table (whole made)).verdict ≡ Accepted = ap (λ (l : List ℕ). (read_table l).verdict) (sym (built made)) ∙ sym c.judge.ensures ∙ c.in-Accepted.is in
+    let x : Unit = c.map_err.ensures.cases in let is : (read_table (whole made)).verdict ≡ Ok tt = ? in
     let left = c.put.ensures ∙ ap (λ (l : List ℕ). splice c.args.out.now 0 (length l) l) (built made) ∙ splice-first c.args.out.now (whole made) in
     let none = conflict here.After-size_of-size ∙ c.if-size-ne0.false in
     rw (← whole_length made, left) (fits-accepted (of here.Start) c.args.ids.now c.args.out.now none (omega (arith, whole_length made, c.if-out-n.false)) is)
-
-pub returns-in-Refused : goal.returns-in-Refused
-returns-in-Refused c =
-    let here = goal.at.returns-in-Refused c in
-    let made = here.After-build in
-    let is = ap (λ (l : List ℕ). (read_table l).verdict) (sym (built made)) ∙ sym c.judge.ensures ∙ c.in-Refused.is in
-    let none = conflict here.After-size_of-size ∙ c.if-size-ne0.false in
-    fits_refused (of here.Start) c.args.ids.now c.args.out.now none (omega (arith, whole_length made, c.if-out-n.false)) is
