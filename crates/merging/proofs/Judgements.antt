@@ -6,19 +6,20 @@ use lib.ListN.{length}
 use native.Mathlib.Omega.{arith}
 use Rattle.search.specs.Choice.{by_number}
 use Rattle.search.proofs.Choice.{when_no}
-use Rattle.std.specs.Prelude.{⊤}
+use Rattle.std.specs.Prelude.{⊤, MatchResult, IsErrAnd}
 use Rattle.std.specs.declared.result.Result.{Result}
 use Rattle.std.specs.declared.result.Result.TheVariants.{Ok, Err}
 use Rattle.table.specs.Bytes.{Bytes}
 use Rattle.table.specs.Refusal.{Verdict}
 use Rattle.table.specs.Read.{unless, by_verdict, read_table}
 use Rattle.table.specs.declared.refusal.Refusal.{Refusal}
+use Rattle.table.specs.declared.refusal.Fault.{Fault}
 use Rattle.table.proofs.Accepted.{taken}
 use Rattle.merging.specs.Versions.{Versions, three, by_versions}
 use Rattle.merging.specs.Rule.{conflict_above}
 use Rattle.merging.specs.Merge.{Answer, refusal_of, of_ancestor, of_first, of_second, result_of, fitted, merged_of, Merges}
 use Rattle.merging.specs.declared.Unmerged.{Unmerged}
-use Rattle.merging.specs.declared.Unmerged.TheVariants.{Conflict}
+use Rattle.merging.specs.declared.Unmerged.TheVariants.{Conflict, NoRoom}
 use Rattle.merging.specs.Code.Parts.{AllTaken}
 use Rattle.merging.specs.Code.Judged.{judged_of, AllAccepted}
 
@@ -31,6 +32,52 @@ all-taken {ancestor} {first} {second} a b c d =
 abbrev accepts : Result ⊤ Unmerged
 accepts = Ok tt
 
+apart : {e : Unmerged} → Err e ≡ accepts → ⊥
+apart e = let z : ◌≡◌ {A = ℕ} 0 1 = cc in omega arith
+
+-- a fault as that of one of the tables: what is made of a verdict by such a V
+abbrev Mapped : (Fault → Unmerged) → Verdict → Result ⊤ Unmerged → Type 0
+Mapped V r q = MatchResult r (λ u. q ≡ Ok u) (λ f. IsErrAnd q (λ e. e ≡ V f))
+
+abbrev made : (Fault → Unmerged) → Verdict → Result ⊤ Unmerged
+made V r = unless (λ n place. Err (V (n, place))) r accepts
+
+pub mapped : (V : Fault → Unmerged) (r : Verdict) (q : Result ⊤ Unmerged) → Mapped V r q → q ≡ made V r
+unfolding unless
+mapped V (Ok u) q m = m
+mapped V (Err f) (Ok u) m = absurd m
+mapped V (Err f) (Err e) m = ap Err m
+
+pub mapped-ok : (V : Fault → Unmerged) (r : Verdict) (q : Result ⊤ Unmerged) → Mapped V r q → q ≡ accepts → r ≡ Ok tt
+unfolding unless
+mapped-ok V r q m h = by r (sym (mapped V r q m) ∙ h)
+  where
+    by : (r : Verdict) → made V r ≡ accepts → r ≡ Ok tt
+    by (Ok u) z = refl
+    by (Err f) z = absurd (apart z)
+
+reason : Result ⊤ Unmerged → Unmerged
+reason (Ok u) = NoRoom
+reason (Err e) = e
+
+pub mapped-err : (V : Fault → Unmerged) (r : Verdict) (q : Result ⊤ Unmerged) {e : Unmerged} → Mapped V r q → q ≡ Err e → (f : Fault) × (r ≡ Err f) × (e ≡ V f)
+unfolding unless reason
+mapped-err V r q {e} m h = by r (sym (mapped V r q m) ∙ h)
+  where
+    by : (r : Verdict) → made V r ≡ Err e → (f : Fault) × (r ≡ Err f) × (e ≡ V f)
+    by (Ok u) z = absurd (apart (sym z))
+    by (Err f) z = (f, refl, sym (ap reason z))
+
+-- so nothing after it is asked
+pub mapped-stops : (V : Fault → Unmerged) (r : Verdict) (q : Result ⊤ Unmerged) {e : Unmerged} → Mapped V r q → q ≡ Err e
+    → (rest : Result ⊤ Unmerged) → unless (λ n place. Err (V (n, place))) r rest ≡ Err e
+unfolding unless
+mapped-stops V r q {e} m h rest = by r (sym (mapped V r q m) ∙ h)
+  where
+    by : (r : Verdict) → made V r ≡ Err e → unless (λ n place. Err (V (n, place))) r rest ≡ Err e
+    by (Ok u) z = absurd (apart (sym z))
+    by (Err f) z = z
+
 -- an answer after the judgement, where a refusal is answered in its own way
 abbrev after : {A : Type 0} → (Unmerged → A) → Result ⊤ Unmerged → A → A
 after refuse (Ok u) answer = answer
@@ -42,9 +89,6 @@ module _ (v : Versions) where
   unfolding judged_of unless
   says-accepted = by (read_table v.ancestor).verdict (read_table v.first).verdict (read_table v.second).verdict refl refl refl
     where
-      apart : {e : Unmerged} → Err e ≡ accepts → ⊥
-      apart e = let z : ◌≡◌ {A = ℕ} 0 1 = cc in omega arith
-
       by : (a b c : Verdict) → (read_table v.ancestor).verdict ≡ a → (read_table v.first).verdict ≡ b → (read_table v.second).verdict ≡ c
           → unless of_ancestor a (unless of_first b (unless of_second c accepts)) ≡ accepts → AllAccepted v
       by (Err x) b c e f g h = absurd (apart h)

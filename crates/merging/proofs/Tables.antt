@@ -27,6 +27,7 @@ use Rattle.table.specs.Refusal.{Verdict, numbered}
 use Rattle.std.specs.declared.result.Result.TheVariants.{Ok, Err}
 use Rattle.table.specs.declared.refusal.Refusal.{Refusal}
 use Rattle.table.specs.declared.refusal.Refusal.TheVariants.{BadMark, BadChainCount}
+use Rattle.table.proofs.Numbers.{numbered_same}
 use Rattle.table.proofs.Accepted.{taken, accepted-short}
 use Rattle.table.proofs.Widths.{limit-least}
 use Rattle.slices.specs.Stored.{record_of, form_in, OneForm, Mixed}
@@ -34,7 +35,7 @@ use Rattle.slices.proofs.Bytes.{bytes_append, bytes_take, bytes_drop, bytes-flat
 use Rattle.slices.proofs.Parts.{Parts, row_in, all-at, map_at}
 use Rattle.slices.proofs.Parsed.{parts-rows}
 use Rattle.slices.proofs.Records.{records_from, length-records, records-at, record_form, parts-count, parts_record, parts-form}
-use Rattle.slices.proofs.Sound.{Sound, named, record_sound, tasks_in, NoTable, tasks-first, no_table, mixed-refused}
+use Rattle.slices.proofs.Sound.{Sound, record_sound, tasks_in, NoTable, tasks-first, no_table, mixed-refused}
 use Rattle.merging.specs.Versions.{Versions, state_of, ids_of}
 use Rattle.merging.specs.Rule.{taken_of, among, joined, order}
 use Rattle.merging.specs.Merge.{is_record, taken_records, result_of}
@@ -210,7 +211,7 @@ module _ (v : Versions) (e : Edited v) where
 
         by : (w : Verdict) → (read_table (result_of v)).verdict ≡ w → (place : ℕ) × ((read_table (result_of v)).verdict ≡ Err (BadChainCount, place)) × (length (result_of v) ≤ 4)
         by (Ok u) f = absurd (omega (arith, ap length (sym (result-records f)) ∙ length-records (result_of v) (table_of (result_of v)).count 0, ap length none-taken, (taken (result_of v) result-bytes f).good.some))
-        by (Err f) e = let h : (read_table (result_of v)).verdict ≡ Err (f.0, f.1) = e in (f.1, h ∙ ap (λ n. Err (n, f.1)) (named f.0 11 (number (refused_for e))), omega (arith, result-length, short))
+        by (Err f) e = (f.1, e ∙ ap (λ k. Err (k, f.1)) (numbered_same f.0 BadChainCount (number (refused_for e))), omega (arith, result-length, short))
 
   -- records of an accepted table, in any order, are an accepted result
   module _ (s : List ℕ) (bytes : Bytes s) (verdict : (read_table s).verdict ≡ Ok tt) (p : Permᴰ (records_in s bytes verdict) (taken_records v)) where

@@ -7,15 +7,18 @@ use native.Mathlib.Omega.{arith}
 use Rattle.search.proofs.Keeping.{keep-length}
 use Rattle.table.specs.Read.{read_table}
 use Rattle.std.specs.Prelude.{Ok}
+use Rattle.table.proofs.Firsts.{handed_on}
 use Rattle.slices.proofs.Splices.{splice-first}
 use Rattle.slices.specs.Slices.{splice}
 use Rattle.slices.specs.Code.Begins.{Begins}
 use Rattle.merging.specs.Versions.{Versions}
 use Rattle.merging.specs.Rule.{taken_of}
 use Rattle.merging.specs.Merge.{versions, is_record}
+use Rattle.merging.specs.declared.Unmerged.TheVariants.{Merged}
 use Rattle.merging.specs.declared.result.Size.{Size}
 use Rattle.merging.specs.Code.Size.{states_of, least_of, result_from}
 use Rattle.merging.proofs.Results.{result-length, states-short, fits-conflict, fits_not, fits-long, fits_refused, fits-accepted}
+use Rattle.merging.proofs.Judgements.{mapped-ok, mapped-err}
 use Rattle.merging.proofs.result.fit.Goals as goal
 use Rattle.merging.proofs.result.fit.Goals.{After-build, After-size_of-size, Start}
 
@@ -90,13 +93,20 @@ pub put-requires : goal.put-requires
 put-requires c = omega (arith, length-take-n (goal.at.put-requires c).After-build, c.if-out-n.false)
 
 pub returns-in_err-map_err : goal.returns-in_err-map_err
-returns-in_err-map_err c = let x : Unit = c.map_err.ensures.cases in ?
+returns-in_err-map_err c =
+    let here = goal.at.returns-in_err-map_err c in
+    let made = here.After-build in
+    let p = mapped-err Merged _ _ c.map_err.ensures.cases c.in_err-map_err.was in
+    let is = ap (λ (l : List ℕ). (read_table l).verdict) (sym (built made)) ∙ sym c.judge.ensures ∙ p.1 in
+    let none = conflict here.After-size_of-size ∙ c.if-size-ne0.false in
+    rw (handed_on _ c.from_residual.ensures.1, p.2) (fits_refused (of here.Start) c.args.ids.now c.args.out.now none (omega (arith, whole_length made, c.if-out-n.false)) is)
 
 pub returns : goal.returns
 returns c =
     let here = goal.at.returns c in
     let made = here.After-build in
-    let x : Unit = c.map_err.ensures.cases in let is : (read_table (whole made)).verdict ≡ Ok tt = ? in
+    let o = mapped-ok Merged _ _ c.map_err.ensures.cases c.in_ok-map_err.was in
+    let is : (read_table (whole made)).verdict ≡ Ok tt = ap (λ (l : List ℕ). (read_table l).verdict) (sym (built made)) ∙ sym c.judge.ensures ∙ o in
     let left = c.put.ensures ∙ ap (λ (l : List ℕ). splice c.args.out.now 0 (length l) l) (built made) ∙ splice-first c.args.out.now (whole made) in
     let none = conflict here.After-size_of-size ∙ c.if-size-ne0.false in
     rw (← whole_length made, left) (fits-accepted (of here.Start) c.args.ids.now c.args.out.now none (omega (arith, whole_length made, c.if-out-n.false)) is)
