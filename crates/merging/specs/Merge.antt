@@ -1,6 +1,6 @@
 -- Merge of two edited tables, given their common ancestor (02, request 4): the result, the refusals in order, and what the calls hand back.
 use Rattle.std.specs.Prelude.{ℕ, ◌+◌, ◌≡◌, Bool, length, drop, ltb, is_ok}
-use mathlib.Core.List.{List, [], ◌∷◌, ◌++◌, map, flatten}
+use mathlib.Core.List.{List, [], ◌++◌, map, flatten}
 use Rattle.std.specs.Borrow.{Bor}
 use Rattle.search.specs.Choice.{◌when◌else◌, by_number}
 use Rattle.search.specs.Lists.{keep}

@@ -69,7 +69,12 @@ pub fn conflict(ancestor: &[u8], first: &[u8], second: &[u8], above: u32) -> Res
 }
 
 // The result becomes the first bytes of `out`; refused, every byte stays.
-pub fn merge<'a>(ancestor: &[u8], first: &'a [u8], second: &'a [u8], out: &mut [u8]) -> Result<u32, Unmerged>
+pub fn merge<'a>(
+    ancestor: &[u8],
+    first: &'a [u8],
+    second: &'a [u8],
+    out: &mut [u8],
+) -> Result<u32, Unmerged>
     ensures { Merges (versions ancestor.entry first.entry second.entry) out.old result out.new }
 {
     judge_all(ancestor, first, second)?;

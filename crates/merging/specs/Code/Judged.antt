@@ -2,7 +2,7 @@
 use Rattle.std.specs.Prelude.{◌≡◌, ⊤}
 use Rattle.table.specs.Read.{unless, read_table}
 use Rattle.std.specs.declared.result.Result.{Result}
-use Rattle.std.specs.declared.result.Result.TheVariants.{Ok, Err}
+use Rattle.std.specs.declared.result.Result.TheVariants.{Ok}
 use Rattle.merging.specs.Versions.{Versions}
 use Rattle.merging.specs.Merge.{of_ancestor, of_first, of_second}
 use Rattle.merging.specs.declared.Unmerged.{Unmerged}
