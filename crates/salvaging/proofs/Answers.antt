@@ -11,19 +11,20 @@ use lib.Dec.{eqb, ltb}
 use borrow.Author.Tests.{lt-ltb, le-ltb, eq-eqb, ne_eqb, eqb-false}
 use Rattle.search.proofs.Choice.{when_yes, when_no, when_cases}
 use Rattle.table.specs.Limits.{max_input}
+use Rattle.table.specs.declared.refusal.Refusal.TheVariants.{BufferShort, InputTooLong, NothingKept}
 use Rattle.table.proofs.Firsts.{or_left, or_right, or_none}
 use Rattle.salvaging.specs.Kept.{kept_places}
-use Rattle.salvaging.specs.Salvage.{table_kept, list_skipped, fitted, salvaged_of, buffer_after, Salvages}
-use Rattle.salvaging.specs.declared.Salvaged.{Salvaged}
-use Rattle.salvaging.specs.declared.Salvaged.TheVariants.{Used, Refused}
+use Rattle.salvaging.specs.Salvage.{Answer, table_kept, list_skipped, fitted, salvaged_of, buffer_after, Salvages}
+use Rattle.std.specs.declared.result.Result.TheVariants.{Ok, Err}
+use Rattle.salvaging.specs.declared.Lengths.{Lengths}
 
 module _ (tableRoom listRoom : ℕ) (s : List ℕ) where
-  pub too_long : max_input < length s → salvaged_of tableRoom listRoom s ≡ Refused 35
+  pub too_long : max_input < length s → salvaged_of tableRoom listRoom s ≡ Err InputTooLong
   unfolding salvaged_of
   too_long l = when_yes _ _ (lt-ltb max_input (length s) l)
 
   module _ (short : length s ≤ max_input) where
-    pub nothing_kept : length (kept_places s) ≡ 0 → salvaged_of tableRoom listRoom s ≡ Refused 36
+    pub nothing_kept : length (kept_places s) ≡ 0 → salvaged_of tableRoom listRoom s ≡ Err NothingKept
     unfolding salvaged_of
     nothing_kept e = when_no _ _ (le-ltb max_input (length s) short) ∙ when_yes _ _ (eq-eqb _ _ e)
 
@@ -32,21 +33,21 @@ module _ (tableRoom listRoom : ℕ) (s : List ℕ) where
       unfolding salvaged_of
       is-fitted = when_no _ _ (le-ltb max_input (length s) short) ∙ when_no _ _ (ne_eqb (length (kept_places s)) 0 (λ e. omega (arith, e)))
 
-      pub no_room_holds : (tableRoom < length (table_kept s)) ⊎ (listRoom < length (list_skipped s)) → salvaged_of tableRoom listRoom s ≡ Refused 24
+      pub no_room_holds : (tableRoom < length (table_kept s)) ⊎ (listRoom < length (list_skipped s)) → salvaged_of tableRoom listRoom s ≡ Err BufferShort
       no_room_holds h = is-fitted ∙ when_yes _ _ (⊎_elim (λ l. or_left _ _ (lt-ltb _ _ l)) (λ l. or_right (ltb tableRoom (length (table_kept s))) _ (lt-ltb _ _ l)) h)
 
-      pub has-room : length (table_kept s) ≤ tableRoom → length (list_skipped s) ≤ listRoom → salvaged_of tableRoom listRoom s ≡ Used (length (table_kept s)) (length (list_skipped s))
+      pub has-room : length (table_kept s) ≤ tableRoom → length (list_skipped s) ≤ listRoom → salvaged_of tableRoom listRoom s ≡ Ok (record { table = length (table_kept s); list = length (list_skipped s) })
       has-room l m = is-fitted ∙ when_no _ _ (or_none _ _ (le-ltb tableRoom (length (table_kept s)) l) (le-ltb listRoom (length (list_skipped s)) m))
 
 -- what an answer with lengths says: they are those of the two results, and a record was kept
-pub record Made (s : List ℕ) (n m : ℕ) : Type 0 where
-  pub table_long : n ≡ length (table_kept s)
-  pub list_long : m ≡ length (list_skipped s)
+pub record Made (s : List ℕ) (used : Lengths) : Type 0 where
+  pub table_long : used.table ≡ length (table_kept s)
+  pub list_long : used.list ≡ length (list_skipped s)
   pub some : 1 ≤ length (kept_places s)
 
-abbrev Makes : List ℕ → Salvaged → Type 0
-Makes s (Used n m) = Made s n m
-Makes s (Refused n) = Unit
+abbrev Makes : List ℕ → Answer → Type 0
+Makes s (Ok used) = Made s used
+Makes s (Err n) = Unit
 
 makes : (tableRoom listRoom : ℕ) (s : List ℕ) → Makes s (salvaged_of tableRoom listRoom s)
 unfolding salvaged_of
@@ -59,17 +60,17 @@ makes tableRoom listRoom s =
     some : (length (kept_places s) ≡ 0 → ⊥) → 1 ≤ length (kept_places s)
     some none = omega (arith, none)
 
-pub made : {s table list tableAfter listAfter : List ℕ} {answer : Salvaged} → Salvages s table list answer tableAfter listAfter → {n m : ℕ} → answer ≡ Used n m → Made s n m
+pub made : {s table list tableAfter listAfter : List ℕ} {answer : Answer} → Salvages s table list answer tableAfter listAfter → {used : Lengths} → answer ≡ Ok used → Made s used
 made {s} {table} {list} c e = subst (Makes s) (sym c.answers ∙ e) (makes (length table) (length list) s)
 
 -- a buffer after it begins with its result, and the rest of it stays
-left_in : (result buffer after : List ℕ) (n m k : ℕ) → after ≡ buffer_after (Used n m) result buffer → k ≡ length result → (take k after ≡ result) × (drop k after ≡ drop k buffer)
-left_in result buffer after n m k e f =
+left_in : (result buffer after : List ℕ) (used : Lengths) (k : ℕ) → after ≡ buffer_after (Ok used) result buffer → k ≡ length result → (take k after ≡ result) × (drop k after ≡ drop k buffer)
+left_in result buffer after used k e f =
     let g = e ∙ when_yes _ _ refl in
     (rw g (take_at result (drop (length result) buffer) k (sym f)), rw g (drop_at result (drop (length result) buffer) k (sym f) ∙ ap (λ i. drop i buffer) (sym f)))
 
-pub leaves : {s table list tableAfter listAfter : List ℕ} {n m : ℕ} → Salvages s table list (Used n m) tableAfter listAfter
-    → ((take n tableAfter ≡ table_kept s) × (drop n tableAfter ≡ drop n table)) × ((take m listAfter ≡ list_skipped s) × (drop m listAfter ≡ drop m list))
-leaves {s} {table} {list} {tableAfter} {listAfter} {n} {m} c =
+pub leaves : {s table list tableAfter listAfter : List ℕ} {used : Lengths} → Salvages s table list (Ok used) tableAfter listAfter
+    → ((take used.table tableAfter ≡ table_kept s) × (drop used.table tableAfter ≡ drop used.table table)) × ((take used.list listAfter ≡ list_skipped s) × (drop used.list listAfter ≡ drop used.list list))
+leaves {s} {table} {list} {tableAfter} {listAfter} {used} c =
     let u = made c refl in
-    (left_in (table_kept s) table tableAfter n m n c.leaves_table u.table_long, left_in (list_skipped s) list listAfter n m m c.leaves_list u.list_long)
+    (left_in (table_kept s) table tableAfter used used.table c.leaves_table u.table_long, left_in (list_skipped s) list listAfter used used.list c.leaves_list u.list_long)

@@ -16,9 +16,9 @@ use Rattle.table.specs.Find.{row_of}
 use Rattle.table.specs.Place.{place_of}
 use Rattle.table.specs.Read.{empty, plus, records, read_table, table_of}
 use Rattle.table.specs.declared.Row.{Row}
-use Rattle.table.specs.declared.Reading.{Reading}
+use Rattle.table.specs.Read.{Reading}
 use Rattle.table.specs.declared.Table.{Table}
-use Rattle.table.specs.declared.Verdict.TheVariants.{Accepted}
+use Rattle.std.specs.declared.result.Result.TheVariants.{Ok}
 use Rattle.table.proofs.Faultless.{BesideRight, beside-is}
 use Rattle.slices.proofs.Parts.{Whole, Parts}
 use Rattle.slices.proofs.Parsed.{stands-long, stands-rest, stands-mark, stands-inside, chain-read, started}
@@ -74,7 +74,7 @@ module _ (s : List ℕ) where
 
   -- each record of an accepted table is acceptable beside those before it, and the end record's four bytes are none
   walked : (rs : List (List ℕ)) (at : ℕ) (t : Table) (e : List ℕ) → drop at s ≡ flatten rs ++ e → All Whole rs → length e ≡ 4
-      → t.count ≤ max_chains → length t.row ≡ max_chains → Formed t → (records (max_chains - t.count) s at t).verdict ≡ Accepted → Walks s at t (places_from at rs)
+      → t.count ≤ max_chains → length t.row ≡ max_chains → Formed t → (records (max_chains - t.count) s at t).verdict ≡ Ok tt → Walks s at t (places_from at rs)
   unfolding Walks places_from flatten
   walked [] at t e d w n few long f a = λ i l. not-whole s i t (omega (arith, length-drop at s, ap length d))
   walked (r ∷ rs) at t e d w n few long f a =
@@ -84,7 +84,7 @@ module _ (s : List ℕ) where
       let next = at + length_at s at in
       let more = plus t (row_at s at) in
       let on = walked rs next more e (stands-rest s at r (flatten rs ++ e) d' w.0) w.1 n (omega (arith, c.1)) (simp length-set long) (formed-on at t c.0 long f)
-      (subst (λ (x : Reading). x.verdict ≡ Accepted) c.2 a) in (
+      (subst (λ (x : Reading). x.verdict ≡ Ok tt) c.2 a) in (
         record {
           on = omega arith;
           none = λ i k l. absurd (omega (arith, k, l));
@@ -127,7 +127,7 @@ module _ (s : List ℕ) where
       none_before r rs at left long ∙ back_end rs (at + length r) left e (rw long at (stands-rest s at r (flatten rs ++ e) d' w.0)) w.1 n (omega arith)
 
 -- an accepted table
-module _ (s : List ℕ) (bytes : Bytes s) (verdict : (read_table s).verdict ≡ Accepted) where
+module _ (s : List ℕ) (bytes : Bytes s) (verdict : (read_table s).verdict ≡ Ok tt) where
   abbrev t : Table
   t = table_of s
 

@@ -17,7 +17,7 @@ use Rattle.table.specs.Find.{row_of, rows}
 use Rattle.table.specs.Read.{empty, plus, read_table, table_of}
 use Rattle.table.specs.declared.Row.{Row}
 use Rattle.table.specs.declared.Table.{Table}
-use Rattle.table.specs.declared.Verdict.TheVariants.{Accepted}
+use Rattle.std.specs.declared.result.Result.TheVariants.{Ok}
 use Rattle.table.proofs.Goods.{row-good}
 use Rattle.table.proofs.Words.{bytes-of}
 use Rattle.table.proofs.Widths.{limit-most}
@@ -162,7 +162,7 @@ module _ (s : List ℕ) where
       }
 
       -- it is accepted, and its rows are those of the records kept
-      pub kept-accepted : (read_table (table_kept s)).verdict ≡ Accepted
+      pub kept-accepted : (read_table (table_kept s)).verdict ≡ Ok tt
       kept-accepted = rw (← count) (together-accepted together)
 
       pub kept-rows : rows (table_of (table_kept s)) ≡ map (row_at s) places

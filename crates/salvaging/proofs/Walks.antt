@@ -23,23 +23,25 @@ use Rattle.table.specs.declared.Row.{Row}
 use Rattle.table.specs.declared.Table.{Table}
 use Rattle.table.specs.declared.before.Before.{Before}
 use Rattle.table.specs.declared.Mark.TheVariants.{Chain}
-use Rattle.table.specs.declared.Verdict.{Verdict}
-use Rattle.table.specs.declared.Verdict.TheVariants.{Accepted, Refused}
+use Rattle.std.specs.Prelude.{is_ok}
+use Rattle.std.specs.declared.result.Result.TheVariants.{Ok, Err}
+use Rattle.table.specs.Refusal.{Verdict}
+use Rattle.table.specs.declared.refusal.Fault.{Fault}
 use Rattle.table.proofs.Earlier.{before_more}
 use Rattle.table.proofs.Marks.{chain-told}
 use Rattle.table.proofs.Faultless.{ChainRight, chain-right, BesideRight, beside-right}
-use Rattle.salvaging.specs.Kept.{is_accepted, form_beside, acceptable, kept}
+use Rattle.salvaging.specs.Kept.{form_beside, acceptable, kept}
 use Rattle.salvaging.specs.Code.Walk.{Knows, InOrder}
 
-accepted-told : (v : Verdict) → is_accepted v ≡ true → v ≡ Accepted
-accepted-told Accepted e = refl
-accepted-told (Refused n place) e = absurd (true-not-false e refl)
+accepted-told : (v : Verdict) → is_ok v ≡ true → v ≡ Ok tt
+accepted-told (Ok u) e = refl
+accepted-told (Err f) e = absurd (true-not-false e refl)
 
 module _ (s : List ℕ) (at : ℕ) (t : Table) where
   -- what an acceptable record is
   pub record Acceptable : Type 0 where
     pub mark : mark_of (word 2 s at) ≡ Chain
-    pub beside : beside_fault s at (form_beside s at t) t ≡ Accepted
+    pub beside : beside_fault s at (form_beside s at t) t ≡ Ok tt
     pub right : BesideRight s at (form_beside s at t) t
     pub chain : ChainRight s at t
 
@@ -51,7 +53,7 @@ module _ (s : List ℕ) (at : ℕ) (t : Table) where
       let right = beside-right s at (form_beside s at t) t beside in
       record { mark = chain-told _ both.0; beside = beside; right = right; chain = chain-right s at t right.chain }
 
-  pub acceptable-given : mark_of (word 2 s at) ≡ Chain → beside_fault s at (form_beside s at t) t ≡ Accepted → acceptable s at t ≡ true
+  pub acceptable-given : mark_of (word 2 s at) ≡ Chain → beside_fault s at (form_beside s at t) t ≡ Ok tt → acceptable s at t ≡ true
   unfolding acceptable
   acceptable-given m e = rw (m, e)
 
@@ -60,11 +62,11 @@ module _ (s : List ℕ) (at : ℕ) (t : Table) where
   unfolding acceptable
   no_chain e = rw e
 
-  pub not-beside : {n place : ℕ} → beside_fault s at (form_beside s at t) t ≡ Refused n place → acceptable s at t ≡ false
-  not-beside f = by (acceptable s at t) refl
+  pub not-beside : {f : Fault} → beside_fault s at (form_beside s at t) t ≡ Err f → acceptable s at t ≡ false
+  not-beside g = by (acceptable s at t) refl
     where
       by : (b : Bool) → acceptable s at t ≡ b → b ≡ false
-      by true e = absurd (true-not-false {b = true} refl (ap is_accepted (sym (acceptable-says e).beside ∙ f)))
+      by true e = absurd (true-not-false {b = true} refl (ap (λ (v : Verdict). is_ok v) (sym (acceptable-says e).beside ∙ g)))
       by false e = refl
 
   pub not-whole : length s < at + 12 → acceptable s at t ≡ false
@@ -89,7 +91,7 @@ pub first-stays : (t : Table) (r : Row) → (t.count ≡ 0 → ⊥) → row_of (
 first-stays t r some = get_or-set_other t.row t.count 0 r blank (λ e. some (sym e))
 
 -- the form that the code asks for
-pub form_needed : (s : List ℕ) (at : ℕ) {ids : List ℕ} {before : Before} {form : ℕ} {t : Table} → Knows ids before form t → (form_at s at when eqb before.count 0 else form) ≡ form_beside s at t
+pub form_needed : (s : List ℕ) (at : ℕ) {before : Before} {form : ℕ} {t : Table} → Knows before form t → (form_at s at when eqb before.count 0 else form) ≡ form_beside s at t
 unfolding form_beside
 form_needed s at {before = before} {form = form} {t = t} b = rw (← b.keeps.count)
     (when_cases (λ f. f ≡ (form_at s at when eqb before.count 0 else (row_of t 0).form)) (eqb before.count 0)
@@ -189,10 +191,10 @@ module _ (s : List ℕ) where
     found-kept h = over ∙ from-keep place t (found-one h)
 
 -- what the code knows beside one row more
-pub beside-more : (s : List ℕ) (place : ℕ) {ids : List ℕ} {before : Before} {form : ℕ} {t : Table} → Knows ids before form t → length ids ≡ max_chains → acceptable s place t ≡ true
-    → Knows (set ids before.count (id_at s place)) (record { count = before.count + 1; tasks = before.tasks + tasks_at s place }) (form_at s place) (plus t (row_at s place))
+pub beside-more : (s : List ℕ) (place : ℕ) {before : Before} {form : ℕ} {t : Table} → Knows before form t → length before.ids ≡ max_chains → acceptable s place t ≡ true
+    → Knows (record { ids = set before.ids before.count (id_at s place); count = before.count + 1; tasks = before.tasks + tasks_at s place }) (form_at s place) (plus t (row_at s place))
 unfolding row_at form_beside
-beside-more s place {ids} {before} {form} {t} b size e =
+beside-more s place {before} {form} {t} b size e =
     record { keeps = before_more t (row_at s place) b.keeps; form_is = λ some. by t.count refl }
   where
     rows : length t.row ≡ max_chains

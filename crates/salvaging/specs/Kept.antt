@@ -1,5 +1,5 @@
 -- Which records of a damaged table are kept (02, request 8).
-use Rattle.std.specs.Prelude.{ℕ, zero, suc, ◌+◌, List, [], ◌∷◌, Bool, true, false, ◌&&◌, length, eqb}
+use Rattle.std.specs.Prelude.{ℕ, zero, suc, ◌+◌, List, [], ◌∷◌, Bool, true, false, ◌&&◌, length, eqb, is_ok}
 use Rattle.search.specs.Choice.{◌when◌else◌}
 use Rattle.table.specs.Bytes.{word}
 use Rattle.table.specs.Record.{form_at, row_at, length_at}
@@ -7,12 +7,6 @@ use Rattle.table.specs.Find.{row_of}
 use Rattle.table.specs.Fault.{mark_of, is_chain, beside_fault}
 use Rattle.table.specs.Read.{empty, plus}
 use Rattle.table.specs.declared.Table.{Table}
-use Rattle.table.specs.declared.Verdict.{Verdict}
-use Rattle.table.specs.declared.Verdict.TheVariants.{Accepted, Refused}
-
-abbrev pub is_accepted : Verdict → Bool
-is_accepted Accepted = true
-is_accepted (Refused n place) = false
 
 -- the form that a record at `at` must have beside the rows of t: the first one's, its own where it is the first
 unfoldable pub form_beside : List ℕ → ℕ → Table → ℕ
@@ -21,7 +15,7 @@ form_beside s at t = form_at s at when eqb t.count 0 else (row_of t 0).form
 -- a whole chain record starts at `at` that is acceptable beside the rows of t, by the reader's own judgement: its form, whether it is one
 -- too many, its own rules, an id that none of them bears, the tasks in all
 unfoldable pub acceptable : List ℕ → ℕ → Table → Bool
-acceptable s at t = is_chain (mark_of (word 2 s at)) && is_accepted (beside_fault s at (form_beside s at t) t)
+acceptable s at t = is_chain (mark_of (word 2 s at)) && is_ok (beside_fault s at (form_beside s at t) t)
 
 -- where the records stand that are kept from `at` on, beside the rows of t, in so many steps: if an acceptable one starts here, it is kept
 -- and the walk goes on after it; otherwise it moves on one byte. Beside 16 rows none is acceptable

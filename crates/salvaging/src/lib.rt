@@ -24,12 +24,12 @@ pub fn salvage(s: &[u8], table: &mut [u8], list: &mut [u8]) -> Result<Lengths, R
     ensures { Salvages s.now table.old list.old result table.new list.new }
 {
     if Table::INPUT < s.len() {
-        return Salvaged::Refused(35);
+        return Err(Refusal::InputTooLong);
     }
     let mut places = [0usize; Table::CHAINS];
     let n = walk(s, &mut places);
     if n == 0 {
-        return Salvaged::Refused(36);
+        return Err(Refusal::NothingKept);
     }
     fit(s, &places[..n], table, list)
 }

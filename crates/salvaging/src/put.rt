@@ -90,21 +90,21 @@ fn put_stretches(s: &[u8], places: &[usize], out: &mut [u8]) -> usize
     end
 }
 
-// 24 where either result is longer than its buffer; else both are put, the table with its end record.
+// Puts both results, the table with its end record, unless one is longer than its buffer.
 pub fn fit(s: &[u8], places: &[usize], table: &mut [u8], list: &mut [u8]) -> Result<Lengths, Refusal>
     requires { InOrder s.now 0 places.now × (length places.now ≤ max_chains) × (length s.now ≤ max_input) }
     ensures { Fits s.now places.now table.old list.old result table.new list.new }
 {
     let size = size_of(s, places);
     if table.len() < size.bytes + 4 || list.len() < 8 * size.stretches {
-        return Salvaged::Refused(24);
+        return Err(Refusal::BufferShort);
     }
     let end = put_records(s, places, table);
     // `EN`, and their number in the two bytes above it.
     put_u32(table, end, 20_037 + 65_536 * (places.len() as u32));
     let used = put_stretches(s, places, list);
-    Salvaged::Used {
+    Ok(Lengths {
         table: (end + 4) as u32,
         list: used as u32,
-    }
+    })
 }

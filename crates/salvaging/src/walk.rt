@@ -10,8 +10,8 @@ ghost use Rattle.salvaging.specs.Kept.{acceptable};
 ghost use Rattle.salvaging.specs.Code.Walk.{is_task, NoC, least_head, starts_like, Knows, Walked};
 
 use table::{
-    Before, Mark, Row, Table, Verdict, beside_fault, form_at, head_length, id_at, mark_of,
-    tasks_part, u16_at,
+    Before, Mark, Row, Table, beside_fault, form_at, head_length, id_at, mark_of, tasks_part,
+    u16_at,
 };
 
 // The length of the shorter of the two fixed parts, that of `CG`.
@@ -101,31 +101,25 @@ fn leads_to_task(s: &[u8], at: usize) -> bool
 }
 
 // Whether an acceptable record starts at `at`, where the bytes start like one.
-fn accepts(s: &[u8], at: usize, form: u16, ids: &[u16; Table::CHAINS], before: Before) -> bool
-    requires { (starts_like s.now at ≡ true) × (before.count ≤ max_chains) × (before.tasks ≤ max_all_tasks) }
-    ensures { (t : Table) → Knows ids.now before form t → result ≡ acceptable s.now at t }
+fn accepts(s: &[u8], at: usize, form: u16, before: &Before) -> bool
+    requires { (starts_like s.now at ≡ true) × (before.now.count ≤ max_chains) × (before.now.tasks ≤ max_all_tasks) }
+    ensures { (t : Table) → Knows before.now form t → result ≡ acceptable s.now at t }
 {
     if !leads_to_task(s, at) {
         return false;
     }
     let needed = form_beside(s, at, form, before.count);
-    matches!(beside_fault(s, at, needed, ids, before), Verdict::Accepted)
+    beside_fault(s, at, needed, before).is_ok()
 }
 
 // The first place from `from` on at which an acceptable record starts, the length if there is none.
-fn next_record(
-    s: &[u8],
-    from: usize,
-    form: u16,
-    ids: &[u16; Table::CHAINS],
-    before: Before,
-) -> usize
-    requires { (from ≤ length s.now) × (before.count ≤ max_chains) × (before.tasks ≤ max_all_tasks) }
-    ensures { (t : Table) → Knows ids.now before form t → result ≡ first (λ i. acceptable s.now i t) from (length s.now - from) }
+fn next_record(s: &[u8], from: usize, form: u16, before: &Before) -> usize
+    requires { (from ≤ length s.now) × (before.now.count ≤ max_chains) × (before.now.tasks ≤ max_all_tasks) }
+    ensures { (t : Table) → Knows before.now form t → result ≡ first (λ i. acceptable s.now i t) from (length s.now - from) }
 {
     let mut at = next_start(s, from);
     while at < s.len() {
-        if accepts(s, at, form, ids, before) {
+        if accepts(s, at, form, before) {
             return at;
         }
         at = next_start(s, at + 1);
@@ -138,21 +132,18 @@ pub fn walk(s: &[u8], places: &mut [usize]) -> usize
     requires { length places.old ≡ max_chains }
     ensures { Walked s.now places.new result }
 {
-    let mut ids = [0u16; Table::CHAINS];
-    let mut all: usize = 0;
+    let mut before = Before::nothing();
     let mut form: u16 = 0;
     let mut at: usize = 0;
     for count in 0..Table::CHAINS {
-        let before = Before { count, tasks: all };
-        let place = next_record(s, at, form, &ids, before);
+        let place = next_record(s, at, form, &before);
         if place == s.len() {
             return count;
         }
         places[count] = place;
-        ids[count] = id_at(s, place);
         form = form_at(s, place);
         let tasks = tasks_part(s, place);
-        all += tasks.count;
+        before.add(id_at(s, place), tasks.count);
         at = place + (tasks.from + 8 * tasks.count);
     }
     Table::CHAINS

@@ -13,8 +13,7 @@ use Rattle.table.specs.declared.Mark.TheVariants.{Chain, Task, End, Unknown}
 use Rattle.table.specs.declared.before.Before.{Before}
 use Rattle.salvaging.specs.Kept.{kept_places}
 use Rattle.salvaging.specs.Skipped.{skipped_from}
-use Rattle.salvaging.specs.Salvage.{record_at, fitted, table_with, list_with, buffer_after}
-use Rattle.salvaging.specs.declared.Salvaged.{Salvaged}
+use Rattle.salvaging.specs.Salvage.{Answer, record_at, fitted, table_with, list_with, buffer_after}
 use Rattle.salvaging.specs.declared.put.Size.{Size}
 
 abbrev pub is_task : Mark → Bool
@@ -36,8 +35,8 @@ unfoldable pub starts_like : List ℕ → ℕ → Bool
 starts_like s at = leb (at + least_head) (length s) && leb (kind_at s at) 1 && leb (overload_at s at) 1 && is_chain (mark_of (word 2 s at))
 
 -- of the rows of t: what a record is judged by, and their form, if there is one
-pub record Knows (ids : List ℕ) (before : Before) (form : ℕ) (t : Table) : Type 0 where
-  pub keeps : Keeps ids before t
+pub record Knows (before : Before) (form : ℕ) (t : Table) : Type 0 where
+  pub keeps : Keeps before t
   pub form_is : (before.count ≡ 0 → ⊥) → form ≡ (row_of t 0).form
 
 -- the first r numbers are the places of the records kept
@@ -56,7 +55,7 @@ abbrev pub size_of : List ℕ → List ℕ → Size
 size_of s places = record { bytes = length (flatten (map (record_at s) places)); stretches = length (skipped_from max_chains s 0 places) }
 
 -- what is answered of these places, and left in the two buffers
-pub record Fits (s places table list : List ℕ) (answer : Salvaged) (tableAfter listAfter : List ℕ) : Type 0 where
+pub record Fits (s places table list : List ℕ) (answer : Answer) (tableAfter listAfter : List ℕ) : Type 0 where
   pub answers : answer ≡ fitted (length table) (length list) (table_with s places) (list_with s places)
   pub leaves_table : tableAfter ≡ buffer_after answer (table_with s places) table
   pub leaves_list : listAfter ≡ buffer_after answer (list_with s places) list

@@ -35,11 +35,8 @@ pub beside_fault-requires : goal.beside_fault-requires
 beside_fault-requires c = (omega (arith, there (goal.at.beside_fault-requires c).Start), c.requires.1, c.requires.2)
 
 -- what the reader says of it
-judged : (c : After-beside_fault) → (t : Table) → Knows c.args.ids.now c.args.before c.args.form t → beside_fault c.args.s.now c.args.at (form_beside c.args.s.now c.args.at t) t ≡ c.beside_fault.result
+judged : (c : After-beside_fault) → (t : Table) → Knows c.args.before.now c.args.form t → beside_fault c.args.s.now c.args.at (form_beside c.args.s.now c.args.at t) t ≡ c.beside_fault.result
 judged c t b = ap (λ f. beside_fault c.args.s.now c.args.at f t) (sym (c.form_beside-needed.ensures ∙ form_needed c.args.s.now c.args.at b)) ∙ sym (c.beside_fault.ensures t b.keeps)
 
-pub returns-in-Accepted : goal.returns-in-Accepted
-returns-in-Accepted c t b = sym (acceptable-given c.args.s.now c.args.at t (like_chain _ _ c.requires.0) (judged (goal.at.returns-in-Accepted c).After-beside_fault t b ∙ c.in-Accepted.is))
-
-pub returns-in_default : goal.returns-in_default
-returns-in_default c t b = sym (not-beside c.args.s.now c.args.at t (judged (goal.at.returns-in_default c).After-beside_fault t b ∙ c.in_default.is))
+pub returns : goal.returns
+returns c t b = ?

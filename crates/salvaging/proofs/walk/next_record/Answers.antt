@@ -60,7 +60,7 @@ inside c = omega (arith, c.loop-at-test.true)
 on : (c : After-next_start-at-in-loop-at) → ((at c) + 1 ≤ c.next_start-at-in-loop-at.result) × (c.next_start-at-in-loop-at.result ≤ length (all c))
 on c = bounds (all c) ((at c) + 1) c.next_start-at-in-loop-at.result (inside c) c.next_start-at-in-loop-at.ensures
 
-passed : (c : After-next_start-at-in-loop-at) → (t : Table) → Knows c.args.ids.now c.args.before c.args.form t → Passed (all c) c.args.from t c.next_start-at-in-loop-at.result
+passed : (c : After-next_start-at-in-loop-at) → (t : Table) → Knows c.args.before.now c.args.form t → Passed (all c) c.args.from t c.next_start-at-in-loop-at.result
 passed c t b = record {
   none = λ j a h e. ⊎_elim
       (λ l. (c.loop-at.invariant.3 t b).none j a l e)

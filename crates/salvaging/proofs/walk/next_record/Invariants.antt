@@ -14,7 +14,7 @@ pub record Passed (s : List ℕ) (from : ℕ) (t : Table) (at : ℕ) : Type 0 wh
   pub none : (j : ℕ) → from ≤ j → j < at → acceptable s j t ≡ true → ⊥
 
 abbrev pub invariant-loop-at : goal.invariant-loop-at
-invariant-loop-at l = (l.from ≤ l.at) × (l.at ≤ length l.s) × (l.at < length l.s → starts_like l.s l.at ≡ true) × ((t : Table) → Knows l.ids l.before l.form t → Passed l.s l.from t l.at)
+invariant-loop-at l = (l.from ≤ l.at) × (l.at ≤ length l.s) × (l.at < length l.s → starts_like l.s l.at ≡ true) × ((t : Table) → Knows l.before l.form t → Passed l.s l.from t l.at)
 
 abbrev pub decreases-loop-at : goal.decreases-loop-at
 decreases-loop-at l = length l.s - l.at

@@ -42,21 +42,22 @@ room : (c : Else-place-s) → c.loop-count.count < max_chains
 room c = omega (arith, c.loop-count-test.true)
 
 pub loop-count-init : goal.loop-count-init
-loop-count-init c = (
+loop-count-init c = let k = c.nothing-before.ensures in (
   empty,
   record {
+    counts = k.count;
     few = omega arith;
-    all_few = omega arith;
+    all_few = omega (arith, k.tasks);
     inside = omega arith;
-    size = refl;
+    size = ap length k.bear;
     long = c.requires;
-    beside = record { keeps = record { bear = refl; count = refl; tasks = refl }; form_is = λ h. absurd (h refl) };
+    beside = record { keeps = k; form_is = λ h. absurd (h k.count) };
     left = let e : length c.args.s.now - 0 ≡ length c.args.s.now = omega arith in rw e;
   },
 )
 
 pub next_record-place-requires : goal.next_record-place-requires
-next_record-place-requires c = let i = c.loop-count.invariant.1 in (i.inside, i.few, i.all_few)
+next_record-place-requires c = let i = c.loop-count.invariant.1 in (i.inside, omega (arith, i.few, i.counts), i.all_few)
 
 pub returns-then-place-s : goal.returns-then-place-s
 returns-then-place-s c = let i = c.loop-count.invariant.1 in
@@ -70,13 +71,7 @@ pub bounds-places-count : goal.bounds-places-count
 bounds-places-count c = omega (arith, room c, c.loop-count.invariant.1.long)
 
 pub id_at-requires : goal.id_at-requires
-id_at-requires c = omega (arith, (right c).chain.head.there)
-
-pub offset_bounds-ids-count : goal.offset_bounds-ids-count
-offset_bounds-ids-count c = omega (arith, room (goal.at.offset_bounds-ids-count c).Else-place-s)
-
-pub bounds-ids-count : goal.bounds-ids-count
-bounds-ids-count c = omega (arith, room (goal.at.bounds-ids-count c).Else-place-s, c.loop-count.invariant.1.size)
+id_at-requires c = omega (arith, (right (goal.at.id_at-requires c).Else-place-s).chain.head.there)
 
 pub form_at-form-requires : goal.form_at-form-requires
 form_at-form-requires c = omega (arith, (right (goal.at.form_at-form-requires c).Else-place-s).chain.head.there)
@@ -84,8 +79,10 @@ form_at-form-requires c = omega (arith, (right (goal.at.form_at-form-requires c)
 pub tasks_part-tasks-requires : goal.tasks_part-tasks-requires
 tasks_part-tasks-requires c = (right (goal.at.tasks_part-tasks-requires c).Else-place-s).chain.head.there
 
-pub overflow_add-all : goal.overflow_add-all
-overflow_add-all c = omega (arith, c.loop-count.invariant.1.all_few, c.tasks_part-tasks.ensures.3)
+pub add-requires : goal.add-requires
+add-requires c = let i = c.loop-count.invariant.1 in
+    let h = room (goal.at.add-requires c).Else-place-s in
+    (omega (arith, i.size, i.counts, h), omega (arith, i.counts, h), omega (arith, i.all_few), c.tasks_part-tasks.ensures.3)
 
 pub overflow_mul-at : goal.overflow_mul-at
 overflow_mul-at c = omega (arith, c.tasks_part-tasks.ensures.3)
@@ -108,13 +105,14 @@ loop-count-preserved c = let i = c.loop-count.invariant.1 in
     let n = c.loop-count.count in
     let kept = found-kept s c.loop-count.at at t i.inside (c.next_record-place.ensures t i.beside) c.if-place-s.false in
     let more : take (n + 1) (set c.loop-count.places n at) ≡ take n c.loop-count.places ++ (at ∷ []) = rw (add-one, take-suc-set c.loop-count.places n at (omega (arith, room (goal.at.loop-count-preserved c).Else-place-s, i.long))) in
-    rw (c.id_at.ensures, c.form_at-form.ensures, next (goal.at.loop-count-preserved c).After-tasks_part-tasks, c.tasks_part-tasks.ensures.1) (
+    rw (c.add.ensures, c.id_at.ensures, c.form_at-form.ensures, next (goal.at.loop-count-preserved c).After-tasks_part-tasks, c.tasks_part-tasks.ensures.1) (
       plus t (row_at s at),
       record {
+        counts = omega (arith, i.counts);
         few = omega (arith, room (goal.at.loop-count-preserved c).Else-place-s);
         all_few = omega (arith, (right (goal.at.loop-count-preserved c).Else-place-s).chain.head.all, i.beside.keeps.tasks);
         inside = (right (goal.at.loop-count-preserved c).Else-place-s).chain.there;
-        size = length-set c.loop-count.ids n _ ∙ i.size;
+        size = length-set c.loop-count.before.ids c.loop-count.before.count _ ∙ i.size;
         long = length-set c.loop-count.places n at ∙ i.long;
         beside = beside-more s at i.beside i.size (accepts (goal.at.loop-count-preserved c).Else-place-s);
         left = ap (λ (x : List ℕ). x ++ kept_from s (at + length_at s at) (plus t (row_at s at))) more ∙ append_assoc (take n c.loop-count.places) (at ∷ []) _ ∙ ap (λ (x : List ℕ). take n c.loop-count.places ++ x) (sym kept) ∙ i.left;
@@ -125,6 +123,6 @@ pub returns : goal.returns
 returns c = let i = c.loop-count.invariant.1 in
     let s = c.args.s.now in
     let end : c.loop-count.count ≡ max_chains = omega (arith, i.few, c.loop-count-test.false) in
-    let full = from-full s c.loop-count.at (sofar (goal.at.returns c).At-loop-count) (omega (arith, end, i.beside.keeps.count)) in
+    let full = from-full s c.loop-count.at (sofar (goal.at.returns c).At-loop-count) (omega (arith, end, i.counts, i.beside.keeps.count)) in
     subst (Walked s c.loop-count.places) end
     (record { numbers = sym (append-nil _) ∙ ap (λ (x : List ℕ). take c.loop-count.count c.loop-count.places ++ x) (sym full) ∙ i.left; few = omega (arith, i.few, i.long); long = i.long })
