@@ -11,7 +11,7 @@ use Rattle.table.specs.declared.Table.{Table}
 use Rattle.table.specs.Refusal.{Verdict}
 use Rattle.std.specs.declared.result.Result.{Result}
 use Rattle.std.specs.declared.result.Result.TheVariants.{Ok, Err}
-use Rattle.std.specs.Result.{IsErrAnd}
+use Rattle.std.specs.Result.{IsErrAnd, result_and}
 use Rattle.std.proofs.lemmas.Result.{err_from_is_err_and}
 use Rattle.table.specs.declared.refusal.Refusal.{Refusal}
 
@@ -71,6 +71,12 @@ pub ends_verdict : (v : Verdict) (t : Table) → (unless refusal v (accepted t))
 unfolding unless
 ends_verdict (Ok u) t = refl
 ends_verdict (Err f) t = refl
+
+-- two verdicts asked for together decide as one after the other
+pub then_two : (a b v : Verdict) → (a then b then v) ≡ (result_and a b then v)
+unfolding ◌then◌
+then_two (Ok u) b v = refl
+then_two (Err f) b v = refl
 
 -- what a `?` hands on is the error that it met
 pub handed_on : {T E : Type 0} {e : E} (r : Result T E) → IsErrAnd r (λ y. y ≡ e) → r ≡ Err e

@@ -166,15 +166,14 @@ fn gap_fault(s: &[u8], at: usize, n: usize, gap: u32, place: usize) -> Verdict
 }
 
 // 29, 30 or 31: the n distances from `at` on, and the gap, which stands at `place`. The first two are both asked for, so that their
-// order is the match alone.
+// order is said in one place.
 fn distances_fault(s: &[u8], at: usize, n: usize, gap: u32, place: usize) -> Verdict
     requires { (1 ≤ n) × (n ≤ max_distances) × (at + 4 * n ≤ length s.now) }
     ensures { result ≡ distances_fault gap (spaced (word 4 s.now) 4 n at) at place }
 {
     let falls = fall_fault(s, at, n);
     let last = last_fault(s, at, n);
-    falls?;
-    last?;
+    falls.and(last)?;
     gap_fault(s, at, n, gap, place)
 }
 
