@@ -16,11 +16,10 @@ use Rattle.table.specs.Record.{gap_form, largest_form, blank, tasks_at, first_ta
 use Rattle.table.specs.Find.{rows}
 use Rattle.table.specs.Fault.{mark_of}
 use Rattle.table.specs.Place.{tasks_start}
-use Rattle.table.specs.Read.{read_table, table_of, limit_of}
+use Rattle.table.specs.Read.{Reading, read_table, table_of, limit_of}
 use Rattle.table.specs.Code.Good.{GoodRow}
 use Rattle.table.specs.declared.Row.{Row}
-use Rattle.table.specs.declared.Reading.{Reading}
-use Rattle.table.specs.declared.Verdict.TheVariants.{Accepted}
+use Rattle.std.specs.declared.result.Result.TheVariants.{Ok}
 use Rattle.table.proofs.Firsts.{not-accepted}
 use Rattle.table.proofs.Stands.{tasks-there}
 use Rattle.slices.proofs.Parts.{all-at, map_at}
@@ -107,15 +106,15 @@ module _ {rs : List Row} (t : RowsTogether rs) where
     tasks = omega (arith, all-tasks rs t.good t.typed, t.tasks);
   }
 
-  pub together-accepted : (read_table (table_bytes rs)).verdict ≡ Accepted
+  pub together-accepted : (read_table (table_bytes rs)).verdict ≡ Ok tt
   unfolding table_bytes
   together-accepted = rw (← n) (slices.together-accepted records-together)
 
   -- the reader's length check changes nothing, and they read back
-  pub together-written : verdict_on rs ≡ Accepted
+  pub together-written : verdict_on rs ≡ Ok tt
   unfolding verdict_on read_table
   together-written =
-      when_cases (λ (r : Reading). r.verdict ≡ Accepted → verdict_on rs ≡ Accepted) (eqb (length (table_bytes rs)) 0 || ltb (limit_of (word 2 (table_bytes rs) 0)) (length (table_bytes rs)))
+      when_cases (λ (r : Reading). r.verdict ≡ Ok tt → verdict_on rs ≡ Ok tt) (eqb (length (table_bytes rs)) 0 || ltb (limit_of (word 2 (table_bytes rs) 0)) (length (table_bytes rs)))
       (λ e f. absurd (not-accepted f)) (λ e f. f) together-accepted
 
   pub together-back : rows (table_of (table_bytes rs)) ≡ rs

@@ -21,8 +21,10 @@ use Rattle.table.specs.Read.{by_verdict, read_table, table_of}
 use Rattle.table.specs.Code.Good.{GoodRow, GoodTable}
 use Rattle.table.specs.declared.Row.{Row}
 use Rattle.table.specs.declared.Table.{Table}
-use Rattle.table.specs.declared.Verdict.{Verdict}
-use Rattle.table.specs.declared.Verdict.TheVariants.{Accepted, Refused as Faulty}
+use Rattle.std.specs.declared.result.Result.TheVariants.{Ok, Err}
+use Rattle.table.specs.Refusal.{Verdict}
+use Rattle.table.specs.declared.refusal.Fault.{Fault}
+use Rattle.table.specs.declared.refusal.Refusal.TheVariants.{BufferShort, NoSuchForm}
 use Rattle.table.proofs.Accepted.{taken}
 use Rattle.table.proofs.Standing.{place_none}
 use Rattle.table.proofs.Words.{end-length}
@@ -32,7 +34,6 @@ use Rattle.slices.proofs.Parts.{all-at, map_at}
 use Rattle.slices.proofs.Writes.{wrote_on, wrote_put}
 use Rattle.writing.specs.Rows.{row_bytes, table_bytes, Typed}
 use Rattle.writing.specs.Write.{written_of}
-use Rattle.writing.specs.declared.Written.TheVariants.{Used, Refused}
 use Rattle.writing.proofs.Typed.{row_typed}
 use Rattle.writing.proofs.Promises.{table-bytes}
 use Rattle.converting.specs.Forms.{form_of, fits_form, converted}
@@ -47,7 +48,7 @@ use Rattle.converting.proofs.Puts.{records-sum}
 -- the bytes of an accepted table
 pub record Given (s : List ℕ) : Type 0 where
   pub bytes : Bytes s
-  pub accepted : (read_table s).verdict ≡ Accepted
+  pub accepted : (read_table s).verdict ≡ Ok tt
 
 -- a table's rows: each good, of its fields' widths, and of the first one's form, which is the first mark
 module _ {s : List ℕ} (h : Given s) where
@@ -162,7 +163,7 @@ module _ (to : To) {s : List ℕ} (h : Given s) (other : form_at s 0 ≡ form_of
   pub unrefused : (room : ℕ) → converted_of to room s ≡ written_of room rs
   unfolding converted_of
   unrefused room =
-      ap (λ (v : Verdict). by_verdict Refused v (Refused 34 when eqb (form_at s 0) (form_of to) || not (every (fits_form to) (rows (table_of s))) else written_of room rs)) h.accepted
+      ap (λ (v : Verdict). by_verdict Err v (Err NoSuchForm when eqb (form_at s 0) (form_of to) || not (every (fits_form to) (rows (table_of s))) else written_of room rs)) h.accepted
       ∙ when_no _ _ (rw (ne_eqb _ _ other, fit))
 
   -- the result's length, and what is left where there is room for it and where not
@@ -170,40 +171,40 @@ module _ (to : To) {s : List ℕ} (h : Given s) (other : form_at s 0 ≡ form_of
   unfolding table_bytes
   result-long = length-append (flatten (map row_bytes rs)) (end_record (length rs)) ∙ omega (arith, records-sum rs, end-length (length rs))
 
-  pub written : (room : ℕ) → converted_of to room s ≡ (Refused 24 when ltb room (length (table_bytes rs)) else Used (length (table_bytes rs)))
+  pub written : (room : ℕ) → converted_of to room s ≡ (Err BufferShort when ltb room (length (table_bytes rs)) else Ok (length (table_bytes rs)))
   unfolding written_of
-  written room = unrefused room ∙ ap (λ (v : Verdict). by_verdict Refused v (Refused 24 when ltb room (length (table_bytes rs)) else Used (length (table_bytes rs)))) (together-written together)
+  written room = unrefused room ∙ ap (λ (v : Verdict). by_verdict Err v (Err BufferShort when ltb room (length (table_bytes rs)) else Ok (length (table_bytes rs)))) (together-written together)
 
-  pub short : (buffer : List ℕ) → length buffer < sum_of length_of rs + 4 → Converts to s buffer (Refused 24) buffer
+  pub short : (buffer : List ℕ) → length buffer < sum_of length_of rs + 4 → Converts to s buffer (Err BufferShort) buffer
   short buffer l = record { answers = sym (written (length buffer) ∙ when_yes _ _ (lt-ltb (length buffer) (length (table_bytes rs)) (omega (arith, l, result-long)))); leaves = sym (when_no _ _ refl) }
 
   pub put : (buffer mid after : List ℕ) (at n : ℕ) → sum_of length_of rs + 4 ≤ length buffer → n ≡ sum_of length_of rs + 4
-      → Wrote buffer 0 (flatten (map row_bytes rs)) mid at → after ≡ splice mid at 4 (end_record (table_of s).count) → Converts to s buffer (Used n) after
+      → Wrote buffer 0 (flatten (map row_bytes rs)) mid at → after ≡ splice mid at 4 (end_record (table_of s).count) → Converts to s buffer (Ok n) after
   unfolding table_bytes
   put buffer mid after at n room e w f =
       let ends : after ≡ splice mid at 4 (end_record (length rs)) = f ∙ ap (λ m. splice mid at 4 (end_record m)) (sym count) in
       let all = wrote_on w (wrote_put mid at (end_record (length rs)) after 4 (at + 4) (end-length (length rs)) refl (omega (arith, room, w.ends, w.long, records-sum rs)) ends) in
       let z : 0 + length (table_bytes rs) ≡ length (table_bytes rs) = omega arith in
       record {
-        answers = sym (written (length buffer) ∙ when_no _ _ (le-ltb (length buffer) (length (table_bytes rs)) (omega (arith, room, result-long))) ∙ ap Used (result-long ∙ sym e));
+        answers = sym (written (length buffer) ∙ when_no _ _ (le-ltb (length buffer) (length (table_bytes rs)) (omega (arith, room, result-long))) ∙ ap Ok (result-long ∙ sym e));
         leaves = all.holds ∙ ap (λ m. table_bytes rs ++ drop m buffer) z ∙ sym (when_yes _ _ refl);
       }
 
--- 34, of an accepted table
-pub refused_34 : (to : To) (s buffer : List ℕ) → (read_table s).verdict ≡ Accepted → (eqb (form_at s 0) (form_of to) || not (every (fits_form to) (rows (table_of s)))) ≡ true
-    → Converts to s buffer (Refused 34) buffer
+-- of an accepted table that cannot be said in the form asked
+pub no-form : (to : To) (s buffer : List ℕ) → (read_table s).verdict ≡ Ok tt → (eqb (form_at s 0) (form_of to) || not (every (fits_form to) (rows (table_of s)))) ≡ true
+    → Converts to s buffer (Err NoSuchForm) buffer
 unfolding converted_of
-refused_34 to s buffer a e = record {
+no-form to s buffer a e = record {
   answers =
-      sym (ap (λ (v : Verdict). by_verdict Refused v (Refused 34 when eqb (form_at s 0) (form_of to) || not (every (fits_form to) (rows (table_of s))) else written_of (length buffer) (rows_in to s))) a ∙ when_yes _ _ e);
+      sym (ap (λ (v : Verdict). by_verdict Err v (Err NoSuchForm when eqb (form_at s 0) (form_of to) || not (every (fits_form to) (rows (table_of s))) else written_of (length buffer) (rows_in to s))) a ∙ when_yes _ _ e);
   leaves = sym (when_no _ _ refl);
 }
 
 -- a refused table
-pub refused-table : (to : To) (s buffer : List ℕ) {n place : ℕ} → (read_table s).verdict ≡ Faulty n place → 0 < n → Converts to s buffer (Refused n) buffer
+pub refused-table : (to : To) (s buffer : List ℕ) {f : Fault} → (read_table s).verdict ≡ Err f → Converts to s buffer (Err f.0) buffer
 unfolding converted_of
-refused-table to s buffer {n} a some = record {
+refused-table to s buffer a = record {
   answers =
-      sym (ap (λ (v : Verdict). by_verdict Refused v (Refused 34 when eqb (form_at s 0) (form_of to) || not (every (fits_form to) (rows (table_of s))) else written_of (length buffer) (rows_in to s))) a);
-  leaves = sym (when_no _ _ (ne_eqb n 0 (λ z. omega (arith, z, some))));
+      sym (ap (λ (v : Verdict). by_verdict Err v (Err NoSuchForm when eqb (form_at s 0) (form_of to) || not (every (fits_form to) (rows (table_of s))) else written_of (length buffer) (rows_in to s))) a);
+  leaves = sym (when_no _ _ refl);
 }

@@ -1,11 +1,10 @@
 // A converted table put into a lent buffer, and whether it is.
-ghost use Rattle.std.specs.Prelude.{◌≡◌, ◌≤◌, length};
+ghost use Rattle.std.specs.Prelude.{◌≡◌, ◌≤◌, length, Ok};
 ghost use mathlib.Core.List.{map, flatten};
 ghost use Rattle.search.specs.Lists.{sum_of};
 ghost use Rattle.table.specs.Place.{length_of};
 ghost use Rattle.table.specs.Code.Taken.{Taken};
 ghost use Rattle.table.specs.Read.{read_table};
-ghost use Rattle.table.specs.declared.Verdict.TheVariants.{Accepted};
 ghost use Rattle.slices.specs.Code.Wrote.{Wrote};
 ghost use Rattle.writing.specs.Rows.{row_bytes};
 ghost use Rattle.converting.specs.Convert.{rows_in, Converts};
@@ -31,32 +30,30 @@ fn put_records(s: &[u8], out: &mut [u8], to: To) -> usize
     next
 }
 
-// 34 or 24, or the table is put, where it is accepted.
+// An accepted table is put, where it can be said in the form asked and there is room.
 fn put_table(s: &[u8], out: &mut [u8], to: To) -> Result<u32, Refusal>
-    requires { Taken s.now × ((read_table s.now).verdict ≡ Accepted) }
+    requires { Taken s.now × ((read_table s.now).verdict ≡ Ok tt) }
     ensures { Converts to s.now out.old result out.new }
 {
     if form_at(s, 0) == form_of(to) {
-        return Written::Refused(34);
+        return Err(Refusal::NoSuchForm);
     }
     if !all_fit(s, to) {
-        return Written::Refused(34);
+        return Err(Refusal::NoSuchForm);
     }
     let n = records_length(s, to) + 4;
     if out.len() < n {
-        return Written::Refused(24);
+        return Err(Refusal::BufferShort);
     }
     let at = put_records(s, out, to);
     put_end(out, at, count(s));
-    Written::Used(n as u32)
+    Ok(n as u32)
 }
 
-// The table's own number comes first.
+// The table's own fault comes first.
 pub fn convert(s: &[u8], out: &mut [u8], to: To) -> Result<u32, Refusal>
     ensures { Converts to s.now out.old result out.new }
 {
-    match table::judge(s) {
-        Verdict::Accepted => put_table(s, out, to),
-        Verdict::Refused(n, _) => Written::Refused(n),
-    }
+    table::judge(s)?;
+    put_table(s, out, to)
 }

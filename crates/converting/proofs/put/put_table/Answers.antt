@@ -19,7 +19,7 @@ use Rattle.converting.specs.Forms.{form_of, fits_form}
 use Rattle.converting.specs.Convert.{rows_in}
 use Rattle.converting.proofs.Lengths.{lengths_most}
 use Rattle.converting.proofs.Puts.{records-sum}
-use Rattle.converting.proofs.Results.{Given, refused_34, short, put}
+use Rattle.converting.proofs.Results.{Given, no-form, short, put}
 use Rattle.converting.proofs.put.put_table.Goals as goal
 use Rattle.converting.proofs.put.put_table.Goals.{After-records_length-n, Else-form_at-form_of, Else-not-all_fit, Else-out-n}
 
@@ -50,13 +50,13 @@ pub form_at-requires : goal.form_at-requires
 form_at-requires c = omega (arith, c.requires.0.holds.ends)
 
 pub returns-then-form_at-form_of : goal.returns-then-form_at-form_of
-returns-then-form_at-form_of c = refused_34 c.args.to c.args.s.now c.args.out.now c.requires.1 (or_left _ _ (eq-eqb _ _ (sym c.form_at.ensures ∙ c.if-form_at-form_of.true ∙ c.form_of.ensures)))
+returns-then-form_at-form_of c = no-form c.args.to c.args.s.now c.args.out.now c.requires.1 (or_left _ _ (eq-eqb _ _ (sym c.form_at.ensures ∙ c.if-form_at-form_of.true ∙ c.form_of.ensures)))
 
 pub all_fit-requires : goal.all_fit-requires
 all_fit-requires c = c.requires.0
 
 pub returns-then-not-all_fit : goal.returns-then-not-all_fit
-returns-then-not-all_fit c = refused_34 c.args.to c.args.s.now c.args.out.now c.requires.1 (or_right (eqb (form_at c.args.s.now 0) (form_of c.args.to)) _ (ap not (sym c.all_fit.ensures ∙ c.if-not-all_fit.true)))
+returns-then-not-all_fit c = no-form c.args.to c.args.s.now c.args.out.now c.requires.1 (or_right (eqb (form_at c.args.s.now 0) (form_of c.args.to)) _ (ap not (sym c.all_fit.ensures ∙ c.if-not-all_fit.true)))
 
 pub records_length-n-requires : goal.records_length-n-requires
 records_length-n-requires c = c.requires.0
