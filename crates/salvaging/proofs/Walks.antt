@@ -26,7 +26,6 @@ use Rattle.table.specs.declared.Mark.TheVariants.{Chain}
 use Rattle.std.specs.Prelude.{is_ok}
 use Rattle.std.specs.declared.result.Result.TheVariants.{Ok, Err}
 use Rattle.table.specs.Refusal.{Verdict}
-use Rattle.table.specs.declared.refusal.Fault.{Fault}
 use Rattle.table.proofs.Earlier.{before_more}
 use Rattle.table.proofs.Marks.{chain-told}
 use Rattle.table.proofs.Faultless.{ChainRight, chain-right, BesideRight, beside-right}
@@ -53,21 +52,18 @@ module _ (s : List ℕ) (at : ℕ) (t : Table) where
       let right = beside-right s at (form_beside s at t) t beside in
       record { mark = chain-told _ both.0; beside = beside; right = right; chain = chain-right s at t right.chain }
 
-  pub acceptable-given : mark_of (word 2 s at) ≡ Chain → beside_fault s at (form_beside s at t) t ≡ Ok tt → acceptable s at t ≡ true
+  -- where a chain's mark stands, the reader's judgement decides
+  pub by-verdict : mark_of (word 2 s at) ≡ Chain → acceptable s at t ≡ is_ok (beside_fault s at (form_beside s at t) t)
   unfolding acceptable
-  acceptable-given m e = rw (m, e)
+  by-verdict m = rw m
 
-  -- none is acceptable whose mark is no chain's, none that is refused, none at the end and none beside 16 rows
+  pub acceptable-given : mark_of (word 2 s at) ≡ Chain → beside_fault s at (form_beside s at t) t ≡ Ok tt → acceptable s at t ≡ true
+  acceptable-given m e = rw (by-verdict m, e)
+
+  -- none is acceptable whose mark is no chain's, none at the end and none beside 16 rows
   pub no_chain : is_chain (mark_of (word 2 s at)) ≡ false → acceptable s at t ≡ false
   unfolding acceptable
   no_chain e = rw e
-
-  pub not-beside : {f : Fault} → beside_fault s at (form_beside s at t) t ≡ Err f → acceptable s at t ≡ false
-  not-beside g = by (acceptable s at t) refl
-    where
-      by : (b : Bool) → acceptable s at t ≡ b → b ≡ false
-      by true e = absurd (true-not-false {b = true} refl (ap (λ (v : Verdict). is_ok v) (sym (acceptable-says e).beside ∙ g)))
-      by false e = refl
 
   pub not-whole : length s < at + 12 → acceptable s at t ≡ false
   not-whole l = by (acceptable s at t) refl

@@ -91,7 +91,12 @@ fn put_stretches(s: &[u8], places: &[usize], out: &mut [u8]) -> usize
 }
 
 // Puts both results, the table with its end record, unless one is longer than its buffer.
-pub fn fit(s: &[u8], places: &[usize], table: &mut [u8], list: &mut [u8]) -> Result<Lengths, Refusal>
+pub fn fit(
+    s: &[u8],
+    places: &[usize],
+    table: &mut [u8],
+    list: &mut [u8],
+) -> Result<Lengths, Refusal>
     requires { InOrder s.now 0 places.now × (length places.now ≤ max_chains) × (length s.now ≤ max_input) }
     ensures { Fits s.now places.now table.old list.old result table.new list.new }
 {

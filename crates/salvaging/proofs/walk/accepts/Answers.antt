@@ -6,10 +6,12 @@ use mathlib.Core.Bool.{Bool, true, false}
 use lib.ListN.{length}
 use Rattle.search.proofs.Choice.{true-not-false}
 use Rattle.table.specs.Fault.{beside_fault}
+use Rattle.std.specs.Prelude.{is_ok}
+use Rattle.table.specs.Refusal.{Verdict}
 use Rattle.table.specs.declared.Table.{Table}
 use Rattle.salvaging.specs.Kept.{form_beside, acceptable}
 use Rattle.salvaging.specs.Code.Walk.{least_head, Knows}
-use Rattle.salvaging.proofs.Walks.{acceptable-given, not-beside, form_needed}
+use Rattle.salvaging.proofs.Walks.{by-verdict, form_needed}
 use Rattle.salvaging.proofs.Starts.{like_there, like_chain}
 use Rattle.salvaging.proofs.walk.accepts.Goals as goal
 use Rattle.salvaging.proofs.walk.accepts.Goals.{After-beside_fault, Start}
@@ -39,4 +41,6 @@ judged : (c : After-beside_fault) → (t : Table) → Knows c.args.before.now c.
 judged c t b = ap (λ f. beside_fault c.args.s.now c.args.at f t) (sym (c.form_beside-needed.ensures ∙ form_needed c.args.s.now c.args.at b)) ∙ sym (c.beside_fault.ensures t b.keeps)
 
 pub returns : goal.returns
-returns c t b = ?
+returns c t b =
+    c.is_ok.ensures.value
+    ∙ sym (by-verdict c.args.s.now c.args.at t (like_chain _ _ c.requires.0) ∙ ap (λ (v : Verdict). is_ok v) (judged (goal.at.returns c).After-beside_fault t b))
