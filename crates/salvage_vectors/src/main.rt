@@ -3,8 +3,9 @@
 #![tactic(auto)]
 
 use cases::{Outcome, filled, read_full, same, scribbled, went};
-use salvaging::Salvaged;
+use salvaging::Lengths;
 use std::io::Read;
+use table::Refusal;
 
 // What a case expects: the refusal number, 0 for none, and the used lengths of the table and of the list.
 #[derive(Clone, Copy)]
@@ -15,12 +16,12 @@ struct Expected {
 }
 
 // Whether the answer has the expected number, and lengths where it is accepted.
-fn answers(salvaged: Salvaged, expected: Expected) -> bool {
+fn answers(salvaged: Result<Lengths, Refusal>, expected: Expected) -> bool {
     match salvaged {
-        Salvaged::Used { table, list } => {
-            expected.number == 0 && table == expected.table && list == expected.list
+        Ok(used) => {
+            expected.number == 0 && used.table == expected.table && used.list == expected.list
         }
-        Salvaged::Refused(number) => 0 < number && number == expected.number,
+        Err(refusal) => refusal.number() == expected.number,
     }
 }
 
@@ -57,8 +58,8 @@ fn as_expected(from: &mut impl Read, s: &[u8]) -> bool {
     if read_full(from, &mut head) < 8 {
         return false;
     }
-    let table_room = table::u16_at(&head, 0) as usize;
-    let list_room = table::u16_at(&head, 2) as usize;
+    let table_room = usize::from(table::u16_at(&head, 0));
+    let list_room = usize::from(table::u16_at(&head, 2));
     let number = table::u32_at(&head, 4);
     let mut table_after = scribbled();
     let Some(table) = take_part(from, &mut table_after) else {
@@ -91,7 +92,7 @@ fn case(from: &mut impl Read) -> Outcome {
         return Outcome::End;
     }
     let mut input = [0u8; 65536];
-    let n = filled(from, &mut input, table::u16_at(&head, 0) as usize);
+    let n = filled(from, &mut input, usize::from(table::u16_at(&head, 0)));
     went(as_expected(from, &input[..n]))
 }
 

@@ -3,14 +3,12 @@
 #![tactic(auto)]
 
 use cases::{read_full, say, say_number};
-use saving::Saved;
+use table::Refusal;
 
 // Chain 1 as an engineer sees it: its record is the table's first 36 bytes.
 fn opened(table: &[u8; 160]) -> [u8; 36] {
     let mut chain = [0u8; 36];
-    for i in 0..36 {
-        chain[i] = table[i];
-    }
+    chain.copy_from_slice(&table[..36]);
     chain
 }
 
@@ -27,21 +25,21 @@ fn with_cost(mut chain: [u8; 36], cost: u8) -> [u8; 36] {
 
 // Prints the deadline and the first cost of chain 1.
 fn tell(out: &impl Print, chain: [u8; 36]) {
-    say_number(out, b"chain 1: deadline ", table::u32_at(&chain, 6) as u64);
-    say_number(out, b", cost ", table::u32_at(&chain, 24) as u64);
+    say_number(out, b"chain 1: deadline ", u64::from(table::u32_at(&chain, 6)));
+    say_number(out, b", cost ", u64::from(table::u32_at(&chain, 24)));
     say(out, b"\n");
 }
 
 // Prints the new used length, or `r` and the refusal number. Answers the used length from here on.
-fn answered(out: &impl Print, saved: Saved, used: u64) -> u64 {
+fn answered(out: &impl Print, saved: Result<u32, Refusal>, used: u64) -> u64 {
     match saved {
-        Saved::Used(n) => {
-            say_number(out, b"", n as u64);
+        Ok(n) => {
+            say_number(out, b"", u64::from(n));
             say(out, b"\n");
-            n as u64
+            u64::from(n)
         }
-        Saved::Refused(n) => {
-            say_number(out, b"r", n as u64);
+        Err(refusal) => {
+            say_number(out, b"r", u64::from(refusal.number()));
             say(out, b"\n");
             used
         }

@@ -3,8 +3,8 @@
 #![tactic(auto)]
 
 use cases::{Outcome, filled, read_full, same, went};
-use saving::Saved;
 use std::io::Read;
+use table::Refusal;
 
 // Room for each of a case's byte strings; a case with a longer one is not as expected.
 const ROOM: usize = 8192;
@@ -17,10 +17,10 @@ struct Expected {
 }
 
 // Whether the answer has the expected number, and figure where it is accepted.
-fn answers(saved: Saved, expected: Expected) -> bool {
+fn answers(saved: Result<u32, Refusal>, expected: Expected) -> bool {
     match saved {
-        Saved::Used(n) => expected.number == 0 && n == expected.length,
-        Saved::Refused(n) => expected.number == n && 0 < n,
+        Ok(n) => expected.number == 0 && n == expected.length,
+        Err(refusal) => refusal.number() == expected.number,
     }
 }
 

@@ -3,11 +3,9 @@
 // report follows its table.
 #![tactic(auto)]
 
-ghost use Rattle.std.specs.Prelude.{◌<◌};
-
 use cases::{Outcome, read_full, same, say, say_number, went};
 use std::io::Read;
-use table::Verdict;
+use table::{Fault, Refusal, u16_at, u32_at};
 
 // More cases than the program is ever given: with a bound, its loop is known to end.
 const MOST: u64 = 100_000;
@@ -20,90 +18,64 @@ struct Case {
     length: usize,
 }
 
-fn word(low: u8, high: u8) -> u32
-    ensures { result < 65536 }
-{
-    low as u32 + high as u32 * 256
-}
-
-fn value(head: &[u8; 28], k: usize) -> u32 {
-    if k < 6 {
-        let at = 2 + 4 * k;
-        word(head[at], head[at + 1]) + word(head[at + 2], head[at + 3]) * 65536
-    } else {
-        0
-    }
-}
-
 fn case_of(head: &[u8; 28]) -> Case {
     let mut values = [0u32; 6];
     for k in 0..6 {
-        values[k] = value(head, k);
+        values[k] = u32_at(head, 2 + 4 * k);
     }
     Case {
         kind: head[0],
-        number: word(head[1], 0),
+        number: u32::from(head[1]),
         values,
-        length: word(head[26], head[27]) as usize,
+        length: usize::from(u16_at(head, 26)),
     }
 }
 
 // The verdict on the table, and the place of its fault, `values[0]`.
 fn verdict_right(s: &[u8], c: Case) -> bool {
     match table::judge(s) {
-        Verdict::Accepted => c.number == 0,
-        Verdict::Refused(n, at) => n == c.number && at == c.values[0] as usize,
+        Ok(()) => c.number == 0,
+        Err(Fault(refusal, at)) => refusal.number() == c.number && at == c.values[0] as usize,
     }
 }
 
 // The active segment `values[2]` of the chain `values[0]` against `values[1]`: offset and length, and the part handed back.
 fn segment_right(s: &[u8], c: Case) -> bool {
-    let part = segments::segment_part(s, c.values[0], c.values[1], c.values[2]);
-    let answer = segments::segment(s, c.values[0], c.values[1], c.values[2]);
-    match answer {
-        segments::Answer::Records { offset, length } => {
+    let handed = segments::segment_part(s, c.values[0], c.values[1], c.values[2]);
+    match segments::segment(s, c.values[0], c.values[1], c.values[2]) {
+        Ok(part) => {
             c.number == 0
-                && offset == c.values[3]
-                && length == c.values[4]
-                && part.len() == length as usize
+                && part.offset == c.values[3]
+                && part.length == c.values[4]
+                && part.length as usize == handed.len()
         }
-        segments::Answer::Refused(n) => n == c.number && part.len() == 0,
+        Err(refusal) => refusal.number() == c.number && handed.is_empty(),
     }
-}
-
-fn wide(x: u32) -> i64 {
-    x as i64
 }
 
 // A margin as it is packed: 10,000,000 are added, so that it is not negative.
 fn lifted(margin: i32) -> i64 {
-    margin as i64 + 10_000_000
+    i64::from(margin) + 10_000_000
 }
 
 // The figures of the chain `values[0]`: K, latency, late and margin.
 fn latency_right(s: &[u8], c: Case) -> bool {
-    let answer = windows::latency(s, c.values[0]);
-    match answer {
-        windows::Answer::Figures {
-            close,
-            latency,
-            late,
-            margin,
-        } => {
+    match windows::latency(s, c.values[0]) {
+        Ok(figures) => {
             c.number == 0
-                && close == c.values[1]
-                && latency == c.values[2]
-                && late == c.values[3]
-                && lifted(margin) == wide(c.values[4])
+                && figures.close == c.values[1]
+                && figures.latency == c.values[2]
+                && figures.late == c.values[3]
+                && lifted(figures.margin) == i64::from(c.values[4])
         }
-        windows::Answer::Refused(n) => n == c.number,
+        Err(refusal) => refusal.number() == c.number,
     }
 }
 
-fn missed_right(answer: misses::Answer, c: Case) -> bool {
+fn missed_right(answer: Result<u32, Refusal>, c: Case) -> bool {
     match answer {
-        misses::Answer::Misses(n) => c.number == 0 && n == c.values[2],
-        misses::Answer::Refused(n) => n == c.number,
+        Ok(n) => c.number == 0 && n == c.values[2],
+        Err(refusal) => refusal.number() == c.number,
     }
 }
 
@@ -119,10 +91,9 @@ fn plain_right(s: &[u8], c: Case) -> bool {
 
 // At most how many, by the sieve.
 fn at_most_right(s: &[u8], c: Case) -> bool {
-    let answer = misses::at_most(s, c.values[0], c.values[1]);
-    match answer {
-        misses::Sieved::AtMost(n) => c.number == 0 && n == c.values[2],
-        misses::Sieved::Refused(n) => n == c.number,
+    match misses::at_most(s, c.values[0], c.values[1]) {
+        Ok(sieved) => c.number == 0 && sieved.most == c.values[2],
+        Err(refusal) => refusal.number() == c.number,
     }
 }
 
@@ -143,8 +114,7 @@ fn report_right(from: &mut impl Read, s: &[u8], c: Case) -> bool {
 }
 
 fn right(from: &mut impl Read, s: &[u8], c: Case) -> bool {
-    let kind = c.kind;
-    match kind {
+    match c.kind {
         0 => verdict_right(s, c),
         1 => segment_right(s, c),
         2 => latency_right(s, c),
