@@ -1,5 +1,5 @@
 -- Which records of a damaged table are kept (02, request 8).
-use Rattle.std.specs.Prelude.{ℕ, zero, suc, ◌+◌, List, [], ◌∷◌, Bool, true, false, ◌&&◌, length, eqb, is_ok}
+use Rattle.std.specs.Prelude.{ℕ, zero, suc, ◌+◌, List, [], ◌∷◌, Bool, ◌&&◌, length, eqb, is_ok}
 use Rattle.search.specs.Choice.{◌when◌else◌}
 use Rattle.table.specs.Bytes.{word}
 use Rattle.table.specs.Record.{form_at, row_at, length_at}

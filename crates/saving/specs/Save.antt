@@ -1,5 +1,5 @@
 -- Saving one record: given a buffer, the used length, the old record as the editor saw it, and the new (01, 'Saving one record').
-use Rattle.std.specs.Prelude.{ℕ, max, ◌-◌, ◌≡◌, List, [], ◌∷◌, ◌++◌, Bool, not, ◌||◌, length, take, drop, replicate, ltb, eqb, is_ok, Some, None, ⊤}
+use Rattle.std.specs.Prelude.{ℕ, max, ◌-◌, ◌≡◌, List, ◌++◌, Bool, not, ◌||◌, length, take, drop, replicate, ltb, eqb, is_ok, Some, None, ⊤}
 use Rattle.search.specs.Choice.{◌when◌else◌}
 use Rattle.search.specs.Find.{first}
 use Rattle.table.specs.Record.{form_at, id_at, head_length, length_at}
@@ -12,7 +12,7 @@ use Rattle.slices.specs.Slices.{same, splice}
 use Rattle.slices.specs.Stored.{record_of}
 use Rattle.std.specs.declared.option.Option.{Option}
 use Rattle.std.specs.declared.result.Result.{Result}
-use Rattle.std.specs.declared.result.Result.TheVariants.{Ok, Err}
+use Rattle.std.specs.declared.result.Result.TheVariants.{Err}
 use Rattle.table.specs.declared.refusal.Refusal.{Refusal}
 use Rattle.table.specs.declared.refusal.Refusal.TheVariants.{BadLength, StaleRecord, BadRecord, BufferShort}
 

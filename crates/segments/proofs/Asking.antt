@@ -4,20 +4,17 @@ use native.Mathlib.Omega.{arith}
 use mathlib.Core.Path.{◌≡◌, ap, ap₂, sym, ◌∙◌}
 use mathlib.Core.Bool.{Bool, true, false, not}
 use mathlib.Core.Logic.{◌⊎◌, ⊎_elim}
-use borrow.Author.Tests.{le-ltb, lt-ltb, ltb-false, eqb-true, eqb-false}
-use lib.Dec.{ltb, eqb}
+use borrow.Author.Tests.{le-ltb, lt-ltb, ltb-false}
+use lib.Dec.{ltb}
 use lib.ListN.{length, get_or}
-use Rattle.std.specs.Option.{ok_or}
-use Rattle.search.proofs.Choice.{when_yes, when_no, when_cases}
-use Rattle.table.specs.Find.{row_of, find_of, chain_with, used}
+use Rattle.search.proofs.Choice.{when_yes, when_no}
+use Rattle.table.specs.Find.{row_of, find_of, used}
 use Rattle.table.specs.Place.{tasks_start, place_of}
 use Rattle.table.specs.declared.Row.{Row}
 use Rattle.table.specs.declared.Table.{Table}
-use Rattle.table.specs.declared.refusal.Refusal.{Refusal}
-use Rattle.table.specs.declared.refusal.Refusal.TheVariants.{NoChain, NoSuchSegment}
+use Rattle.table.specs.declared.refusal.Refusal.TheVariants.{NoSuchSegment}
 use Rattle.std.specs.declared.result.Result.TheVariants.{Ok, Err}
 use Rattle.table.proofs.Firsts.{or_left, or_right, or_none}
-use Rattle.table.proofs.Finds.{find_le}
 use Rattle.segments.specs.Tasks.{tasks_of, floor_of, tail_of}
 use Rattle.segments.specs.Actives.{nothing, actives, actives_of}
 use Rattle.segments.specs.Code.Held.{arrays_of}
@@ -26,17 +23,13 @@ use Rattle.segments.specs.declared.Actives.{Actives}
 use Rattle.segments.proofs.Bounds.{actives-tasks}
 use Rattle.segments.proofs.Standing.{active_contiguous, active-start, active-length, array_at}
 
--- whether an id is in the table, by what is answered for the chain that is found for it
+-- an id is in the table where a chain of it was found, and is not where the count of chains was
 module _ (t : Table) (id : ℕ) where
-  pub unknown : {r : Refusal} → ok_or (chain_with t id) NoChain ≡ Err r → (not (used t id) ≡ true) × (r ≡ NoChain)
-  unknown {r} = when_cases (λ o. ok_or o NoChain ≡ Err r → (not (used t id) ≡ true) × (r ≡ NoChain)) (eqb (find_of t id) t.count)
-      (λ h e. (ap not (le-ltb (find_of t id) t.count (omega (arith, eqb-true _ _ h))), cc))
-      (λ h e. absurd (let z : ◌≡◌ {A = ℕ} 0 1 = cc in omega arith))
+  pub unknown : find_of t id ≡ t.count → not (used t id) ≡ true
+  unknown e = ap not (le-ltb (find_of t id) t.count (omega arith))
 
-  pub known : {chain : ℕ} → ok_or (chain_with t id) NoChain ≡ Ok chain → (chain ≡ find_of t id) × (find_of t id < t.count)
-  known {chain} = when_cases (λ o. ok_or o NoChain ≡ Ok chain → (chain ≡ find_of t id) × (find_of t id < t.count)) (eqb (find_of t id) t.count)
-      (λ h e. absurd (let z : ◌≡◌ {A = ℕ} 0 1 = cc in omega arith))
-      (λ h e. (cc, omega (arith, eqb-false _ _ h, find_le t id)))
+  pub known : {chain : ℕ} → (chain ≡ find_of t id) × (chain < t.count) → not (used t id) ≡ false
+  known h = ap not (lt-ltb (find_of t id) t.count (omega (arith, h)))
 
 -- what `active_segments` finds of a at b's floor and tail
 pub found-is : (a b : Row) (floor tail : ℕ) (l : Actives) → floor ≡ floor_of b → tail ≡ tail_of b → l ≡ arrays_of (actives floor tail (tasks_of a))

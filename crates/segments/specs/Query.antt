@@ -1,6 +1,6 @@
 -- The segment query over a stored table (01, 'Numbers given back' and 'Segments against chain b').
 use Rattle.std.specs.Prelude.{ℕ, ◌+◌, ◌*◌, ◌-◌, ◌≤◌, ◌≡◌, not, ◌||◌, length, get_or, take, drop, eqb}
-use mathlib.Core.List.{List, [], ◌∷◌, map, flatten}
+use mathlib.Core.List.{List, [], map, flatten}
 use Rattle.std.specs.Borrow.{Bor}
 use Rattle.search.specs.Choice.{◌when◌else◌}
 use Rattle.table.specs.Find.{row_of, find_of, used}

@@ -1,14 +1,15 @@
 -- By the tests, in the order of 01: 12, 25, and then the active segments.
 use Prim.Native.Nat.{◌<◌}
-use native.Mathlib.Omega.{arith}
-use mathlib.Core.Path.{◌≡◌, ap, ap₂, sym, ◌∙◌}
+use mathlib.Core.Path.{◌≡◌, ap₂, sym, ◌∙◌}
 use mathlib.Core.Bool.{not, false, ◌||◌}
-use borrow.Author.Tests.{lt-ltb, eq-eqb, ne_eqb}
+use borrow.Author.Tests.{eq-eqb, ne_eqb}
 use Rattle.search.proofs.Choice.{when_yes, when_no}
 use Rattle.table.specs.declared.Table.{Table}
 use Rattle.table.specs.Find.{find_of, used}
 use Rattle.table.specs.Read.{table_of}
 use Rattle.table.proofs.Firsts.{handed_on, or_left, or_right, or_none}
+use Rattle.table.proofs.Finds.{asked-there, asked-none}
+use Rattle.table.specs.declared.refusal.Refusal.TheVariants.{NoChain}
 use Rattle.segments.specs.Query.{nth_of, answer_of}
 use Rattle.segments.proofs.Asking.{unknown, known}
 use Rattle.segments.proofs.query.ask.Goals as goal
@@ -17,28 +18,28 @@ use Rattle.segments.proofs.query.ask.Goals.{In_ok-other, Start}
 abbrev table : (c : Start) → Table
 table c = table_of c.args.s.now
 
-first : (c : In_ok-other) → (c.in_ok-chain.chain ≡ find_of (table_of c.args.s.now) c.args.id) × (find_of (table_of c.args.s.now) c.args.id < (table_of c.args.s.now).count)
-first c = known _ _ (rw (← c.find.ensures) (sym c.ok_or.ensures.value ∙ c.in_ok-chain.was))
+first : (c : In_ok-other) → (c.in_ok-chain.chain ≡ find_of (table_of c.args.s.now) c.args.id) × (c.in_ok-chain.chain < (table_of c.args.s.now).count)
+first c = asked-there _ _ _ c.find.ensures c.ok_or.ensures.value c.in_ok-chain.was
 
-second : (c : In_ok-other) → (c.in_ok-other.other ≡ find_of (table_of c.args.s.now) c.args.against) × (find_of (table_of c.args.s.now) c.args.against < (table_of c.args.s.now).count)
-second c = known _ _ (rw (← c.find-2.ensures) (sym c.ok_or-2.ensures.value ∙ c.in_ok-other.was))
+second : (c : In_ok-other) → (c.in_ok-other.other ≡ find_of (table_of c.args.s.now) c.args.against) × (c.in_ok-other.other < (table_of c.args.s.now).count)
+second c = asked-there _ _ _ c.find-2.ensures c.ok_or-2.ensures.value c.in_ok-other.was
 
 named : (c : In_ok-other) → (not (used (table_of c.args.s.now) c.args.id) || not (used (table_of c.args.s.now) c.args.against)) ≡ false
-named c = or_none _ _ (ap not (lt-ltb _ _ (first c).1)) (ap not (lt-ltb _ _ (second c).1))
+named c = or_none _ _ (known _ _ (first c)) (known _ _ (second c))
 
 pub returns-in_err-chain : goal.returns-in_err-chain
 unfolding answer_of
 returns-in_err-chain c =
     let t = table (goal.at.returns-in_err-chain c).Start in
-    let u = unknown t c.args.id {r = c.in_err-chain.field-0.0} (rw (← c.find.ensures) (sym c.ok_or.ensures.value ∙ c.in_err-chain.was)) in
-    rw (handed_on _ c.from_residual.ensures.1, u.1) (sym (when_yes _ _ (or_left _ _ u.0)))
+    let u = asked-none t c.args.id NoChain c.find.ensures c.ok_or.ensures.value c.in_err-chain.was in
+    rw (handed_on _ c.from_residual.ensures.1, u.1) (sym (when_yes _ _ (or_left _ _ (unknown t c.args.id u.0))))
 
 pub returns-in_err-other : goal.returns-in_err-other
 unfolding answer_of
 returns-in_err-other c =
     let t = table (goal.at.returns-in_err-other c).Start in
-    let u = unknown t c.args.against {r = c.in_err-other.field-0.0} (rw (← c.find-2.ensures) (sym c.ok_or-2.ensures.value ∙ c.in_err-other.was)) in
-    rw (handed_on _ c.from_residual-in_err-other.ensures.1, u.1) (sym (when_yes _ _ (or_right (not (used t c.args.id)) _ u.0)))
+    let u = asked-none t c.args.against NoChain c.find-2.ensures c.ok_or-2.ensures.value c.in_err-other.was in
+    rw (handed_on _ c.from_residual-in_err-other.ensures.1, u.1) (sym (when_yes _ _ (or_right (not (used t c.args.id)) _ (unknown t c.args.against u.0))))
 
 pub returns-then-id-against : goal.returns-then-id-against
 unfolding answer_of
@@ -46,7 +47,7 @@ returns-then-id-against c = sym (when_no _ _ (named (goal.at.returns-then-id-aga
 
 pub nth-requires : goal.nth-requires
 nth-requires c = let at = (goal.at.nth-requires c).In_ok-other in
-    (c.requires, omega (arith, first at), omega (arith, second at))
+    (c.requires, (first at).1, (second at).1)
 
 pub returns : goal.returns
 unfolding answer_of
