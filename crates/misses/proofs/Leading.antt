@@ -1,13 +1,12 @@
 -- What is left leads to the answer. Assumes nothing.
 use Prim.Native.Nat.{ℕ}
-use mathlib.Core.Path.{◌≡◌, ap, sym, ◌∙◌}
+use mathlib.Core.Path.{◌≡◌, ap, ◌∙◌}
 use native.Mathlib.Omega.{arith}
-use Rattle.windows.specs.declared.Windows.{Windows}
 use Rattle.std.specs.declared.result.Result.{Result}
 use Rattle.std.specs.declared.result.Result.TheVariants.{Ok, Err}
 use Rattle.table.specs.declared.refusal.Refusal.{Refusal}
 use Rattle.misses.specs.Misses.{Answer}
-use Rattle.misses.specs.Code.Packings.{Within, Leaves, LeadsTo, answer_by}
+use Rattle.misses.specs.Code.Packings.{Leaves, LeadsTo, answer_by}
 use Rattle.misses.specs.declared.Left.{Left}
 
 -- a refusal

@@ -16,7 +16,6 @@ use Rattle.misses.specs.Code.Held.{Asked, Admitted}
 use Rattle.misses.specs.declared.Pieces.{Pieces}
 use Rattle.misses.specs.declared.How.{How}
 use Rattle.misses.specs.declared.How.TheVariants.{Lowest, Each, Sieve}
-use Rattle.misses.specs.declared.Packings.{Packings}
 use Rattle.misses.specs.declared.Left.{Left}
 use Rattle.misses.specs.declared.Left.TheVariants.{Known, Packed}
 

@@ -33,11 +33,18 @@ returns-in_err-early c =
     leads_refused (handed_on _ c.from_residual.ensures.1)
     (sym (at-early (test_of c.args.how) (t (goal.at.returns-in_err-early c).Start) c.args.chain c.args.k (sym (judged (goal.at.returns-in_err-early c).After-early) ∙ c.in_err-early.was)))
 
+-- the windows are those of the chain
 pub returns-in_err-w : goal.returns-in_err-w
-returns-in_err-w c = ?
+returns-in_err-w c =
+    leads_refused (handed_on _ c.from_residual-in_err-w.ensures.1)
+    (sym (at_bound (test_of c.args.how) (t (goal.at.returns-in_err-w c).Start) c.args.chain c.args.k (sym (judged (goal.at.returns-in_err-w c).After-early) ∙ c.in_ok-early.was) (sym c.requires.2 ∙ c.in_err-w.was)))
 
 pub by_figures-requires : goal.by_figures-requires
-by_figures-requires c = ?
+by_figures-requires c = let a = c.args in
+    let p = c.requires in
+    let b = t (goal.at.by_figures-requires c).Start in
+    (p.0, p.1, asked (row_of b a.chain) (p.0.good.row a.chain p.1) (views_of b a.chain) a.k _ (sym (judged (goal.at.by_figures-requires c).After-early) ∙ c.in_ok-early.was) (sym p.2 ∙ c.in_ok-w.was))
 
 pub returns : goal.returns
-returns c = ?
+returns c = leads_same c.by_figures.ensures
+    (sym (at_bound (test_of c.args.how) (t (goal.at.returns c).Start) c.args.chain c.args.k (sym (judged (goal.at.returns c).After-early) ∙ c.in_ok-early.was) (sym c.requires.2 ∙ c.in_ok-w.was)))

@@ -1,6 +1,6 @@
 -- All k where the empty set is bad; else the flags are those of the bad sets, either way.
 use Prim.Native.Nat.{ℕ}
-use mathlib.Core.Path.{◌≡◌, ap, sym, ◌∙◌}
+use mathlib.Core.Path.{◌≡◌, sym, ◌∙◌}
 use mathlib.Core.Bool.{false}
 use native.Mathlib.Omega.{arith}
 use lib.Dec.{leb}
@@ -17,7 +17,7 @@ use Rattle.misses.specs.Code.Settling.{over_with, Costs, Tries}
 use Rattle.misses.proofs.Packs.{flags_tell}
 use Rattle.misses.proofs.Missed.{missed_few, missed_tries, missed_over, missed_costs, missed_without, missed_counts, missed_sized}
 use Rattle.misses.proofs.testing.by_windows.Goals as goal
-use Rattle.misses.proofs.testing.by_windows.Goals.{After-load-own, After-sets_of-sets, Else-over, then-each, else-each}
+use Rattle.misses.proofs.testing.by_windows.Goals.{After-load-own, After-sets_of-sets, Else-over, in-Each, in_default}
 
 abbrev table : (c : After-load-own) → Table
 table c = table_of c.args.s.now
@@ -52,11 +52,22 @@ prices-costs-requires c = few (goal.at.prices-costs-requires c).After-load-own
 pub sets_of-sets-requires : goal.sets_of-sets-requires
 sets_of-sets-requires c = (few (goal.at.sets_of-sets-requires c).After-load-own).few
 
-pub flags_by_windows-requires : goal.flags_by_windows-requires
-flags_by_windows-requires c = (tries (goal.at.flags_by_windows-requires c).After-load-own, fine (goal.at.flags_by_windows-requires c).Else-over, costs (goal.at.flags_by_windows-requires c).After-sets_of-sets)
+pub flags_by_windows-bad-requires : goal.flags_by_windows-bad-requires
+flags_by_windows-bad-requires c = (tries (goal.at.flags_by_windows-bad-requires c).After-load-own, fine (goal.at.flags_by_windows-bad-requires c).Else-over, costs (goal.at.flags_by_windows-bad-requires c).After-sets_of-sets)
 
 pub lowest_bad-requires : goal.lowest_bad-requires
 lowest_bad-requires c = (tries (goal.at.lowest_bad-requires c).After-load-own, fine (goal.at.lowest_bad-requires c).Else-over, costs (goal.at.lowest_bad-requires c).After-sets_of-sets)
 
 pub returns : goal.returns
-returns c = ?
+returns c = let p = (goal.at.returns c).After-load-own in
+    let prices = c.prices-costs in
+    let costly = over_with (load p) c.args.w.figures.close in
+    record {
+      is = missed_counts c.requires by_windows (same p) (fine (goal.at.returns c).Else-over) prices.result prices.ensures (flagged c.match-how.bad)
+          (elim c.match-how.branch [
+            | in-Each w ↦ rw w.bad-is (flags_tell w.flags_by_windows-bad.result (λ m. costly (get_or prices.result m 0)) w.flags_by_windows-bad.ensures)
+            | in_default w ↦ rw w.bad-is
+                (λ m h. flags_tell w.flags-bad.result (λ m. leb w.lowest_bad.result (get_or prices.result m 0)) w.flags-bad.ensures m h ∙ w.lowest_bad.ensures m h)
+          ]);
+      within = missed_sized c.requires;
+    }
