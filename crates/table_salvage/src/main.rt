@@ -6,9 +6,9 @@ ghost use Rattle.std.specs.Prelude.{◌+◌, ◌<◌};
 ghost use Rattle.table.specs.Code.Taken.{Taken};
 
 use input::{Input, take_file};
-use salvaging::{Salvaged, salvage};
+use salvaging::salvage;
 use table::{Table, count, id_at, place, record_length, u32_at};
-use verdict_text::{put, put_counted, put_number, put_sentence};
+use verdict_text::{put, put_counted, put_number, put_refusal};
 
 // Bytes for the list of 16 stretches, which every salvage's fits into.
 const LIST: usize = 128;
@@ -23,7 +23,7 @@ fn put_piece(err: &impl Print, at: usize, length: usize) -> bool {
 }
 
 fn put_kept(err: &impl Print, id: u16, at: usize, length: usize) -> bool {
-    let chain = put(err, b"kept chain ") && put_number(err, id as usize);
+    let chain = put(err, b"kept chain ") && put_number(err, usize::from(id));
     chain && put_piece(err, at, length)
 }
 
@@ -89,12 +89,6 @@ fn put_result(out: &impl Print, err: &impl Print, res: &[u8]) -> bool {
     is_written
 }
 
-fn put_refused(err: &impl Print, number: u32) -> bool {
-    let which = put(err, b"refused ") && put_number(err, number as usize);
-    let why = which && put(err, b": ") && put_sentence(err, number);
-    why && put(err, b"\n")
-}
-
 // The table is written only where all that was skipped has been told.
 fn put_used(out: &impl Print, err: &impl Print, table: &[u8], list: &[u8], end: usize) -> bool
     requires { Taken table.now }
@@ -107,12 +101,12 @@ fn put_salvaged(out: &impl Print, err: &impl Print, s: &[u8]) -> bool {
     let mut table = [0u8; Table::BYTES];
     let mut list = [0u8; LIST];
     match salvage(s, &mut table, &mut list) {
-        Salvaged::Used { table: n, list: m } => {
-            let used = n as usize;
-            let listed = m as usize;
-            put_used(out, err, &table[..used], &list[..listed], s.len())
+        Ok(used) => {
+            let kept = &table[..used.table as usize];
+            let skipped = &list[..used.list as usize];
+            put_used(out, err, kept, skipped, s.len())
         }
-        Salvaged::Refused(number) => put_refused(err, number),
+        Err(refusal) => put_refusal(err, refusal) && put(err, b"\n"),
     }
 }
 

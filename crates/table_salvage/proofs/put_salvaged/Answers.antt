@@ -5,16 +5,16 @@ use Rattle.table_salvage.proofs.Within.{table-within, list-within, table_taken}
 use Rattle.table_salvage.proofs.put_salvaged.Goals as goal
 
 pub slice_bounds-table-end : goal.slice_bounds-table-end
-slice_bounds-table-end g c = table-within c.salvage.ensures _ _ c.in-Used.is
+slice_bounds-table-end g c = table-within c.salvage.ensures _ c.in-Ok.is
 
-pub slice_bounds-put_used-end : goal.slice_bounds-put_used-end
-slice_bounds-put_used-end g c = sym (length-take-le _ _ (table-within c.salvage.ensures _ _ c.in-Used.is))
+pub slice_bounds-kept-end : goal.slice_bounds-kept-end
+slice_bounds-kept-end g c = sym (length-take-le _ _ (table-within c.salvage.ensures _ c.in-Ok.is))
 
 pub slice_bounds-list-end : goal.slice_bounds-list-end
-slice_bounds-list-end g c = list-within c.salvage.ensures _ _ c.in-Used.is
+slice_bounds-list-end g c = list-within c.salvage.ensures _ c.in-Ok.is
 
-pub slice_bounds-put_used-end-in-Used : goal.slice_bounds-put_used-end-in-Used
-slice_bounds-put_used-end-in-Used g c = sym (length-take-le _ _ (list-within c.salvage.ensures _ _ c.in-Used.is))
+pub slice_bounds-skipped-end : goal.slice_bounds-skipped-end
+slice_bounds-skipped-end g c = sym (length-take-le _ _ (list-within c.salvage.ensures _ c.in-Ok.is))
 
 pub put_used-requires : goal.put_used-requires
-put_used-requires g c = table_taken c.salvage.ensures _ _ c.in-Used.is (λ k. (c.type_inv.s k).fits)
+put_used-requires g c = table_taken c.salvage.ensures _ c.in-Ok.is (λ k. (c.type_inv.s k).fits)
