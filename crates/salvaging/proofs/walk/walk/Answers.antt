@@ -8,14 +8,14 @@ use mathlib.Core.List.{List, [], ◌∷◌, ◌++◌, append_assoc, append-nil}
 use lib.ListN.{length, take, set, length-set}
 use lib.Seq.{take-suc-set}
 use Rattle.table.specs.Limits.{max_chains}
-use Rattle.table.specs.Record.{length_at, row_at}
+use Rattle.table.specs.Record.{id_at, length_at, row_at}
 use Rattle.table.specs.Read.{empty, plus}
 use Rattle.table.specs.declared.Table.{Table}
 use Rattle.salvaging.specs.Kept.{acceptable}
 use Rattle.salvaging.specs.Code.Walk.{Walked}
 use Rattle.salvaging.proofs.Walks.{Acceptable, acceptable-says, kept_from, from-full, found_none, found-one, found-kept, beside-more}
 use Rattle.salvaging.proofs.walk.walk.Goals as goal
-use Rattle.salvaging.proofs.walk.walk.Goals.{After-tasks_part-tasks, At-loop-count, Else-place-s, Start}
+use Rattle.salvaging.proofs.walk.walk.Goals.{After-id_at, After-tasks_part-tasks, At-loop-count, Else-place-s, Start}
 
 -- at the loop's head
 abbrev bytes : (c : At-loop-count) → List ℕ
@@ -36,6 +36,10 @@ accepts c = found-one (c.args.s.now) c.loop-count.at (place c) (c.loop-count.inv
 
 right : (c : Else-place-s) → Acceptable (c.args.s.now) (place c) (c.loop-count.invariant.0)
 right c = acceptable-says (c.args.s.now) (place c) (c.loop-count.invariant.0) (accepts c)
+
+-- the id that is remembered is that of the record there
+bears : (c : After-id_at) → c.id_at.result ≡ id_at (c.args.s.now) (c.next_record-place.result)
+bears c = c.id_at.ensures
 
 -- there is room for a chain more
 room : (c : Else-place-s) → c.loop-count.count < max_chains
@@ -105,7 +109,7 @@ loop-count-preserved c = let i = c.loop-count.invariant.1 in
     let n = c.loop-count.count in
     let kept = found-kept s c.loop-count.at at t i.inside (c.next_record-place.ensures t i.beside) c.if-place-s.false in
     let more : take (n + 1) (set c.loop-count.places n at) ≡ take n c.loop-count.places ++ (at ∷ []) = rw (add-one, take-suc-set c.loop-count.places n at (omega (arith, room (goal.at.loop-count-preserved c).Else-place-s, i.long))) in
-    rw (c.add.ensures, c.id_at.ensures, c.form_at-form.ensures, next (goal.at.loop-count-preserved c).After-tasks_part-tasks, c.tasks_part-tasks.ensures.1) (
+    rw (c.add.ensures, bears (goal.at.loop-count-preserved c).After-id_at, c.form_at-form.ensures, next (goal.at.loop-count-preserved c).After-tasks_part-tasks, c.tasks_part-tasks.ensures.1) (
       plus t (row_at s at),
       record {
         counts = omega (arith, i.counts);
