@@ -4,7 +4,7 @@
 #![tactic(auto)]
 
 use cases::{read_full, say, say_number};
-use merging::{Found, Merged};
+use table::Refusal;
 
 // A copy with another deadline of chain 1, another cost of its first task, or of chain 2's, each below 256: the first byte of
 // each is changed. The record of chain 1 is the table's first 36 bytes, that of chain 2 comes next.
@@ -32,24 +32,19 @@ fn tell(out: &impl Print, table: [u8; 140]) {
 }
 
 // Prints the used length, or `r` and the refusal number.
-fn tell_merged(out: &impl Print, merged: Merged) {
+fn tell_merged(out: &impl Print, merged: Result<u32, Refusal>) {
     match merged {
-        Merged::Used(n) => say_number(out, b"", n as u64),
-        Merged::Ancestor(number, _) => say_number(out, b"r", number as u64),
-        Merged::First(number, _) => say_number(out, b"r", number as u64),
-        Merged::Second(number, _) => say_number(out, b"r", number as u64),
-        Merged::Conflict(_) => say_number(out, b"r", 32),
-        Merged::NoRoom => say_number(out, b"r", 24),
-        Merged::Result(number, _) => say_number(out, b"r", number as u64),
+        Ok(n) => say_number(out, b"", n as u64),
+        Err(refusal) => say_number(out, b"r", refusal.number() as u64),
     }
     say(out, b"\n");
 }
 
 // Prints the chain in conflict, 0 if there is none, or `r` and the refusal number.
-fn tell_found(out: &impl Print, found: Found) {
+fn tell_found(out: &impl Print, found: Result<u32, Refusal>) {
     match found {
-        Found::Id(id) => say_number(out, b"in conflict: chain ", id as u64),
-        Found::Refused(number) => say_number(out, b"in conflict: r", number as u64),
+        Ok(id) => say_number(out, b"in conflict: chain ", id as u64),
+        Err(refusal) => say_number(out, b"in conflict: r", refusal.number() as u64),
     }
     say(out, b"\n");
 }
@@ -66,10 +61,12 @@ fn main(rt: HostRuntime) {
     let first = with_deadline_of_1(sample, 30);
     let second = with_cost_of_1(sample, 12);
     let mut result = [0u8; 140];
-    tell_merged(out, merging::merge(&sample, &first, &second, &mut result));
+    let refused = merging::merge(&sample, &first, &second, &mut result);
+    tell_merged(out, refused.map_err(Refusal::from));
     tell_found(out, merging::conflict(&sample, &first, &second, 0));
     say(out, b"the second raises the cost of chain 2 to 7 instead: ");
     let instead = with_cost_of_2(sample, 7);
-    tell_merged(out, merging::merge(&sample, &first, &instead, &mut result));
+    let merged = merging::merge(&sample, &first, &instead, &mut result);
+    tell_merged(out, merged.map_err(Refusal::from));
     tell(out, result);
 }

@@ -3,9 +3,9 @@
 #![tactic(auto)]
 
 use input::{Input, take_file};
-use merging::{Found, Merged};
-use table::Table;
-use verdict_text::{put, put_number, put_refusal, put_refused, put_sentence};
+use merging::Unmerged;
+use table::{Fault, Refusal, Table};
+use verdict_text::{put, put_fault, put_number, put_refusal, put_refused};
 
 // One byte more than the longest table, so that a longer one is seen to be too long.
 const READ: usize = Table::BYTES + 1;
@@ -24,20 +24,20 @@ fn put_result(out: &impl Print, err: &impl Print, res: &[u8]) -> bool {
 }
 
 // A table's own refusal.
-fn put_table_refused(err: &impl Print, which: &[u8], s: &[u8], number: u32, at: usize) -> bool {
+fn put_table_refused(err: &impl Print, which: &[u8], s: &[u8], fault: Fault) -> bool {
     let whose = put(err, which) && put(err, b": ");
-    whose && put_refused(err, s, number, at) && put(err, b"\n")
+    whose && put_refused(err, s, fault) && put(err, b"\n")
 }
 
 // The result's bytes are not there, so its record and field are not told.
-fn put_result_refused(err: &impl Print, number: u32, at: usize) -> bool {
+fn put_result_refused(err: &impl Print, fault: Fault) -> bool {
     let whose = put(err, b"result: ");
-    whose && put_refusal(err, number, at) && put(err, b"\n")
+    whose && put_fault(err, fault) && put(err, b"\n")
 }
 
 fn put_no_room(err: &impl Print) -> bool {
-    let what = put(err, b"result: refused 24: ");
-    what && put_sentence(err, 24) && put(err, b"\n")
+    let whose = put(err, b"result: ");
+    whose && put_refusal(err, Refusal::BufferShort) && put(err, b"\n")
 }
 
 fn put_in_conflict(err: &impl Print, id: u32) -> bool {
@@ -49,20 +49,12 @@ fn put_in_conflict(err: &impl Print, id: u32) -> bool {
         )
 }
 
-// The smallest id in conflict that is greater than `above`; 0 where there is none.
-fn conflict_above(ancestor: &[u8], first: &[u8], second: &[u8], above: u32) -> u32 {
-    match merging::conflict(ancestor, first, second, above) {
-        Found::Id(id) => id,
-        Found::Refused(_) => 0,
-    }
-}
-
 // A line for each id in conflict, in rising order.
 fn put_ids(err: &impl Print, ancestor: &[u8], first: &[u8], second: &[u8]) -> bool {
     let mut above: u32 = 0;
     let mut is_written = true;
     while is_written {
-        let id = conflict_above(ancestor, first, second, above);
+        let id = merging::conflict(ancestor, first, second, above).unwrap_or(0);
         if id <= above {
             break;
         }
@@ -73,8 +65,7 @@ fn put_ids(err: &impl Print, ancestor: &[u8], first: &[u8], second: &[u8]) -> bo
 }
 
 fn put_conflicts(err: &impl Print, ancestor: &[u8], first: &[u8], second: &[u8]) -> bool {
-    let what = put(err, b"refused 32: ");
-    let line = what && put_sentence(err, 32) && put(err, b"\n");
+    let line = put_refusal(err, Refusal::Conflicting) && put(err, b"\n");
     line && put_ids(err, ancestor, first, second)
 }
 
@@ -87,16 +78,16 @@ fn put_merged<'a>(
 ) -> bool {
     let mut res = [0u8; ROOM];
     match merging::merge(ancestor, first, second, &mut res) {
-        Merged::Used(n) => {
+        Ok(n) => {
             let used = n as usize;
             put_result(out, err, &res[..used])
         }
-        Merged::Ancestor(number, at) => put_table_refused(err, b"ancestor", ancestor, number, at),
-        Merged::First(number, at) => put_table_refused(err, b"first copy", first, number, at),
-        Merged::Second(number, at) => put_table_refused(err, b"second copy", second, number, at),
-        Merged::Conflict(_) => put_conflicts(err, ancestor, first, second),
-        Merged::NoRoom => put_no_room(err),
-        Merged::Result(number, at) => put_result_refused(err, number, at),
+        Err(Unmerged::Ancestor(fault)) => put_table_refused(err, b"ancestor", ancestor, fault),
+        Err(Unmerged::First(fault)) => put_table_refused(err, b"first copy", first, fault),
+        Err(Unmerged::Second(fault)) => put_table_refused(err, b"second copy", second, fault),
+        Err(Unmerged::Conflict(_)) => put_conflicts(err, ancestor, first, second),
+        Err(Unmerged::NoRoom) => put_no_room(err),
+        Err(Unmerged::Merged(fault)) => put_result_refused(err, fault),
     }
 }
 
