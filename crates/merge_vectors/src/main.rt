@@ -6,8 +6,9 @@
 ghost use Rattle.std.specs.Prelude.{◌≡◌, ◌≤◌, length, take};
 
 use cases::{Outcome, filled, read_full, same, scribbled, went};
-use merging::{Found, Merged};
+use merging::Unmerged;
 use std::io::Read;
+use table::Refusal;
 
 // What a case expects: the refusal number, 0 for none, and its detail.
 #[derive(Clone, Copy)]
@@ -28,49 +29,39 @@ fn next_bytes(from: &mut impl Read, buffer: &mut [u8]) -> usize
 
 // ---- The merge ----
 
-// Whether a table, or the result, is to be refused so.
-fn refuses(number: u32, at: usize, expected: Expected) -> bool {
-    0 < number && number == expected.number && at == expected.detail as usize
+// Whether the merge is refused at this place, or with this id, where the number is as expected.
+fn is_detail(why: Unmerged, detail: usize) -> bool {
+    match why {
+        Unmerged::Ancestor(fault) => fault.1 == detail,
+        Unmerged::First(fault) => fault.1 == detail,
+        Unmerged::Second(fault) => fault.1 == detail,
+        Unmerged::Conflict(id) => id as usize == detail,
+        Unmerged::NoRoom => detail == 0,
+        Unmerged::Merged(fault) => fault.1 == detail,
+    }
 }
 
 // Whether the answer has the expected number, and the expected length, place or id.
-fn answers(merged: Merged, expected: Expected) -> bool {
+fn answers(merged: Result<u32, Unmerged>, expected: Expected) -> bool {
     match merged {
-        Merged::Used(n) => expected.number == 0 && n == expected.detail,
-        Merged::Ancestor(number, at) => refuses(number, at, expected),
-        Merged::First(number, at) => refuses(number, at, expected),
-        Merged::Second(number, at) => refuses(number, at, expected),
-        Merged::Conflict(id) => expected.number == 32 && id == expected.detail,
-        Merged::NoRoom => expected.number == 24 && expected.detail == 0,
-        Merged::Result(number, at) => refuses(number, at, expected),
+        Ok(n) => expected.number == 0 && n == expected.detail,
+        Err(why) => {
+            Refusal::from(why).number() == expected.number
+                && is_detail(why, expected.detail as usize)
+        }
     }
 }
 
 // ---- The query for conflicts ----
 
-// The number with which one of the three tables is refused, 0 where none is.
-fn table_refusal(merged: Merged) -> u32 {
+// What the query is to answer after this merge: a table's refusal, or the smallest id in conflict, 0 where there is none.
+fn in_conflict(merged: Result<u32, Unmerged>) -> Result<u32, Refusal> {
     match merged {
-        Merged::Ancestor(number, _) => number,
-        Merged::First(number, _) => number,
-        Merged::Second(number, _) => number,
-        _ => 0,
-    }
-}
-
-// The smallest id in conflict, 0 where there is none.
-fn in_conflict(merged: Merged) -> u32 {
-    match merged {
-        Merged::Conflict(id) => id,
-        _ => 0,
-    }
-}
-
-// Whether the query agrees with the merge.
-fn agrees(found: Found, merged: Merged) -> bool {
-    match found {
-        Found::Id(id) => table_refusal(merged) == 0 && id == in_conflict(merged),
-        Found::Refused(number) => 0 < number && number == table_refusal(merged),
+        Ok(_) => Ok(0),
+        Err(Unmerged::Conflict(id)) => Ok(id),
+        Err(Unmerged::NoRoom) => Ok(0),
+        Err(Unmerged::Merged(_)) => Ok(0),
+        Err(table) => Err(Refusal::from(table)),
     }
 }
 
@@ -138,7 +129,7 @@ fn merge_as_expected<'a>(
 ) -> bool {
     let merged = merging::merge(ancestor, first, second, buffer);
     let found = merging::conflict(ancestor, first, second, 0);
-    answers(merged, expected) && same(buffer, after) && agrees(found, merged)
+    answers(merged, expected) && same(buffer, after) && found == in_conflict(merged)
 }
 
 // Reads the result, which is to stand before the bytes that stay in a buffer with this much room, and merges.
