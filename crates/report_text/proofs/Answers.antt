@@ -12,12 +12,12 @@ use Rattle.table.specs.Find.{row_of, rows, find_of}
 use Rattle.table.specs.Code.Good.{GoodTable}
 use Rattle.table.specs.Read.{unless, read_table}
 use Rattle.table.specs.declared.Table.{Table}
-use Rattle.table.specs.declared.Verdict.TheVariants.{Accepted, Refused as Faulty}
+use Rattle.std.specs.declared.result.Result.TheVariants.{Ok, Err}
+use Rattle.table.specs.declared.refusal.Refusal.{Refusal}
 use Rattle.table.proofs.Accepted.{taken}
 use Rattle.table.proofs.Finds.{find_is}
 use Rattle.arrivals.specs.Arrivals.{δ}
-use Rattle.windows.specs.Demand.{views_of}
-use Rattle.windows.specs.Latency.{bound_of, latency_of}
+use Rattle.windows.specs.Latency.{bound_at, figures_of, latency_of}
 use Rattle.windows.proofs.Answers.{latency-accepted}
 use Rattle.windows.proofs.Answers.{chain-found as latency-found}
 use Rattle.misses.specs.Bad.{by_windows}
@@ -42,7 +42,7 @@ pub lines_on : (t : Table) (n : ℕ) → lines_in t (n + 1) ≡ lines_in t n ++ 
 unfolding lines_in
 lines_on t n = rw add-one
 
-module _ (s : List ℕ) (bytes : Bytes s) (yes : (read_table s).verdict ≡ Accepted) where
+module _ (s : List ℕ) (bytes : Bytes s) (yes : (read_table s).verdict ≡ Ok tt) where
   abbrev t : Table
   t = (read_table s).table
 
@@ -53,10 +53,10 @@ module _ (s : List ℕ) (bytes : Bytes s) (yes : (read_table s).verdict ≡ Acce
     found : find_of t (row_of t chain).id ≡ chain
     found = find_is t good chain h
 
-    latency-is : latency_of s (row_of t chain).id ≡ (bound_of δ (row_of t chain) (views_of t chain)).answer
+    latency-is : latency_of s (row_of t chain).id ≡ figures_of (bound_at δ t chain)
     latency-is =
         latency-accepted δ s (row_of t chain).id yes ∙ latency-found δ t (row_of t chain).id (λ e. omega (arith, e, found, h))
-        ∙ ap (λ j. (bound_of δ (row_of t j) (views_of t j)).answer) found
+        ∙ ap (λ j. figures_of (bound_at δ t j)) found
 
     misses-is : misses_of s (row_of t chain).id miss_run ≡ misses_at t chain miss_run
     misses-is =
@@ -80,7 +80,7 @@ module _ (s : List ℕ) (bytes : Bytes s) (yes : (read_table s).verdict ≡ Acce
   report-accepted = ap (λ v. unless refused_text v (header ++ flat_map (line_of s) (rows t))) yes ∙ ap (λ l. header ++ l) (lines_are t.count (omega arith))
 
 -- the report of a refused one
-pub report-refused : (s : List ℕ) {n place : ℕ} → (read_table s).verdict ≡ Faulty n place → report_of s ≡ refused_text n place
+pub report-refused : (s : List ℕ) {n : Refusal} {place : ℕ} → (read_table s).verdict ≡ Err (n, place) → report_of s ≡ refused_text n place
 unfolding report_of unless
 report-refused s e = ap (λ v. unless refused_text v (header ++ flat_map (line_of s) (rows (read_table s).table))) e
 

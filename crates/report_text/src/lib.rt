@@ -12,7 +12,7 @@ ghost use Rattle.slices.specs.Code.Wrote.{Wrote};
 ghost use Rattle.report_text.specs.Code.Writing.{lines_in};
 
 use lines::put_line;
-use table::{Table, Verdict, count, judge};
+use table::{Fault, Refusal, Table, count, judge};
 use text::{put_byte, put_decimal, put_number, put_text};
 
 // The longest line, and the longest report: the header and a line for each chain.
@@ -21,12 +21,12 @@ const LINE: usize = 68;
 pub const LONGEST: usize = 35 + Table::CHAINS * LINE;
 
 // The only line of a refused table.
-fn put_refused(out: &mut [u8], n: u32, place: u32) -> usize
+fn put_refused(out: &mut [u8], refusal: Refusal, place: u32) -> usize
     requires { longest ≤ length out.old }
-    ensures { Wrote out.old 0 (refused_text n place) out.new result }
+    ensures { Wrote out.old 0 (refused_text refusal place) out.new result }
 {
     let after_word = put_text(out, 0, b"refused ");
-    let after_number = put_decimal(out, after_word, n);
+    let after_number = put_decimal(out, after_word, refusal.number());
     let after_place = put_number(out, after_number, place);
     put_byte(out, after_place, b'\n')
 }
@@ -48,7 +48,7 @@ pub fn report(table: &[u8], out: &mut [u8; LONGEST]) -> usize
     ensures { Reported table.now out.old out.new result }
 {
     match judge(table) {
-        Verdict::Accepted => put_lines(out, table),
-        Verdict::Refused(n, at) => put_refused(out, n, at as u32),
+        Ok(()) => put_lines(out, table),
+        Err(Fault(refusal, at)) => put_refused(out, refusal, at as u32),
     }
 }

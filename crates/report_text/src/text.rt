@@ -5,6 +5,8 @@ ghost use Rattle.report_text.specs.Numbers.{decimal, signed};
 ghost use Rattle.report_text.specs.Report.{after_space, refusal_text};
 ghost use Rattle.slices.specs.Code.Wrote.{Wrote};
 
+use table::Refusal;
+
 pub fn put_byte(out: &mut [u8], at: usize, b: u8) -> usize
     requires { at + 1 ≤ length out.old }
     ensures { Wrote out.old at (b ∷ []) out.new result }
@@ -63,10 +65,10 @@ pub fn put_signed(out: &mut [u8], at: usize, x: i32) -> usize
 }
 
 // A space, `r` and a refusal's number.
-pub fn put_refusal(out: &mut [u8], at: usize, n: u32) -> usize
+pub fn put_refusal(out: &mut [u8], at: usize, refusal: Refusal) -> usize
     requires { at + 12 ≤ length out.old }
-    ensures { Wrote out.old at (after_space (refusal_text n)) out.new result × (result ≤ at + 12) }
+    ensures { Wrote out.old at (after_space (refusal_text refusal)) out.new result × (result ≤ at + 12) }
 {
     let next = put_text(out, at, b" r");
-    put_decimal(out, next, n)
+    put_decimal(out, next, refusal.number())
 }

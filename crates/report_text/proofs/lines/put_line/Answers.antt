@@ -1,6 +1,5 @@
 -- The id, the two answers and the line feed; the windows are those of both queries.
 use native.Mathlib.Omega.{arith}
-use Prim.Native.Nat.{ℕ}
 use mathlib.Core.Path.{◌≡◌, ap, ap₂, sym, subst, ◌∙◌}
 use Rattle.table.specs.Find.{row_of}
 use Rattle.table.specs.Record.{row_at}
@@ -8,15 +7,11 @@ use Rattle.table.specs.Read.{table_of}
 use Rattle.table.specs.declared.Row.{Row}
 use Rattle.table.proofs.Stands.{row-there, stands}
 use Rattle.arrivals.specs.Arrivals.{δ}
-use Rattle.windows.specs.Demand.{views_of}
-use Rattle.windows.specs.Latency.{bound_of}
-use Rattle.misses.specs.Misses.{misses_at}
-use Rattle.windows.specs.declared.Windows.{Windows}
-use Rattle.report_text.specs.Report.{miss_run, line_text}
+use Rattle.windows.specs.Latency.{bound_at, figures_of}
+use Rattle.report_text.specs.Report.{line_text}
+use Rattle.report_text.specs.Code.Writing.{line_in}
 use Rattle.slices.specs.Code.Wrote.{Wrote}
-use Rattle.report_text.specs.Code.Writing.{Bounded}
 use Rattle.report_text.proofs.Decimals.{decimal-fits}
-use Rattle.report_text.proofs.Refusals.{bounded}
 use Rattle.slices.proofs.Writes.{wrote_on}
 use Rattle.report_text.proofs.lines.put_line.Goals as goal
 use Rattle.report_text.proofs.lines.put_line.Goals.{After-from}
@@ -35,10 +30,8 @@ put_decimal-after_id-requires c = omega (arith, c.requires.0, decimal-fits c.fro
 
 pub put_answers-end-requires : goal.put_answers-end-requires
 put_answers-end-requires c = let w = c.put_decimal-after_id.ensures in
-    let id = c.from in (
-      omega (arith, c.requires.0, w.ends, w.long, decimal-fits id.result (omega (arith, id.type_inv))),
-      subst (λ (a : Windows). Bounded a.answer) (sym c.bound-w.ensures) (bounded _ _),
-    )
+    let id = c.from in
+    omega (arith, c.requires.0, w.ends, w.long, decimal-fits id.result (omega (arith, id.type_inv)))
 
 pub put_byte-requires : goal.put_byte-requires
 put_byte-requires c = let w = c.put_decimal-after_id.ensures in
@@ -50,12 +43,12 @@ pub returns : goal.returns
 returns c = let t = table_of c.args.s.now in
     let chain = c.args.chain in
     let id = c.from in
-    let x = c.bound-w in
+    let x = c.bound-windows in
     let m = c.misses_with-missed in
     let w = c.put_decimal-after_id.ensures in
     let a = c.put_answers-end.ensures in
-    let e : line_text id.result x.result.answer m.result ≡ line_text (row_of t chain).id (bound_of δ (row_of t chain) (views_of t chain)).answer (misses_at t chain miss_run) =
-    ap₂ (λ (k : ℕ) (q : Windows). line_text k q.answer m.result) (id-is (goal.at.returns c).After-from) x.ensures ∙ ap (line_text (row_of t chain).id (bound_of δ (row_of t chain) (views_of t chain)).answer) m.ensures in (
+    let e : line_text id.result (figures_of x.result) m.result ≡ line_in t chain =
+    ap₂ (λ k r. line_text k (figures_of r) m.result) (id-is (goal.at.returns c).After-from) x.ensures ∙ ap (line_text (row_of t chain).id (figures_of (bound_at δ t chain))) m.ensures in (
       subst (λ l. Wrote c.args.out.now c.args.at l c.put_byte.new.out c.put_byte.result) e (wrote_on (wrote_on w a.0) c.put_byte.ensures),
       omega (arith, w.ends, a.1, c.put_byte.ensures.ends, decimal-fits id.result (omega (arith, id.type_inv))),
     )

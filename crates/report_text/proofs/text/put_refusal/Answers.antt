@@ -6,9 +6,9 @@ use Rattle.report_text.proofs.text.put_refusal.Goals as goal
 
 pub put_decimal-requires : goal.put_decimal-requires
 put_decimal-requires c = let w = c.put_text-next.ensures in
-    omega (arith, w.ends, w.long, c.requires, decimal-fits c.args.n c.ranges.n.fits)
+    omega (arith, w.ends, w.long, c.requires, decimal-fits c.number.result c.number.type_inv)
 
 pub returns : goal.returns
 returns c = let d = c.put_decimal.ensures in
     let w = c.put_text-next.ensures in
-    (wrote_on w d, omega (arith, w.ends, d.ends, decimal-fits c.args.n c.ranges.n.fits))
+    (rw (← c.number.ensures) (wrote_on w d), omega (arith, w.ends, d.ends, decimal-fits c.number.result c.number.type_inv))
