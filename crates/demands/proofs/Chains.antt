@@ -16,20 +16,20 @@ use Rattle.search.proofs.Keeping.{keep-none, keep_one, keep-rest}
 use Rattle.table.specs.Record.{blank}
 use Rattle.table.specs.Find.{row_of, rows, find_of}
 use Rattle.table.specs.Code.Good.{GoodTable}
-use Rattle.table.specs.Read.{accepted, read_table, number_of, table_of}
+use Rattle.table.specs.Read.{accepted, read_table, refused_by, table_of}
 use Rattle.table.specs.declared.Row.{Row}
 use Rattle.table.specs.declared.Table.{Table}
 use Rattle.table.proofs.Accepted.{taken}
 use Rattle.arrivals.specs.Arrivals.{Rule}
 use Rattle.segments.specs.View.{view_of}
 use Rattle.windows.specs.Demand.{views_of}
-use Rattle.windows.specs.Latency.{bound_of, latency_by}
-use Rattle.windows.specs.declared.Answer.TheVariants.{Refused}
+use Rattle.windows.specs.Latency.{figures_of, bound_of, latency_by}
 use Rattle.windows.proofs.Answers as latency
 use Rattle.misses.specs.Overloads.{overloads}
 use Rattle.misses.specs.Bad.{Test}
 use Rattle.misses.specs.Misses.{tested_beside, tested_at, tested_of}
-use Rattle.misses.specs.declared.Answer.TheVariants.{Refused as Unanswered}
+use Rattle.std.specs.declared.result.Result.TheVariants.{Err}
+use Rattle.table.specs.declared.refusal.Refusal.TheVariants.{NoChain}
 use Rattle.misses.proofs.Answers as misses
 use Rattle.saving.proofs.Verdicts.{read-accepted}
 use Rattle.slices.proofs.Parts.{row_in}
@@ -42,7 +42,7 @@ pub table-good : {s : List ℕ} → IsTable s → GoodTable (table_of s)
 table-good {s} h = (taken s h.bytes h.accepted).good
 
 pub table-read : {s : List ℕ} → IsTable s → read_table s ≡ accepted (table_of s)
-table-read {s} h = read-accepted s (ap number_of h.accepted)
+table-read {s} h = read-accepted s (ap refused_by h.accepted)
 
 -- the row is what the record's bytes make
 pub own_row : {s : List ℕ} {id : ℕ} → Has s id → row_in (record_bytes s id) ≡ chain_of s id
@@ -53,7 +53,7 @@ module _ {s : List ℕ} {id : ℕ} (h : Has s id) where
   found : chain_number s id ≡ (table_of s).count → ⊥
   found e = omega (arith, e, h.there)
 
-  pub latency-is : (rule : Rule) → latency_by rule s id ≡ (bound_of rule (chain_of s id) (map (λ a. view_of a (chain_of s id)) (chains.others_of s id))).answer
+  pub latency-is : (rule : Rule) → latency_by rule s id ≡ figures_of (bound_of rule (chain_of s id) (map (λ a. view_of a (chain_of s id)) (chains.others_of s id)))
   unfolding views_of
   latency-is rule = latency.latency-accepted rule s id h.table.accepted ∙ latency.chain-found rule (table_of s) id found
 
@@ -64,10 +64,10 @@ module _ {s : List ℕ} {id : ℕ} (h : Has s id) where
 
 -- no chain has the id: 12
 module _ {s : List ℕ} (h : IsTable s) (id : ℕ) (none : chain_number s id ≡ (table_of s).count) where
-  pub latency-absent : (rule : Rule) → latency_by rule s id ≡ Refused 12
+  pub latency-absent : (rule : Rule) → latency_by rule s id ≡ Err NoChain
   latency-absent rule = latency.latency-accepted rule s id h.accepted ∙ latency.chain-none rule (table_of s) id none
 
-  pub tested-absent : (rule : Rule) (test : Test) (k : ℕ) → tested_of rule test s id k ≡ Unanswered 12
+  pub tested-absent : (rule : Rule) (test : Test) (k : ℕ) → tested_of rule test s id k ≡ Err NoChain
   tested-absent rule test k = misses.tested-accepted rule test s id k h.accepted ∙ misses.chain-none rule test (table_of s) id k none
 
 -- so does one chain of a table bear the id, and the others do not

@@ -17,14 +17,15 @@ use Rattle.table.specs.Record.{gap_form, largest_form, form_at, blank}
 use Rattle.table.specs.Find.{row_of, rows}
 use Rattle.table.specs.Read.{by_verdict, table_of, read_table}
 use Rattle.table.specs.declared.Row.{Row}
-use Rattle.table.specs.declared.Verdict.{Verdict}
-use Rattle.table.specs.declared.Verdict.TheVariants.{Accepted, Refused as Faulty}
+use Rattle.table.specs.Refusal.{Verdict}
+use Rattle.std.specs.declared.result.Result.TheVariants.{Ok, Err}
+use Rattle.table.specs.declared.refusal.Refusal.{Refusal}
+use Rattle.table.specs.declared.refusal.Refusal.TheVariants.{BufferShort, NoSuchForm}
 use Rattle.table.proofs.Firsts.{or_left, or_right, none_or}
 use Rattle.slices.proofs.Parts.{all-at}
 use Rattle.arrivals.specs.Arrivals.{δ, largest, unknown}
 use Rattle.segments.specs.View.{View, view_of}
-use Rattle.windows.specs.Latency.{bound_of, latency_of}
-use Rattle.windows.specs.declared.Windows.{Windows}
+use Rattle.windows.specs.Latency.{figures_of, bound_of, latency_of}
 use Rattle.misses.specs.Bad.{Test, by_windows}
 use Rattle.misses.specs.Sieve.{by_sieve, as_sieved, at_most_of}
 use Rattle.misses.specs.Overloads.{overloads}
@@ -34,9 +35,7 @@ use Rattle.merging.specs.Versions.{three, state_of, ids_of}
 use Rattle.merging.proofs.Promises.{map-alike, first-unchanged, second-unchanged}
 use Rattle.merging.proofs.Equals.{same-result}
 use Rattle.writing.specs.Rows.{table_bytes}
-use Rattle.writing.specs.Write.{written_of}
-use Rattle.writing.specs.declared.Written.{Written}
-use Rattle.writing.specs.declared.Written.TheVariants.{Used, Refused}
+use Rattle.writing.specs.Write.{Written, written_of}
 use Rattle.writing.proofs.Again.{table-again}
 use Rattle.converting.specs.Forms.{in_form, form_of, fits_form, converted, with_largest, with_gap}
 use Rattle.converting.specs.Convert.{rows_in, converted_of, Converts}
@@ -82,7 +81,7 @@ module _ (to : To) {s : List ℕ} (h : IsTable s) (other : form_at s 0 ≡ form_
   converted-rows : rows (table_of (table_in to s)) ≡ rows_in to s
   converted-rows = result-back to (given h) other fit
 
-  given-room : (room : ℕ) → length (table_in to s) ≤ room → converted_of to room s ≡ Used (length (table_in to s))
+  given-room : (room : ℕ) → length (table_in to s) ≤ room → converted_of to room s ≡ Ok (length (table_in to s))
   given-room room l = unrefused to (given h) other fit room ∙ used-given room (rows_in to s) (together-written (together to (given h) other fit)) l
 
   -- its chains fit the same ids, in the same order
@@ -129,8 +128,8 @@ module _ (to : To) {s : List ℕ} (h : IsTable s) (other : form_at s 0 ≡ form_
       latency-stays : latency_of s id ≡ latency_of (table_in to s) id
       latency-stays =
           latency-is own δ
-          ∙ sym (latency-is own-has δ ∙ ap₂ (λ x (l : List Row). (bound_of δ x (map (λ a. view_of a x) l)).answer) row_is others-are
-          ∙ ap (λ v. (bound_of δ (converted to b) v).answer) (views (others_of s id)) ∙ ap (λ (w : Windows). w.answer) (bound-kept to b _))
+          ∙ sym (latency-is own-has δ ∙ ap₂ (λ x (l : List Row). figures_of (bound_of δ x (map (λ a. view_of a x) l))) row_is others-are
+          ∙ ap (λ v. figures_of (bound_of δ (converted to b) v)) (views (others_of s id)) ∙ ap figures_of (bound-kept to b _))
 
       tested_stays : (test : Test) → ((views : List View) (close cost : ℕ) → test (converted to b) views close cost ≡ test b views close cost) → (k : ℕ)
           → tested_of δ test s id k ≡ tested_of δ test (table_in to s) id k
@@ -156,38 +155,38 @@ module _ (to : To) {s : List ℕ} (h : IsTable s) (other : form_at s 0 ≡ form_
         (absent_or_there h id))
 
 -- what is answered with a length is written
-used-written : (to : To) (s : List ℕ) (room n : ℕ) → converted_of to room s ≡ Used n → written_of room (rows_in to s) ≡ Used n
+used-written : (to : To) (s : List ℕ) (room n : ℕ) → converted_of to room s ≡ Ok n → written_of room (rows_in to s) ≡ Ok n
 unfolding converted_of
 used-written to s room n = by (read_table s).verdict
   where
     wrong : Bool
     wrong = eqb (form_at s 0) (form_of to) || not (every (fits_form to) (rows (table_of s)))
 
-    by : (v : Verdict) → by_verdict Refused v (Refused 34 when wrong else written_of room (rows_in to s)) ≡ Used n → written_of room (rows_in to s) ≡ Used n
-    by Accepted = when_cases (λ (w : Written). w ≡ Used n → written_of room (rows_in to s) ≡ Used n) wrong (λ b f. absurd (let z : ◌≡◌ {A = ℕ} 0 1 = cc in omega arith)) (λ b f. f)
-    by (Faulty m place) = λ f. absurd (let z : ◌≡◌ {A = ℕ} 0 1 = cc in omega arith)
+    by : (v : Verdict) → by_verdict Err v (Err NoSuchForm when wrong else written_of room (rows_in to s)) ≡ Ok n → written_of room (rows_in to s) ≡ Ok n
+    by (Ok u) = when_cases (λ (w : Written). w ≡ Ok n → written_of room (rows_in to s) ≡ Ok n) wrong (λ b f. absurd (let z : ◌≡◌ {A = ℕ} 0 1 = cc in omega arith)) (λ b f. f)
+    by (Err g) = λ f. absurd (let z : ◌≡◌ {A = ℕ} 0 1 = cc in omega arith)
 
 -- what an accepted conversion says
-converted-says : (to : To) {s : List ℕ} → IsTable s → (room n : ℕ) → converted_of to room s ≡ Used n
-    → (form_at s 0 ≡ form_of to → ⊥) × (every (fits_form to) (rows (table_of s)) ≡ true) × (written_of room (rows_in to s) ≡ Used n)
+converted-says : (to : To) {s : List ℕ} → IsTable s → (room n : ℕ) → converted_of to room s ≡ Ok n
+    → (form_at s 0 ≡ form_of to → ⊥) × (every (fits_form to) (rows (table_of s)) ≡ true) × (written_of room (rows_in to s) ≡ Ok n)
 unfolding converted_of
 converted-says to {s} h room n e =
-    when_cases (λ (w : Written). w ≡ Used n → (form_at s 0 ≡ form_of to → ⊥) × (every (fits_form to) (rows (table_of s)) ≡ true) × (written_of room (rows_in to s) ≡ Used n))
+    when_cases (λ (w : Written). w ≡ Ok n → (form_at s 0 ≡ form_of to → ⊥) × (every (fits_form to) (rows (table_of s)) ≡ true) × (written_of room (rows_in to s) ≡ Ok n))
     (eqb (form_at s 0) (form_of to) || not (every (fits_form to) (rows (table_of s))))
     (λ b f. absurd (let z : ◌≡◌ {A = ℕ} 0 1 = cc in omega arith))
     (λ b f. let c = none_or (eqb (form_at s 0) (form_of to)) _ b in (eqb-false _ _ c.0, not-false _ c.1, f))
-    (sym (ap (λ (v : Verdict). by_verdict Refused v (Refused 34 when eqb (form_at s 0) (form_of to) || not (every (fits_form to) (rows (table_of s))) else written_of room (rows_in to s))) h.accepted) ∙ e)
+    (sym (ap (λ (v : Verdict). by_verdict Err v (Err NoSuchForm when eqb (form_at s 0) (form_of to) || not (every (fits_form to) (rows (table_of s))) else written_of room (rows_in to s))) h.accepted) ∙ e)
 
 -- a refused table keeps its number
-own-number : (to : To) (s : List ℕ) {n place : ℕ} → (read_table s).verdict ≡ Faulty n place → (room : ℕ) → converted_of to room s ≡ Refused n
+own-number : (to : To) (s : List ℕ) {n : Refusal} {place : ℕ} → (read_table s).verdict ≡ Err (n, place) → (room : ℕ) → converted_of to room s ≡ Err n
 unfolding converted_of
-own-number to s e room = ap (λ (v : Verdict). by_verdict Refused v (Refused 34 when eqb (form_at s 0) (form_of to) || not (every (fits_form to) (rows (table_of s))) else written_of room (rows_in to s))) e
+own-number to s e room = ap (λ (v : Verdict). by_verdict Err v (Err NoSuchForm when eqb (form_at s 0) (form_of to) || not (every (fits_form to) (rows (table_of s))) else written_of room (rows_in to s))) e
 
 -- 34
-always_34 : (to : To) {s : List ℕ} → IsTable s → (room : ℕ) → (eqb (form_at s 0) (form_of to) || not (every (fits_form to) (rows (table_of s)))) ≡ true → converted_of to room s ≡ Refused 34
+always_34 : (to : To) {s : List ℕ} → IsTable s → (room : ℕ) → (eqb (form_at s 0) (form_of to) || not (every (fits_form to) (rows (table_of s)))) ≡ true → converted_of to room s ≡ Err NoSuchForm
 unfolding converted_of
 always_34 to {s} h room e =
-    ap (λ (v : Verdict). by_verdict Refused v (Refused 34 when eqb (form_at s 0) (form_of to) || not (every (fits_form to) (rows (table_of s))) else written_of room (rows_in to s))) h.accepted
+    ap (λ (v : Verdict). by_verdict Err v (Err NoSuchForm when eqb (form_at s 0) (form_of to) || not (every (fits_form to) (rows (table_of s))) else written_of room (rows_in to s))) h.accepted
     ∙ when_yes _ _ e
 
 -- the shape in words
@@ -239,9 +238,9 @@ module _ {s : List ℕ} (x : TableOf gap_form s) where
   back_fits = ap (every (fits_form Gap)) far-rows
       ∙ every_given (fits_form Gap) _ (all_after (λ r. fits_form Gap r ≡ true) with_largest (rows (table_of s)) (each (given x.table) (λ r. fits_form Gap (with_largest r) ≡ true) (λ i l. largest-fits (there i l).good (there i l).form)))
 
-  back-answered : (room : ℕ) → length s ≤ room → converted_of Gap room (table_in Largest s) ≡ Used (length s)
+  back-answered : (room : ℕ) → length s ≤ room → converted_of Gap room (table_in Largest s) ≡ Ok (length s)
   back-answered room l =
-      given-room Gap far (not-gap far-form) back_fits room (omega (arith, ap length old-bytes, l)) ∙ ap (λ (b : List ℕ). Used (length b)) old-bytes
+      given-room Gap far (not-gap far-form) back_fits room (omega (arith, ap length old-bytes, l)) ∙ ap (λ (b : List ℕ). Ok (length b)) old-bytes
 
 pub conversions : Conversions
 conversions = record {
@@ -269,7 +268,7 @@ conversions = record {
   no_room_holds = λ {to} {s} {room} {n} c less l.
       let e = converted-says to c.table room n c.answered in
       let u = used-says room (rows_in to s) n e.2 in
-      unrefused to (given c.table) e.0 e.1 less ∙ refused-given less (rows_in to s) 24 (RefusedFor.no_room u.0 (omega (arith, l, u.2)) refl);
+      unrefused to (given c.table) e.0 e.1 less ∙ refused-given less (rows_in to s) BufferShort (RefusedFor.no_room u.0 (omega (arith, l, u.2)) refl);
   back = λ x. (old-bytes x, back-answered x);
   again = λ {s} {room} {n} c.
       let e = converted-says Gap c.table room n c.answered in
@@ -290,7 +289,7 @@ conversions = record {
     not-every true h = absurd (h refl)
     not-every false h = refl
 
-    written-says : (to : To) (s buffer after : List ℕ) (n : ℕ) → Converts to s buffer (Used n) after → (take n after ≡ table_in to s) × (drop n after ≡ drop n buffer)
+    written-says : (to : To) (s buffer after : List ℕ) (n : ℕ) → Converts to s buffer (Ok n) after → (take n after ≡ table_in to s) × (drop n after ≡ drop n buffer)
     written-says to s buffer after n c =
         let rs = rows_in to s in
         let u = used-says (length buffer) rs n (used-written to s (length buffer) n (sym c.answers)) in

@@ -9,50 +9,72 @@ use lib.Dec.{ltb}
 use lib.ListN.{length}
 use borrow.Author.Tests.{lt-ltb, le-ltb, ne_eqb}
 use denote.Ref.{Bor}
+use Rattle.std.specs.Result.{is_ok}
+use Rattle.std.specs.declared.result.Result.{Result}
+use Rattle.std.specs.declared.result.Result.TheVariants.{Ok, Err}
 use Rattle.search.specs.Choice.{◌when◌else◌}
 use Rattle.search.specs.Lists.{All}
 use Rattle.search.proofs.Choice.{when_yes, when_no, when_cases, lt_or_le}
 use Rattle.table.specs.Field.{TableRefusal}
+use Rattle.table.specs.Refusal.{Verdict, number_of, answering}
+use Rattle.table.specs.Read.{Reading, read_table, outcome_of}
+use Rattle.table.specs.declared.Table.{Table}
+use Rattle.table.specs.declared.refusal.Fault.{Fault}
+use Rattle.table.specs.declared.refusal.Refusal.{Refusal as Reason}
+use Rattle.table.proofs.Rows.{refused_reading}
 use Rattle.table.specs.declared.Row.{Row}
 use Rattle.segments.specs.Query.{segment_of, part_of, offset_of}
 use Rattle.saving.specs.Save as save
-use Rattle.saving.proofs.After.{saved-number}
+use Rattle.saving.proofs.After.{saved-ok}
 use Rattle.merging.specs.Versions.{Versions}
 use Rattle.merging.specs.Merge as merge
-use Rattle.merging.specs.declared.Merged.{Merged}
 use Rattle.writing.specs.Rows.{Typed}
 use Rattle.converting.specs.Convert.{rows_in, converted_of, Converts}
 use Rattle.converting.specs.declared.To.{To}
 use Rattle.salvaging.specs.Salvage as salvage
-use Rattle.salvaging.specs.declared.Salvaged.{Salvaged}
 use Rattle.table.specs.Bytes.{Bytes}
 use Rattle.writing.specs.Write as write
 use Rattle.writing.specs.Fill as fill
-use Rattle.writing.specs.declared.Written.{Written}
-use Rattle.writing.specs.declared.Filled.{Filled}
 use Rattle.report_text.specs.Report.{report_of}
 use Rattle.editor.specs.Entry.{figure_bytes, returned, left_by, too_long, Answered, SaveEntry, MergeEntry, ReadEntry, WriteEntry, ConvertEntry, SalvageEntry, ReportEntry}
-use Rattle.demands.specs.Entries.{SaveRefusal, MergeRefusal, WriteRefusal, ReadRefusal, RecordRefusal, ConvertRefusal, SalvageRefusal, ReportRefusal, CheckRefusal, AtEntry, OneAnswer, Query, Call, OnePart, OneChosen, LatencyRefusal, MissesRefusal, SegmentRefusal, EveryEntry}
+use Rattle.demands.specs.Entries.{SaveRefusal, MergeRefusal, WriteRefusal, ReadRefusal, RecordRefusal, ConvertRefusal, SalvageRefusal, ReportRefusal, CheckRefusal, AtEntry, OneAnswer, mergeNumber, reading_by, Query, Call, OnePart, OneChosen, LatencyRefusal, MissesRefusal, SegmentRefusal, EveryEntry}
 use Rattle.misses.specs.Bad.{by_windows}
-use Rattle.demands.proofs.Answers.{verdict_one, check_one, latency-one, tested-one, sieve_one, segment-one, save-one, merge-one, conflict-one, write-one, convert-one, salvage-one, fill_one, record_one}
+use Rattle.demands.proofs.Answers.{verdict_one, read_one, check_one, latency-one, tested-one, sieve_one, segment-one, save-one, merge-one, conflict-one, write-one, convert-one, salvage-one, fill_one, record_one}
 
 -- a statement that names the answer
 query : {A : Type 0} (right : A) (Refusal : ℕ → Type 0) (n : ℕ) (number : A → ℕ) (figures : A → List ℕ) → OneAnswer Refusal n (number right) (figures right) → Query (λ a. a ≡ right) Refusal n number figures
 query right Refusal n number figures one = record { taken = (right, refl); one = λ e f. e ∙ sym f; answer = λ e. rw e one }
 
+-- what has a number is no success
+not_ok : {A : Type 0} (r : Result A Reason) → (number_of r ≡ 0 → ⊥) → is_ok r ≡ false
+not_ok (Ok a) h = absurd (h refl)
+not_ok (Err e) h = refl
+
+not-merged : (r : merge.Answer) → (mergeNumber r ≡ 0 → ⊥) → is_ok r ≡ false
+not-merged (Ok n) h = absurd (h refl)
+not-merged (Err e) h = refl
+
+-- what is read is what the reader answers
+reads : (s : List ℕ) {r : Result Table Fault} → r ≡ outcome_of (read_table s) → read_table s ≡ reading_by r
+reads s e = by (read_table s).verdict refl ∙ sym (ap reading_by e)
+  where
+    by : (v : Verdict) → (read_table s).verdict ≡ v → read_table s ≡ reading_by (answering (read_table s).verdict (read_table s).table)
+    by (Ok u) f = rw f (ap (λ (v : Verdict). record { verdict = v; table = (read_table s).table }) f)
+    by (Err g) f = rw f (refused_reading s g.0 g.1 f)
+
 -- the save of the library: its answer, and the whole buffer
 module _ (buffer : List ℕ) (used : ℕ) (old new : List ℕ) where
   -- a refused save leaves the buffer
-  save-leaves : (save.number_of (save.saved_of buffer used old new) ≡ 0 → ⊥) → save.buffer_after buffer used old new ≡ buffer
+  save-leaves : (number_of (save.saved_of buffer used old new) ≡ 0 → ⊥) → save.buffer_after buffer used old new ≡ buffer
   unfolding save.buffer_after
-  save-leaves h = when_no _ _ (ne_eqb (save.save_fault buffer used old new) 0 (λ e. h (saved-number buffer used old new ∙ e)))
+  save-leaves h = when_no _ _ (sym (saved-ok buffer used old new) ∙ not_ok (save.saved_of buffer used old new) h)
 
-  save_call : Call (λ after a. save.Saves buffer used old new a after) SaveRefusal save.number_of buffer
+  save_call : Call (λ after a. save.Saves buffer used old new a after) SaveRefusal number_of buffer
   save_call = record {
     taken = (save.buffer_after buffer used old new, save.saved_of buffer used old new, record { answers = refl; leaves = refl });
     one = λ x y. (x.leaves ∙ sym y.leaves, x.answers ∙ sym y.answers);
     refused = λ {x} {r} a h.
-        let n = ap save.number_of a.answers in
+        let n = ap number_of a.answers in
         (subst SaveRefusal (sym n) ((save-one buffer used old new).refused (λ e. h (n ∙ e))).0, a.leaves ∙ save-leaves (λ e. h (n ∙ e)));
   }
 
@@ -71,67 +93,67 @@ module _ (v : Versions) (buffer : List ℕ) where
   merge_after = merge.buffer_after (merge.merged_of (length buffer) v) (merge.result_of v) buffer
 
   -- a refused merge leaves the buffer
-  merge-leaves : (merge.number_of (merge.merged_of (length buffer) v) ≡ 0 → ⊥) → merge_after ≡ buffer
-  merge-leaves h = when_no _ _ (ne_eqb (merge.number_of (merge.merged_of (length buffer) v)) 0 h)
+  merge-leaves : (mergeNumber (merge.merged_of (length buffer) v) ≡ 0 → ⊥) → merge_after ≡ buffer
+  merge-leaves h = when_no _ _ (not-merged (merge.merged_of (length buffer) v) h)
 
-  merge_call : Call (λ after a. merge.Merges v buffer a after) MergeRefusal merge.number_of buffer
+  merge_call : Call (λ after a. merge.Merges v buffer a after) MergeRefusal mergeNumber buffer
   merge_call = record {
     taken = (merge_after, merge.merged_of (length buffer) v, record { answers = refl; leaves = refl });
-    one = λ {x} {y} {r} {q} a b. let e = a.answers ∙ sym b.answers in (a.leaves ∙ ap (λ (m : Merged). merge.buffer_after m (merge.result_of v) buffer) e ∙ sym b.leaves, e);
+    one = λ {x} {y} {r} {q} a b. let e = a.answers ∙ sym b.answers in (a.leaves ∙ ap (λ (m : merge.Answer). merge.buffer_after m (merge.result_of v) buffer) e ∙ sym b.leaves, e);
     refused = λ {x} {r} a h.
-        let n = ap merge.number_of a.answers in
-        (subst MergeRefusal (sym n) ((merge-one (length buffer) v).refused (λ e. h (n ∙ e))).0, a.leaves ∙ when_no _ _ (ne_eqb (merge.number_of r) 0 h));
+        let n = ap mergeNumber a.answers in
+        (subst MergeRefusal (sym n) ((merge-one (length buffer) v).refused (λ e. h (n ∙ e))).0, a.leaves ∙ when_no _ _ (not-merged r h));
   }
 
 -- rows written, and a table read into rows: the answer, and all that is lent
-write_call : (rs : List Row) → All Typed rs → (buffer : List ℕ) → Call (λ after a. write.Writes rs buffer a after) WriteRefusal write.number_of buffer
+write_call : (rs : List Row) → All Typed rs → (buffer : List ℕ) → Call (λ after a. write.Writes rs buffer a after) WriteRefusal number_of buffer
 write_call rs f buffer = record {
   taken = (write.buffer_after (write.written_of (length buffer) rs) rs buffer, write.written_of (length buffer) rs, record { answers = refl; leaves = refl });
-  one = λ {x} {y} {r} {q} a b. let e = a.answers ∙ sym b.answers in (a.leaves ∙ ap (λ (w : Written). write.buffer_after w rs buffer) e ∙ sym b.leaves, e);
+  one = λ {x} {y} {r} {q} a b. let e = a.answers ∙ sym b.answers in (a.leaves ∙ ap (λ (w : write.Written). write.buffer_after w rs buffer) e ∙ sym b.leaves, e);
   refused = λ {x} {r} a h.
-      let n = ap write.number_of a.answers in
-      (subst WriteRefusal (sym n) ((write-one rs f (length buffer)).refused (λ e. h (n ∙ e))).0, a.leaves ∙ when_no _ _ (ne_eqb (write.number_of r) 0 h));
+      let n = ap number_of a.answers in
+      (subst WriteRefusal (sym n) ((write-one rs f (length buffer)).refused (λ e. h (n ∙ e))).0, a.leaves ∙ when_no _ _ (not_ok r h));
 }
 
-fill_call : (s : List ℕ) (before : List Row) → Call (λ after a. fill.Fills s before a after) ReadRefusal fill.number_of before
+fill_call : (s : List ℕ) (before : List Row) → Call (λ after a. fill.Fills s before a after) ReadRefusal number_of before
 fill_call s before = record {
   taken = (fill.rows_after (fill.filled_of (length before) s) s before, fill.filled_of (length before) s, record { answers = refl; leaves = refl });
-  one = λ {x} {y} {r} {q} a b. let e = a.answers ∙ sym b.answers in (a.leaves ∙ ap (λ (w : Filled). fill.rows_after w s before) e ∙ sym b.leaves, e);
+  one = λ {x} {y} {r} {q} a b. let e = a.answers ∙ sym b.answers in (a.leaves ∙ ap (λ (w : fill.Filled). fill.rows_after w s before) e ∙ sym b.leaves, e);
   refused = λ {x} {r} a h.
-      let n = ap fill.number_of a.answers in
-      (subst ReadRefusal (sym n) ((fill_one (length before) s).refused (λ e. h (n ∙ e))).0, a.leaves ∙ when_no _ _ (ne_eqb (fill.number_of r) 0 h));
+      let n = ap number_of a.answers in
+      (subst ReadRefusal (sym n) ((fill_one (length before) s).refused (λ e. h (n ∙ e))).0, a.leaves ∙ when_no _ _ (not_ok r h));
 }
 
 -- a table converted
-convert_call : (to : To) (s buffer : List ℕ) → Bytes s → Call (λ after a. Converts to s buffer a after) ConvertRefusal write.number_of buffer
+convert_call : (to : To) (s buffer : List ℕ) → Bytes s → Call (λ after a. Converts to s buffer a after) ConvertRefusal number_of buffer
 convert_call to s buffer bytes = record {
   taken = (write.buffer_after (converted_of to (length buffer) s) (rows_in to s) buffer, converted_of to (length buffer) s, record { answers = refl; leaves = refl });
-  one = λ {x} {y} {r} {q} a b. let e = a.answers ∙ sym b.answers in (a.leaves ∙ ap (λ (w : Written). write.buffer_after w (rows_in to s) buffer) e ∙ sym b.leaves, e);
+  one = λ {x} {y} {r} {q} a b. let e = a.answers ∙ sym b.answers in (a.leaves ∙ ap (λ (w : write.Written). write.buffer_after w (rows_in to s) buffer) e ∙ sym b.leaves, e);
   refused = λ {x} {r} a h.
-      let n = ap write.number_of a.answers in
-      (subst ConvertRefusal (sym n) ((convert-one to s bytes (length buffer)).refused (λ e. h (n ∙ e))).0, a.leaves ∙ when_no _ _ (ne_eqb (write.number_of r) 0 h));
+      let n = ap number_of a.answers in
+      (subst ConvertRefusal (sym n) ((convert-one to s bytes (length buffer)).refused (λ e. h (n ∙ e))).0, a.leaves ∙ when_no _ _ (not_ok r h));
 }
 
 -- a damaged table salvaged: both buffers
 module _ (s table list : List ℕ) where
-  abbrev salvaged : Salvaged
+  abbrev salvaged : salvage.Answer
   salvaged = salvage.salvaged_of (length table) (length list) s
 
-  abbrev salvages_to : Salvaged → List ℕ × List ℕ
+  abbrev salvages_to : salvage.Answer → List ℕ × List ℕ
   salvages_to a = (salvage.buffer_after a (salvage.table_kept s) table, salvage.buffer_after a (salvage.list_skipped s) list)
 
   -- a refused salvage leaves them
-  salvage-leaves : (a : Salvaged) → (salvage.number_of a ≡ 0 → ⊥) → salvages_to a ≡ (table, list)
-  salvage-leaves a h = ap₂ (λ x y. (x, y)) (when_no _ _ (ne_eqb (salvage.number_of a) 0 h)) (when_no _ _ (ne_eqb (salvage.number_of a) 0 h))
+  salvage-leaves : (a : salvage.Answer) → (number_of a ≡ 0 → ⊥) → salvages_to a ≡ (table, list)
+  salvage-leaves a h = ap₂ (λ x y. (x, y)) (when_no _ _ (not_ok a h)) (when_no _ _ (not_ok a h))
 
-  salvage_call : Call {A = List ℕ × List ℕ} (λ after a. salvage.Salvages s table list a after.0 after.1) SalvageRefusal salvage.number_of (table, list)
+  salvage_call : Call {A = List ℕ × List ℕ} (λ after a. salvage.Salvages s table list a after.0 after.1) SalvageRefusal number_of (table, list)
   salvage_call = record {
     taken = (salvages_to salvaged, salvaged, record { answers = refl; leaves_table = refl; leaves_list = refl });
     one = λ {x} {y} {r} {q} a b.
         let e = a.answers ∙ sym b.answers in
         (ap₂ (λ x y. (x, y)) a.leaves_table a.leaves_list ∙ ap salvages_to e ∙ sym (ap₂ (λ x y. (x, y)) b.leaves_table b.leaves_list), e);
     refused = λ {x} {r} a h.
-        let n = ap salvage.number_of a.answers in
+        let n = ap number_of a.answers in
         (subst SalvageRefusal (sym n) ((salvage-one (length table) (length list) s).refused (λ e. h (n ∙ e))).0, ap₂ (λ x y. (x, y)) a.leaves_table a.leaves_list ∙ salvage-leaves r h);
   }
 
@@ -210,19 +232,19 @@ pub write_entry : (rs : List Row) → All Typed rs → (buffer answer : List ℕ
     → Call {A = List ℕ × List ℕ} (λ after r. WriteEntry rs buffer answer after.0 after.1 r) (AtEntry WriteRefusal) (λ r. r) (buffer, answer)
 write_entry rs f buffer answer =
     entry (λ x r a. record { answers = a.answers; leaves = a.leaves }) (λ x r e. record { answers = e.answers; leaves = e.leaves })
-    (beside WriteRefusal 1 _ _ (write-one rs f (length buffer)) buffer (write.buffer_after (write.written_of (length buffer) rs) rs buffer) (λ h. when_no _ _ (ne_eqb _ 0 h)) answer)
+    (beside WriteRefusal 1 _ _ (write-one rs f (length buffer)) buffer (write.buffer_after (write.written_of (length buffer) rs) rs buffer) (λ h. when_no _ _ (not_ok _ h)) answer)
 
 pub read-entry : (s : List ℕ) (rs : List Row) (answer : List ℕ)
     → Call {A = List Row × List ℕ} (λ after r. ReadEntry s rs answer after.0 after.1 r) (AtEntry ReadRefusal) (λ r. r) (rs, answer)
 read-entry s rs answer =
     entry (λ x r a. record { answers = a.answers; leaves = a.leaves }) (λ x r e. record { answers = e.answers; leaves = e.leaves })
-    (beside ReadRefusal 1 _ _ (fill_one (length rs) s) rs (fill.rows_after (fill.filled_of (length rs) s) s rs) (λ h. when_no _ _ (ne_eqb _ 0 h)) answer)
+    (beside ReadRefusal 1 _ _ (fill_one (length rs) s) rs (fill.rows_after (fill.filled_of (length rs) s) s rs) (λ h. when_no _ _ (not_ok _ h)) answer)
 
 pub convert_entry : (to : To) (s : List ℕ) → Bytes s → (buffer answer : List ℕ)
     → Call {A = List ℕ × List ℕ} (λ after r. ConvertEntry to s buffer answer after.0 after.1 r) (AtEntry ConvertRefusal) (λ r. r) (buffer, answer)
 convert_entry to s bytes buffer answer =
     entry (λ x r a. record { answers = a.answers; leaves = a.leaves }) (λ x r e. record { answers = e.answers; leaves = e.leaves })
-    (beside ConvertRefusal 1 _ _ (convert-one to s bytes (length buffer)) buffer (write.buffer_after (converted_of to (length buffer) s) (rows_in to s) buffer) (λ h. when_no _ _ (ne_eqb _ 0 h)) answer)
+    (beside ConvertRefusal 1 _ _ (convert-one to s bytes (length buffer)) buffer (write.buffer_after (converted_of to (length buffer) s) (rows_in to s) buffer) (λ h. when_no _ _ (not_ok _ h)) answer)
 
 -- a choice between two pairs is one between their parts
 of_choice : {A B : Type 0} (f : A → B) (x y : A) (t : Bool) → f (x when t else y) ≡ (f x when t else f y)
@@ -271,7 +293,8 @@ module _ (s text answer : List ℕ) where
 pub every-entry : EveryEntry
 every-entry = record {
   judge = λ s. query _ TableRefusal 0 _ _ (verdict_one s);
-  read = λ s e f. e ∙ sym f;
+  read = λ s. query _ TableRefusal 0 _ _ (read_one s);
+  reads = reads;
   latency = λ s id. query _ LatencyRefusal 4 _ _ (latency-one s id);
   misses = λ s id k. query _ MissesRefusal 1 _ _ (tested-one by_windows s id k);
   misses_plain = λ s id k. query _ MissesRefusal 1 _ _ (tested-one by_windows s id k);

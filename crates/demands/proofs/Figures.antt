@@ -31,13 +31,13 @@ use Rattle.arrivals.proofs.Counts.{η-zero, η-greatest}
 use Rattle.arrivals.proofs.Lists.{rising}
 use Rattle.arrivals.proofs.Rows.{largests-rising, largest-by-gap, largest-by-list}
 use Rattle.windows.specs.Demand.{views_of}
-use Rattle.windows.specs.Window.{Solution, window_of}
-use Rattle.windows.specs.Latency.{long, ends, close_of, latency_at, up_to, latency_to, over_of, late_to, margin_of, ends_with, windows_of, bound_of, latency_of}
-use Rattle.windows.specs.declared.Window.{Window}
-use Rattle.windows.specs.declared.Window.TheVariants.{At, Nothing}
+use Rattle.windows.specs.Window.{Window, Solution, window_of}
+use Rattle.windows.specs.Latency.{long, ends, close_of, latency_at, up_to, latency_to, over_of, late_to, margin_of, ends_with, windows_of, figures, figures_of, bound_of, latency_of, Answer}
+use Rattle.std.specs.declared.option.Option.TheVariants.{Some, None}
+use Rattle.std.specs.declared.result.Result.TheVariants.{Ok, Err}
+use Rattle.table.specs.declared.refusal.Refusal.TheVariants.{PastHorizon, StillOpen}
+use Rattle.windows.specs.declared.Figures.{Figures}
 use Rattle.windows.specs.declared.Windows.{Windows}
-use Rattle.windows.specs.declared.Answer.{Answer}
-use Rattle.windows.specs.declared.Answer.TheVariants.{Figures, Refused}
 use Rattle.windows.proofs.Least.{window-only, window-at, window-none}
 use Rattle.windows.proofs.Growth.{Growing, demand-growing}
 use Rattle.windows.proofs.Besides.{others-paced}
@@ -57,8 +57,8 @@ module _ (demand : ℕ → ℕ → ℕ) (ds : List ℕ) where
   abbrev ends_at : ℕ → Bool
   ends_at q = ends (window_of (demand q)) (δ ds (q + 1))
 
-  window-is : (q t : ℕ) → Solution (demand q) t → window_of (demand q) ≡ At t
-  window-is q t a = sym (window-only (demand q) (At t) a)
+  window-is : (q t : ℕ) → Solution (demand q) t → window_of (demand q) ≡ Some t
+  window-is q t a = sym (window-only (demand q) (Some t) a)
 
   -- an open window does not end the walk
   goes_on : (q t : ℕ) → Solution (demand q) t → δ ds (q + 1) < t → ends_at q ≡ true → ⊥
@@ -74,16 +74,16 @@ module _ (demand : ℕ → ℕ → ℕ) (ds : List ℕ) where
 
   module _ (deadline : ℕ) where
     abbrev answer : Answer
-    answer = (windows_of demand (δ ds) deadline).answer
+    answer = figures_of (windows_of demand (δ ds) deadline)
 
-    pub no_window : NoWindow demand ds → answer ≡ Refused 16
+    pub no_window : NoWindow demand ds → answer ≡ Err PastHorizon
     no_window n =
-        let e : window_of (demand n.q) ≡ Nothing = sym (window-only (demand n.q) Nothing n.none) in
-        ap (λ (w : Windows). w.answer)
+        let e : window_of (demand n.q) ≡ None = sym (window-only (demand n.q) None n.none) in
+        ap figures_of
         (windows-end demand (δ ds) deadline n.q n.low n.high (ap (λ w. ends w (δ ds (n.q + 1))) e) (walked n.q n.earlier) ∙ ap (ends_with demand (δ ds) deadline n.q) e)
 
-    pub no_close : NoClose demand ds → answer ≡ Refused 17
-    no_close o = ap (λ (w : Windows). w.answer) (windows_open demand (δ ds) deadline (walked (max_activations + 1) o))
+    pub no_close : NoClose demand ds → answer ≡ Err StillOpen
+    no_close o = ap figures_of (windows_open demand (δ ds) deadline (walked (max_activations + 1) o))
 
     -- the figures of windows
     module _ (k : ℕ) (B : ℕ → ℕ) (windows : (q : ℕ) → 1 ≤ q → q ≤ k → Solution (demand q) (B q)) (behind : (q : ℕ) → 1 ≤ q → q ≤ k → δ ds q ≤ B q) where
@@ -119,7 +119,7 @@ module _ (demand : ℕ → ℕ → ℕ) (ds : List ℕ) where
 
     -- with the last window
     pub closes-last : (k latency late : ℕ) (margin : ℤ) (c : Closes demand ds deadline k latency late margin)
-        → windows_of demand (δ ds) deadline ≡ record { answer = Figures k latency late margin; last = c.B k }
+        → windows_of demand (δ ds) deadline ≡ Ok (record { figures = figures k latency late margin; last = c.B k })
     closes-last k latency late margin c =
         let x : latency_to demand (δ ds) k ≡ latency = greatest_unique (longest k c.B c.windows c.behind c.low) c.greatest in
         let y : late_to demand (δ ds) deadline k ≡ late = late-counts k c.B c.windows c.behind k (omega arith) ∙ sym c.counts in
@@ -130,11 +130,11 @@ module _ (demand : ℕ → ℕ → ℕ) (ds : List ℕ) where
           shut = c.shut;
           reach = λ q l h. (c.B q, window-is q (c.B q) (c.windows q l (omega arith)), c.reach q l h);
         })
-        ∙ ap₂ (λ a b. record { answer = Figures k a b (margin_of deadline a); last = c.B k }) x y
-        ∙ ap (λ m. record { answer = Figures k latency late m; last = c.B k }) (sym c.rest)
+        ∙ ap₂ (λ a b. Ok (record { figures = figures k a b (margin_of deadline a); last = c.B k })) x y
+        ∙ ap (λ m. Ok (record { figures = figures k latency late m; last = c.B k })) (sym c.rest)
 
-    closes : (k latency late : ℕ) (margin : ℤ) → Closes demand ds deadline k latency late margin → answer ≡ Figures k latency late margin
-    closes k latency late margin c = ap (λ (w : Windows). w.answer) (closes-last k latency late margin c)
+    closes : (k latency late : ℕ) (margin : ℤ) → Closes demand ds deadline k latency late margin → answer ≡ Ok (figures k latency late margin)
+    closes k latency late margin c = ap figures_of (closes-last k latency late margin c)
 
     -- so there are three answers
     module _ (growing : Growing demand) (good : GoodDistances ds) where
@@ -152,18 +152,18 @@ module _ (demand : ℕ → ℕ → ℕ) (ds : List ℕ) where
           (lt_or_le max_activations (first ends_at 1 max_activations))
         where
           by : first ends_at 1 max_activations ≤ max_activations → (w : Window) → window_of (demand (first ends_at 1 max_activations)) ≡ w → Case
-          by h Nothing e = inl (record {
+          by h None e = inl (record {
             q = first ends_at 1 max_activations;
             low = first_ge ends_at 1 max_activations;
             high = h;
             earlier = λ p l m. opened p (first_miss ends_at 1 max_activations p l m);
             none = window-none (demand (first ends_at 1 max_activations)) e;
           })
-          by h (At t) e =
+          by h (Some t) e =
               let k = first ends_at 1 max_activations in
               let c : closing.Closes demand (δ ds) k t = closing.closes-found demand (δ ds) h e in
               let B : ℕ → ℕ = λ q. long (window_of (demand q)) in
-              let there : (q : ℕ) → 1 ≤ q → q ≤ k → (s : ℕ) × (window_of (demand q) ≡ At s) × (δ ds q ≤ s) × (s ≤ t) = closing.windows-there growing (δ-one good) c in
+              let there : (q : ℕ) → 1 ≤ q → q ≤ k → (s : ℕ) × (window_of (demand q) ≡ Some s) × (δ ds q ≤ s) × (s ≤ t) = closing.windows-there growing (δ-one good) c in
               let is : (q : ℕ) (l : 1 ≤ q) (m : q ≤ k) → B q ≡ (there q l m).0 = λ q l m. ap long (there q l m).1 in
               let windows : (q : ℕ) → 1 ≤ q → q ≤ k → Solution (demand q) (B q) = λ q l m. subst (Solution (demand q)) (sym (is q l m)) (window-at (demand q) (there q l m).0 (there q l m).1) in
               let behind : (q : ℕ) → 1 ≤ q → q ≤ k → δ ds q ≤ B q = λ q l m. omega (arith, is q l m, (there q l m).2) in
@@ -188,37 +188,34 @@ module _ (demand : ℕ → ℕ → ℕ) (ds : List ℕ) where
 
       pub answer_means : Means demand ds deadline answer
       answer_means = record {
-        figures = λ k latency late margin. (λ e. figures k latency late margin e three, closes k latency late margin);
+        figures = λ f. (λ e. closed f e three, closes f.close f.latency f.late f.margin);
         none = (λ e. none e three, no_window);
         unclosed = (λ e. unclosed e three, no_close);
         other = λ f g. other f g three;
       }
         where
-          figures : (k latency late : ℕ) (margin : ℤ) → answer ≡ Figures k latency late margin → Case → Closes demand ds deadline k latency late margin
-          figures k latency late margin e (inl n) = let f = no_window n in let z : ◌≡◌ {A = ℕ} 0 1 = cc in absurd (omega arith)
-          figures k latency late margin e (inr (inl o)) = let f = no_close o in let z : ◌≡◌ {A = ℕ} 0 1 = cc in absurd (omega arith)
-          figures k latency late margin e (inr (inr (k', latency', late', margin', c))) =
-              let f = closes k' latency' late' margin' c in
-              let x : k' ≡ k = cc in
-              let y : latency' ≡ latency = cc in
-              let z : late' ≡ late = cc in
-              let w : margin' ≡ margin = cc in
-              rw (x, y, z, w) at c
+          closed : (f : Figures) → answer ≡ Ok f → Case → Closes demand ds deadline f.close f.latency f.late f.margin
+          closed f e (inl n) = let g = no_window n in let z : ◌≡◌ {A = ℕ} 0 1 = cc in absurd (omega arith)
+          closed f e (inr (inl o)) = let g = no_close o in let z : ◌≡◌ {A = ℕ} 0 1 = cc in absurd (omega arith)
+          closed f e (inr (inr (k, latency, late, margin, c))) =
+              let g = closes k latency late margin c in
+              let same : figures k latency late margin ≡ f = cc in
+              subst (λ (x : Figures). Closes demand ds deadline x.close x.latency x.late x.margin) same c
 
-          none : answer ≡ Refused 16 → Case → NoWindow demand ds
+          none : answer ≡ Err PastHorizon → Case → NoWindow demand ds
           none e (inl n) = n
-          none e (inr (inl o)) = let f = no_close o in let z : ◌≡◌ {A = ℕ} 16 17 = cc in absurd (omega arith)
+          none e (inr (inl o)) = let f = no_close o in let z : ◌≡◌ {A = ℕ} 0 1 = cc in absurd (omega arith)
           none e (inr (inr (k, latency, late, margin, c))) = let f = closes k latency late margin c in let z : ◌≡◌ {A = ℕ} 0 1 = cc in absurd (omega arith)
 
-          unclosed : answer ≡ Refused 17 → Case → NoClose demand ds
-          unclosed e (inl n) = let f = no_window n in let z : ◌≡◌ {A = ℕ} 16 17 = cc in absurd (omega arith)
+          unclosed : answer ≡ Err StillOpen → Case → NoClose demand ds
+          unclosed e (inl n) = let f = no_window n in let z : ◌≡◌ {A = ℕ} 0 1 = cc in absurd (omega arith)
           unclosed e (inr (inl o)) = o
           unclosed e (inr (inr (k, latency, late, margin, c))) = let f = closes k latency late margin c in let z : ◌≡◌ {A = ℕ} 0 1 = cc in absurd (omega arith)
 
-          other : ((k latency late : ℕ) (margin : ℤ) → answer ≡ Figures k latency late margin → ⊥) → (answer ≡ Refused 16 → ⊥) → Case → answer ≡ Refused 17
+          other : ((f : Figures) → answer ≡ Ok f → ⊥) → (answer ≡ Err PastHorizon → ⊥) → Case → answer ≡ Err StillOpen
           other f g (inl n) = absurd (g (no_window n))
           other f g (inr (inl o)) = no_close o
-          other f g (inr (inr (k, latency, late, margin, c))) = absurd (f k latency late margin (closes k latency late margin c))
+          other f g (inr (inr (k, latency, late, margin, c))) = absurd (f (figures k latency late margin) (closes k latency late margin c))
 
       -- and no other answer meets the words
       pub means_one : (a : Answer) → Means demand ds deadline a → a ≡ answer
@@ -227,7 +224,7 @@ module _ (demand : ℕ → ℕ → ℕ) (ds : List ℕ) where
           go : Case → a ≡ answer
           go (inl n) = m.none.1 n ∙ sym (no_window n)
           go (inr (inl o)) = m.unclosed.1 o ∙ sym (no_close o)
-          go (inr (inr (k, latency, late, margin, c))) = (m.figures k latency late margin).1 c ∙ sym (closes k latency late margin c)
+          go (inr (inr (k, latency, late, margin, c))) = (m.figures (figures k latency late margin)).1 c ∙ sym (closes k latency late margin c)
 
 module _ {s : List ℕ} {id : ℕ} (h : Has s id) where
   abbrev b : Row
@@ -277,9 +274,9 @@ module _ {s : List ℕ} {id : ℕ} (h : Has s id) where
   growing = subst Growing (equation-is b l) (demand-growing δ-good b _ good (others-paced (table_of s) (table-good h.table) (chain_number s id)))
 
   -- the answer of the latency query for a chain of an accepted table is that of the demand equation
-  answer-is : latency_of s id ≡ (windows_of (full b l) (δ (distances b)) b.deadline).answer
+  answer-is : latency_of s id ≡ figures_of (windows_of (full b l) (δ (distances b)) b.deadline)
   unfolding bound_of
-  answer-is = latency-is h δ ∙ ap (λ d. (windows_of d (δ (distances b)) b.deadline).answer) (equation-is b l)
+  answer-is = latency-is h δ ∙ ap (λ d. figures_of (windows_of d (δ (distances b)) b.deadline)) (equation-is b l)
 
   pub latency_means : Means (full b l) (distances b) b.deadline (latency_of s id)
   latency_means = rw answer-is (answer_means (full b l) (distances b) b.deadline growing good.list)

@@ -9,21 +9,22 @@ use lib.IntN.{ℤ}
 use Rattle.table.specs.Bytes.{Bytes}
 use Rattle.table.specs.Read.{read_table, table_of}
 use Rattle.table.specs.declared.Row.{Row}
-use Rattle.table.specs.declared.Verdict.{Verdict}
-use Rattle.table.specs.declared.Verdict.TheVariants.{Accepted, Refused as Faulty}
+use Rattle.table.specs.Refusal.{Verdict}
+use Rattle.std.specs.declared.result.Result.{Result}
+use Rattle.std.specs.declared.result.Result.TheVariants.{Ok, Err}
+use Rattle.table.specs.declared.refusal.Refusal.{Refusal}
 use Rattle.arrivals.specs.Arrivals.{repeated, δ}
 use Rattle.arrivals.proofs.Distances.{δ_slower}
 use Rattle.segments.specs.View.{View}
 use Rattle.windows.specs.Demand.{views_of}
-use Rattle.windows.specs.Latency.{latency_by, latency_of}
-use Rattle.windows.specs.declared.Answer.TheVariants.{Figures}
+use Rattle.windows.specs.Latency.{figures_of, bound_of, latency_by, latency_of}
+use Rattle.windows.specs.declared.Figures.{Figures}
 use Rattle.windows.specs.declared.Windows.{Windows}
 use Rattle.windows.proofs.Besides.{others-good, others-paced}
 use Rattle.windows.proofs.Easing.{Relieved, slower_relieved, bound-less}
 use Rattle.windows.proofs.Answers.{latency-refused}
 use Rattle.misses.specs.Bad.{windows_by}
 use Rattle.misses.specs.Misses.{misses_by, misses_of}
-use Rattle.misses.specs.declared.Answer.TheVariants.{Misses}
 use Rattle.misses.proofs.Answers.{tested-refused}
 use Rattle.misses.proofs.Runs.{good-lists}
 use Rattle.misses.proofs.Relief.{Spared, rarer_same, beside-less}
@@ -47,13 +48,19 @@ module _ {s : List ℕ} {id : ℕ} (h : Has s id) where
       let good = table-good h.table in
       slower_relieved δ_slower b views (good.row (chain_number s id) h.there) (others-paced (table_of s) good (chain_number s id))
 
-  figures-less : {close latency late : ℕ} {margin : ℤ} → latency_by repeated s id ≡ Figures close latency late margin → NoGreater (latency_of s id) (Figures close latency late margin)
-  figures-less {close} {latency} {late} {margin} e =
-      let w = bound-less relieved (sym (latency-is h repeated) ∙ e) in
-      subst (λ a. NoGreater a (Figures close latency late margin)) (sym (latency-is h δ ∙ ap (λ (x : Windows). x.answer) w.is))
-      (NoGreater.figures w.close_less w.latency_less w.late_less w.margin_more)
+  -- figures are those of some windows
+  windows-are : (r : Result Windows Refusal) {f : Figures} → figures_of r ≡ Ok f → (w : Windows) × (r ≡ Ok w) × (w.figures ≡ f)
+  windows-are (Ok w) e = (w, refl, cc)
+  windows-are (Err n) e = let z : ◌≡◌ {A = ℕ} 0 1 = cc in absurd (omega arith)
 
-  misses-less : (k : ℕ) {n : ℕ} → misses_by repeated s id k ≡ Misses n → (r : ℕ) × (misses_of s id k ≡ Misses r) × (r ≤ n)
+  figures-less : {f : Figures} → latency_by repeated s id ≡ Ok f → NoGreater (latency_of s id) (Ok f)
+  figures-less {f} e =
+      let x = windows-are (bound_of repeated b views) (sym (latency-is h repeated) ∙ e) in
+      let w = bound-less relieved x.1 in
+      subst (λ a. NoGreater a (Ok f)) (sym (latency-is h δ ∙ ap figures_of w.is))
+      (subst (λ g. NoGreater (Ok w.found.figures) (Ok g)) x.2 (NoGreater.figures w.close_less w.latency_less w.late_less w.margin_more))
+
+  misses-less : (k : ℕ) {n : ℕ} → misses_by repeated s id k ≡ Ok n → (r : ℕ) × (misses_of s id k ≡ Ok r) × (r ≤ n)
   misses-less k {n} e =
       let lists = good-lists b (others_of s id) (others-good (table_of s) (table-good h.table) (chain_number s id)) in
       let r = beside-less k relieved (rarer_same δ_slower (marked b (others_of s id)) lists) refl (le_refl _) in
@@ -61,13 +68,13 @@ module _ {s : List ℕ} {id : ℕ} (h : Has s id) where
       (m.0, tested-are h δ (windows_by δ) k ∙ m.1, m.2)
 
 -- bytes are refused, have no chain with the id, or have it
-cases : {A : Type 0} (s : List ℕ) → Bytes s → (id : ℕ) → ((n place : ℕ) → (read_table s).verdict ≡ Faulty n place → A) → ((t : IsTable s) → chain_number s id ≡ (table_of s).count → A)
+cases : {A : Type 0} (s : List ℕ) → Bytes s → (id : ℕ) → ((n : Refusal) (place : ℕ) → (read_table s).verdict ≡ Err (n, place) → A) → ((t : IsTable s) → chain_number s id ≡ (table_of s).count → A)
     → (Has s id → A) → A
 cases {A} s bytes id refused absent there = by (read_table s).verdict refl
   where
     by : (v : Verdict) → (read_table s).verdict ≡ v → A
-    by Accepted e = let t : IsTable s = record { bytes = bytes; accepted = e } in ⊎_elim (absent t) (λ h. there (record { table = t; there = h })) (absent_or_there t id)
-    by (Faulty n place) e = refused n place e
+    by (Ok u) e = let t : IsTable s = record { bytes = bytes; accepted = e } in ⊎_elim (absent t) (λ h. there (record { table = t; there = h })) (absent_or_there t id)
+    by (Err f) e = refused f.0 f.1 e
 
 -- where the former rule answers, it is the last
 pub none_grows : NoneGrows

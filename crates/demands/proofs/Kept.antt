@@ -8,11 +8,15 @@ use native.Mathlib.Omega.{arith}
 use native.Mathlib.Nat.{mul_comm, mul_assoc, add-mul, div-add-mod', mod-lt}
 use lib.Dec.{eqb}
 use borrow.Author.Tests.{eq-eqb, ne_eqb}
-use Rattle.search.specs.Choice.{◌when◌else◌, by_number}
+use Rattle.std.specs.Prelude.{⊤}
+use Rattle.std.specs.declared.result.Result.{Result}
+use Rattle.std.specs.declared.result.Result.TheVariants.{Ok, Err}
+use Rattle.search.specs.Choice.{◌when◌else◌}
 use Rattle.search.proofs.Choice.{when_yes, when_no, lt_or_le}
 use Rattle.table.specs.Record.{gap_form}
 use Rattle.table.specs.Code.Good.{GoodRow}
 use Rattle.table.specs.declared.Row.{Row}
+use Rattle.table.specs.declared.refusal.Refusal.{Refusal}
 use Rattle.table.proofs.Lists.{length-spaced, spaced-at}
 use Rattle.arrivals.specs.Arrivals.{as_listed, δ, largest, unknown, repeated}
 use Rattle.arrivals.proofs.Rows.{largest-by-gap, largest-by-list}
@@ -20,13 +24,10 @@ use Rattle.segments.specs.View.{View, view_of}
 use Rattle.windows.specs.Demand.{counted_part, demand_of}
 use Rattle.windows.specs.Latency.{bound_of}
 use Rattle.windows.specs.declared.Windows.{Windows}
-use Rattle.windows.specs.declared.Answer.{Answer as Bound}
-use Rattle.windows.specs.declared.Answer.TheVariants.{Figures, Refused as Unbounded}
 use Rattle.misses.specs.Overloads.{Overload, overloads, pieces_of}
 use Rattle.misses.specs.Bad.{Test, by_windows, bad}
 use Rattle.misses.specs.Sieve.{by_sieve}
-use Rattle.misses.specs.Misses.{early_of, bad_of, room_of, packing_figure, missed_of, by_figures, by_bound, tested_beside}
-use Rattle.misses.specs.declared.Answer.TheVariants.{Refused}
+use Rattle.misses.specs.Misses.{early_of, bad_of, room_of, packing_figure, missed_of, by_figures, by_bound, unless_early, tested_beside}
 use Rattle.converting.specs.Forms.{multiples, with_largest, converted}
 use Rattle.converting.proofs.Goods.{largests-all}
 use Rattle.converting.specs.declared.To.{To}
@@ -121,11 +122,14 @@ module _ (test : Test) (to : To) (b : Row) (views : List View) (os : List Overlo
   unfolding by_figures missed_of packing_figure room_of
   figures-kept close latency late last = rw (bads close, same-largest)
 
-  answer-kept : (x : Bound) (last : ℕ) → by_bound δ test (converted to b) views os k x last ≡ by_bound δ test b views os k x last
-  answer-kept (Figures close latency late margin) last = figures-kept close latency late last
-  answer-kept (Unbounded n) last = refl
+  answer-kept : (r : Result Windows Refusal) → by_bound δ test (converted to b) views os k r ≡ by_bound δ test b views os k r
+  answer-kept (Ok w) = figures-kept w.figures.close w.figures.latency w.figures.late w.last
+  answer-kept (Err n) = refl
+
+  unless-kept : (r : Result ⊤ Refusal) → unless_early δ test (converted to b) views os k r ≡ unless_early δ test b views os k r
+  unless-kept (Ok u) = ap (by_bound δ test (converted to b) views os k) (bound-kept to b views) ∙ answer-kept (bound_of δ b views)
+  unless-kept (Err n) = refl
 
   pub tested-kept : tested_beside δ test (converted to b) views os k ≡ tested_beside δ test b views os k
   unfolding tested_beside
-  tested-kept = ap₂ (λ n (w : Windows). by_number Refused n (by_bound δ test (converted to b) views os k w.answer w.last)) early-kept (bound-kept to b views)
-      ∙ ap (by_number Refused (early_of b k)) (answer-kept (bound_of δ b views).answer (bound_of δ b views).last)
+  tested-kept = ap (unless_early δ test (converted to b) views os k) early-kept ∙ unless-kept (early_of b k)

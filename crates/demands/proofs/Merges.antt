@@ -9,14 +9,18 @@ use lib.ListN.{length, take, drop}
 use lib.Seq.{take_at, drop_at}
 use borrow.Author.Tests.{eq-eqb}
 use Rattle.search.proofs.Choice.{when_yes, true-not-false, lt_or_le}
+use Rattle.std.specs.declared.result.Result.{Result}
+use Rattle.std.specs.declared.result.Result.TheVariants.{Ok, Err}
+use Rattle.table.specs.Refusal.{numbered}
+use Rattle.table.specs.declared.refusal.Refusal.{Refusal}
+use Rattle.table.specs.declared.refusal.Refusal.TheVariants.{BadLength, BadMark, BadTaskCount, BadChainCount}
+use Rattle.table.proofs.Numbers.{numbered_same}
 use Rattle.slices.specs.Stored.{Mixed}
 use Rattle.slices.proofs.Sound.{NoTable}
 use Rattle.merging.specs.Versions.{Versions, three, swapped, state_of}
 use Rattle.merging.specs.Rule.{taken_of, conflict_of, conflict_above}
 use Rattle.merging.specs.Merge.{result_of, merged_of, found_of, chosen_of}
-use Rattle.merging.specs.declared.Merged.TheVariants.{Used, Result}
-use Rattle.merging.specs.declared.Found.{Found}
-use Rattle.merging.specs.declared.Found.TheVariants.{Id, Refused}
+use Rattle.merging.specs.declared.Unmerged.TheVariants.{Merged}
 use Rattle.merging.specs.Code.Judged.{AllAccepted}
 use Rattle.slices.proofs.Sameness.{same-yes}
 use Rattle.merging.proofs.Judgements.{asked}
@@ -69,9 +73,9 @@ module _ {v : Versions} (e : AllTables v) where
       let g = found-conflict v known above f.0 in
       omega (arith, f.1, s.least (conflict_above v above) g.0 (in_conflict (conflict_above v above) g.1))
 
-  answer : (above : ℕ) → found_of v above ≡ Id (conflict_above v above)
+  answer : (above : ℕ) → found_of v above ≡ Ok (conflict_above v above)
   unfolding found_of
-  answer above = asked v Refused (Id (conflict_above v above)) all
+  answer above = asked v Err (Ok (conflict_above v above)) all
 
 -- none is found where there is none
 unfound : {v : Versions} (e : AllTables v) (above : ℕ) → ((id : ℕ) → above < id → InConflict v id → ⊥) → conflict_above v above ≡ 0
@@ -80,11 +84,11 @@ unfound {v} e above none = ⊎_elim
     (λ l. omega (arith, l)) (lt_or_le 0 (conflict_above v above))
 
 -- an id that is answered is the one found
-value : Found → ℕ
-value (Id id) = id
-value (Refused n) = n
+value : Result ℕ Refusal → ℕ
+value (Ok id) = id
+value (Err n) = 0
 
-answered : {v : Versions} (e : AllTables v) (above id : ℕ) → found_of v above ≡ Id id → conflict_above v above ≡ id
+answered : {v : Versions} (e : AllTables v) (above id : ℕ) → found_of v above ≡ Ok id → conflict_above v above ≡ id
 unfolding value
 answered e above id h = ap value (sym (answer e above) ∙ h)
 
@@ -116,28 +120,28 @@ edit_kept = record {
     λ d. let s : Smallest v 0 id = record { greater = not-zero e id d.0; conflict = d.0; least = λ other g h. d.1 other h } in
         conflict-given room v (all e) id (is_found e 0 id s) s.greater,
   );
-  told = λ {v} e room id h. answer e 0 ∙ ap Id (conflict-says room v (all e) h).0;
+  told = λ {v} e room id h. answer e 0 ∙ ap (λ n. Ok n) (conflict-says room v (all e) h).0;
   emptied = λ {v} e none missing room h. lost e none missing room h;
   found = λ {v} e above id. (
     λ h. smallest e above id (answered e above id h.0) h.1,
-    λ s. (answer e above ∙ ap Id (is_found e above id s), omega (arith, s.greater)),
+    λ s. (answer e above ∙ ap (λ n. Ok n) (is_found e above id s), omega (arith, s.greater)),
   );
   none = λ {v} e above. (
     λ h id g d. omega (arith, answered e above 0 h, (found-least v (known e) above id g (by-rule e id d)).0),
-    λ h. answer e above ∙ ap Id (unfound e above h),
+    λ h. answer e above ∙ ap (λ n. Ok n) (unfound e above h),
   );
-  numbers = λ {v} e room h. number (refused_for v (known e) (result_says room v (all e) h).2);
+  numbers = λ {v} e room {n} h. number n (refused_for v (known e) (result_says room v (all e) h).2);
   mixed = λ {v} e room h. forms-only (refused_for v (known e) (result_says room v (all e) h).2);
   one_form = λ {v} {room} m. result-form v (known m.tables) (used-says room v (all m.tables) m.answered).2;
   mixed_first = λ {v} e none room h {i} f. refused-first e none room h i f;
 }
   where
-    number : {rs : List (List ℕ)} {n : ℕ} → NoTable rs n → (n ≡ 1) ⊎ (n ≡ 3) ⊎ (n ≡ 9) ⊎ (n ≡ 11)
-    number (NoTable.bytes f h) = inl f
-    number (NoTable.forms f i h) = inr (inl f)
-    number (NoTable.tasks f i o h) = inr (inr (inl f))
-    number (NoTable.chains f o h) = inr (inr (inr f))
-    number (NoTable.none f h) = inr (inr (inr f))
+    number : {rs : List (List ℕ)} (n : Refusal) → NoTable rs (numbered n) → (n ≡ BadLength) ⊎ (n ≡ BadMark) ⊎ (n ≡ BadTaskCount) ⊎ (n ≡ BadChainCount)
+    number n (NoTable.bytes f h) = inl (numbered_same n BadLength f)
+    number n (NoTable.forms f i h) = inr (inl (numbered_same n BadMark f))
+    number n (NoTable.tasks f i o h) = inr (inr (inl (numbered_same n BadTaskCount f)))
+    number n (NoTable.chains f o h) = inr (inr (inr (numbered_same n BadChainCount f)))
+    number n (NoTable.none f h) = inr (inr (inr (numbered_same n BadChainCount f)))
 
     forms-only : {rs : List (List ℕ)} → NoTable rs 3 → (i : ℕ) × Mixed rs i
     forms-only (NoTable.bytes f h) = absurd (omega (arith, f))
@@ -147,12 +151,12 @@ edit_kept = record {
     forms-only (NoTable.none f h) = absurd (omega (arith, f))
 
     refused-first : {v : Versions} (e : AllTables v) → ((id : ℕ) → InConflict v id → ⊥) → (room : ℕ) → length (result_of v) ≤ room → (i : ℕ) → FirstMixed v i
-        → (place : ℕ) × (merged_of room v ≡ Result 3 place)
+        → (place : ℕ) × (merged_of room v ≡ Err (Merged (BadMark, place)))
     refused-first {v} e none room h i f =
         let r = mixed-result v (known e) i f.mixed f.short f.few f.tasks in
         (r.0, result-given room v (all e) (unfound e 0 (λ id g. none id)) h r.1)
 
-    lost : {v : Versions} (e : AllTables v) → ((id : ℕ) → InConflict v id → ⊥) → ((id : ℕ) → taken_of v id ≡ []) → (room : ℕ) → 4 ≤ room → (place : ℕ) × (merged_of room v ≡ Result 11 place)
+    lost : {v : Versions} (e : AllTables v) → ((id : ℕ) → InConflict v id → ⊥) → ((id : ℕ) → taken_of v id ≡ []) → (room : ℕ) → 4 ≤ room → (place : ℕ) × (merged_of room v ≡ Err (Merged (BadChainCount, place)))
     lost {v} e none missing room h =
         let r = emptied-refused v (known e) missing in
         (r.0, result-given room v (all e) (unfound e 0 (λ id g. none id)) (omega (arith, r.2, h)) r.1)
@@ -163,14 +167,14 @@ turned e = record { ancestor = e.ancestor; first = e.second; second = e.first }
 
 pub copies-swapped : SwappedCopies
 copies-swapped = record {
-  conflicts = λ {v} e above. answer (turned e) above ∙ ap Id (swapped-conflicts v (known e) above) ∙ sym (answer e above);
+  conflicts = λ {v} e above. answer (turned e) above ∙ ap (λ n. Ok n) (swapped-conflicts v (known e) above) ∙ sym (answer e above);
   long = λ {v} e. swapped-length v (known e);
   conflict = λ {v} e room {id} h. let c = conflict-says room v (all e) h in conflict-given room (swapped v) (all (turned e)) id (swapped-conflicts v (known e) 0 ∙ c.0) c.1;
   no_room_holds = λ {v} e room h. let c = room_says room v (all e) h in
       room-given room (swapped v) (all (turned e)) (swapped-conflicts v (known e) 0 ∙ c.0) (omega (arith, c.1, swapped-length v (known e)));
-  refused = λ {v} e room h. let c = result_says room v (all e) h in
-      let r = swapped-refused v (known e) c.2 in
-      (r.0, r.1, result-given room (swapped v) (all (turned e)) (swapped-conflicts v (known e) 0 ∙ c.0) (omega (arith, c.1, swapped-length v (known e))) r.2);
+  refused = λ {v} e room {f} h. let c = result_says room v (all e) h in
+      let r = swapped-refused v (known e) {n = f.0} {place = f.1} c.2 in
+      ((r.0, r.1), result-given room (swapped v) (all (turned e)) (swapped-conflicts v (known e) 0 ∙ c.0) (omega (arith, c.1, swapped-length v (known e))) r.2);
   accepted = λ {v} {room} m. merged v room m;
   states = λ {v} {room} m id. let u = used-says room v (all m.tables) m.answered in
       result_state (swapped v) (known (turned m.tables)) (swapped-accepted v (known m.tables) u.2) id ∙ taken-swapped v id ∙ sym (result-taken m id);
@@ -185,18 +189,18 @@ copies-swapped = record {
       });
 }
   where
-    merged : (v : Versions) (room : ℕ) {n : ℕ} → MergedInto room v n → merged_of room (swapped v) ≡ Used n
+    merged : (v : Versions) (room : ℕ) {n : ℕ} → MergedInto room v n → merged_of room (swapped v) ≡ Ok n
     merged v room m = let u = used-says room v (all m.tables) m.answered in
         used-given room (swapped v) (all (turned m.tables)) (swapped-conflicts v (known m.tables) 0 ∙ u.0) (omega (arith, u.1, swapped-length v (known m.tables))) (swapped-accepted v (known m.tables) u.2)
-        ∙ ap Used (swapped-length v (known m.tables) ∙ sym u.3)
+        ∙ ap (λ k. Ok k) (swapped-length v (known m.tables) ∙ sym u.3)
 
 -- an unchanged copy
 module _ {v : Versions} (e : AllTables v) {s : List ℕ} (t : IsTable s) (gives : (id : ℕ) → taken_of v id ≡ state_of s id) (none : (id : ℕ) → conflict_of v id ≡ false) {room : ℕ} (h : length s ≤ room) where
-  copy-given : (merged_of room v ≡ Used (length s)) × ((id : ℕ) → state_of (result_of v) id ≡ state_of s id)
+  copy-given : (merged_of room v ≡ Ok (length s)) × ((id : ℕ) → state_of (result_of v) id ≡ state_of s id)
   copy-given =
       let read = given-accepted v (known e) s t.bytes t.accepted gives in
       let long = given-length v (known e) s t.bytes t.accepted gives in (
-        used-given room v (all e) (no_conflict v (known e) none 0) (omega (arith, long, h)) read ∙ ap Used long,
+        used-given room v (all e) (no_conflict v (known e) none 0) (omega (arith, long, h)) read ∙ ap (λ k. Ok k) long,
         λ id. result_state v (known e) read id ∙ gives id,
       )
 

@@ -9,6 +9,8 @@ use native.Mathlib.Decide.{ℕ_discrete}
 use lib.Dec.{ltb}
 use lib.ListN.{length, get_or}
 use borrow.Author.Tests.{lt-ltb, le-ltb, ltb-false}
+use Rattle.std.specs.declared.result.Result.{Result}
+use Rattle.std.specs.declared.result.Result.TheVariants.{Ok, Err}
 use Rattle.search.specs.Lists.{All, some}
 use Rattle.search.proofs.Choice.{true-not-false, lt_or_le}
 use Rattle.search.proofs.Lists.{all_map}
@@ -16,14 +18,15 @@ use Rattle.table.specs.Limits.{max_run, max_overloads, max_capacity}
 use Rattle.table.specs.Fault.{outside}
 use Rattle.table.specs.Code.Good.{GoodRow}
 use Rattle.table.specs.declared.Row.{Row}
+use Rattle.table.specs.declared.refusal.Refusal.{Refusal}
+use Rattle.table.specs.declared.refusal.Refusal.TheVariants.{PastHorizon, StillOpen}
 use Rattle.table.proofs.Firsts.{none_or, or_left, or_right}
 use Rattle.arrivals.specs.Arrivals.{δ, η}
 use Rattle.table.specs.Record.{distances}
 use Rattle.segments.specs.View.{View}
 use Rattle.windows.specs.Demand as demand
-use Rattle.windows.specs.Latency.{windows_of, bound_of}
+use Rattle.windows.specs.Latency.{windows_of, figures_of, bound_of}
 use Rattle.windows.specs.declared.Windows.{Windows}
-use Rattle.windows.specs.declared.Answer.TheVariants.{Refused as Unbounded}
 use Rattle.arrivals.proofs.Distances.{δ-good}
 use Rattle.windows.proofs.Comparing.{Paced}
 use Rattle.windows.proofs.Growth.{Growing, demand-growing}
@@ -34,13 +37,10 @@ use Rattle.packing.specs.Most.{most_uses}
 use Rattle.arrivals.proofs.Rows.{unknown-yes, unknown_no}
 use Rattle.misses.specs.Overloads.{Overload}
 use Rattle.misses.specs.Bad.{Test, by_windows}
-use Rattle.misses.specs.Misses.{early_of, bad_of, room_of, packing_figure, missed_of, by_figures, by_bound, tested_beside, tested_of, misses_of}
+use Rattle.misses.specs.Misses.{Answer, early_of, bad_of, room_of, packing_figure, missed_of, by_figures, by_bound, unless_early, tested_beside, tested_of, misses_of}
 use Rattle.misses.specs.Sieve.{by_sieve}
-use Rattle.misses.specs.declared.Answer.{Answer}
-use Rattle.misses.specs.declared.Answer.TheVariants.{Misses, Refused}
 use Rattle.misses.proofs.Starts.{starts}
 use Rattle.misses.proofs.Answers as answers
-use Rattle.search.specs.Choice.{by_number}
 use Rattle.table.specs.Read.{table_of}
 use Rattle.demands.specs.Chains.{Has, chain_number, chain_of, others_of}
 use Rattle.demands.specs.Figures.{Exactly}
@@ -102,33 +102,37 @@ module _ (b : Row) (l : List Row) (good : GoodRow b) (rows : All GoodRow l) (pac
   answer = tested_beside δ test b vs os k
 
   -- the full analysis
-  abbrev windows : Windows
+  abbrev windows : Result Windows Refusal
   windows = windows_of (full b l) (δ (distances b)) b.deadline
 
   inside : 1 ≤ k → k ≤ max_run → outside 1 max_run k ≡ false
   inside x y = rw (le-ltb k 1 x, le-ltb max_run k y)
 
   -- nothing is refused before the windows
-  asked-early : MayAsk b l k → early_of b k ≡ 0
+  asked-early : MayAsk b l k → early_of b k ≡ Ok tt
   asked-early a = answers.early-none b k (inside a.low a.high) a.typical (unknown_no b a.known)
 
-  early-refused : (n : ℕ) → early_of b k ≡ suc n → answer ≡ Refused (suc n)
-  unfolding tested_beside by_number
-  early-refused n e = ap (λ x. by_number Refused x (by_bound δ test b vs os k (bound_of δ b vs).answer (bound_of δ b vs).last)) e
+  early-refused : {n : Refusal} → early_of b k ≡ Err n → answer ≡ Err n
+  unfolding tested_beside
+  early-refused e = ap (unless_early δ test b vs os k) e
 
   -- the windows refuse, or their figures decide
-  by-windows : MayAsk b l k → (w : Windows) → windows ≡ w → answer ≡ by_bound δ test b vs os k w.answer w.last
-  unfolding tested_beside bound_of by_number
-  by-windows a w e =
-      ap (λ x. by_number Refused x (by_bound δ test b vs os k (bound_of δ b vs).answer (bound_of δ b vs).last)) (asked-early a)
-      ∙ ap (λ (x : Windows). by_bound δ test b vs os k x.answer x.last) (ap (λ d. windows_of d (δ (distances b)) b.deadline) (equation-is b l) ∙ e)
+  by-windows : MayAsk b l k → {r : Result Windows Refusal} → windows ≡ r → answer ≡ by_bound δ test b vs os k r
+  unfolding tested_beside bound_of
+  by-windows a e =
+      ap (unless_early δ test b vs os k) (asked-early a)
+      ∙ ap (by_bound δ test b vs os k) (ap (λ d. windows_of d (δ (distances b)) b.deadline) (equation-is b l) ∙ e)
 
-  refused-by : MayAsk b l k → (n : ℕ) → windows.answer ≡ Unbounded n → answer ≡ Refused n
-  refused-by a n e = by-windows a _ refl ∙ ap (λ x. by_bound δ test b vs os k x windows.last) e
+  refused-by : MayAsk b l k → {n : Refusal} → figures_of windows ≡ Err n → answer ≡ Err n
+  refused-by a {n} e = by-windows a (same windows e)
+    where
+      same : (r : Result Windows Refusal) → figures_of r ≡ Err n → r ≡ Err n
+      same (Ok w) f = absurd (let z : ◌≡◌ {A = ℕ} 0 1 = cc in omega arith)
+      same (Err m) f = let z : m ≡ n = cc in ap (λ q. Err q) z
 
   module _ (f : Figured b l k) where
     by-figures : answer ≡ by_figures δ test b vs os k f.close f.latency f.late (last_of b l f)
-    by-figures = by-windows f.asked _ (closes-last (full b l) (distances b) b.deadline f.close f.latency f.late f.margin f.figures)
+    by-figures = by-windows f.asked (closes-last (full b l) (distances b) b.deadline f.close f.latency f.late f.margin f.figures)
 
     bad-false : (Bad f.close 0 → ⊥) → bad_of test b vs os f.close 0 ≡ false
     bad-false h = go (bad_of test b vs os f.close 0) refl
@@ -149,7 +153,7 @@ module _ (b : Row) (l : List Row) (good : GoodRow b) (rows : All GoodRow l) (pac
     figure_is uses m = ap (λ u. f.late * u) (most-same-uses uses m)
 
     -- nothing is refused
-    by_count : 1 ≤ f.late → AtMostSix b l → Once b l f → Capped b l f → answer ≡ Misses (missed_of δ test b vs os k f.close f.latency f.late)
+    by_count : 1 ≤ f.late → AtMostSix b l → Once b l f → Capped b l f → answer ≡ Ok (missed_of δ test b vs os k f.close f.latency f.late)
     by_count h few once room =
         by-figures
         ∙ answers.counts δ test b vs os k f.close f.latency f.late (last_of b l f) (λ e. omega (arith, e, h)) few
@@ -157,12 +161,12 @@ module _ (b : Row) (l : List Row) (good : GoodRow b) (rows : All GoodRow l) (pac
 
   -- an answer that the words allow is the answer given
   says-answer : {a : Answer} → Says b l Bad k a → answer ≡ a
-  says-answer (Says.run (inl h)) = early-refused 12 (answers.early-run b k (or_left _ (ltb max_run k) (lt-ltb k 1 h)))
-  says-answer (Says.run (inr h)) = early-refused 12 (answers.early-run b k (or_right (ltb k 1) _ (lt-ltb max_run k h)))
-  says-answer (Says.overload x y h) = early-refused 13 (answers.early-overload b k (inside x y) h)
-  says-answer (Says.unknown x y t g f) = early-refused 14 (answers.early-unknown b k (inside x y) t (unknown-yes b g f))
-  says-answer (Says.window a n) = refused-by a 16 (no_window (full b l) (distances b) b.deadline n)
-  says-answer (Says.close a o) = refused-by a 17 (no_close (full b l) (distances b) b.deadline o)
+  says-answer (Says.run (inl h)) = early-refused (answers.early-run b k (or_left _ (ltb max_run k) (lt-ltb k 1 h)))
+  says-answer (Says.run (inr h)) = early-refused (answers.early-run b k (or_right (ltb k 1) _ (lt-ltb max_run k h)))
+  says-answer (Says.overload x y h) = early-refused (answers.early-overload b k (inside x y) h)
+  says-answer (Says.unknown x y t g f) = early-refused (answers.early-unknown b k (inside x y) t (unknown-yes b g f))
+  says-answer (Says.window a n) = refused-by a (no_window (full b l) (distances b) b.deadline n)
+  says-answer (Says.close a o) = refused-by a (no_close (full b l) (distances b) b.deadline o)
   says-answer (Says.none f e) = by-figures f ∙ answers.none-late δ test b vs os k f.close f.latency f.late (last_of b l f) e
   says-answer (Says.many f h n) =
       by-figures f
@@ -177,10 +181,10 @@ module _ (b : Row) (l : List Row) (good : GoodRow b) (rows : All GoodRow l) (pac
       ∙ answers.too_roomy δ test b vs os k f.close f.latency f.late (last_of b l f) (λ e. omega (arith, e, h)) few
       (within_none 1 (λ o. η o.list (last_of b l f)) os once) (not_within max_capacity (λ c. c) (room_of δ b os k f.latency) (λ a. n (all_capped b l k f.latency max_capacity a)))
   says-answer (Says.always f h few once room x) =
-      by_count f h few once room ∙ ap Misses (answers.missed_all test b vs os k f.close f.latency f.late ((exactly f 0).1 x))
+      by_count f h few once room ∙ ap (λ u. Ok u) (answers.missed_all test b vs os k f.close f.latency f.late ((exactly f 0).1 x))
   says-answer (Says.packed f uses h few once room fine m) =
       by_count f h few once room
-      ∙ ap Misses (answers.missed_packed test b vs os k f.close f.latency f.late (bad-false f fine) ∙ ap (min k) (figure_is f uses m))
+      ∙ ap (λ u. Ok u) (answers.missed_packed test b vs os k f.close f.latency f.late (bad-false f fine) ∙ ap (min k) (figure_is f uses m))
 
   -- and the words allow it
   is : {a : Answer} → Says b l Bad k a → Says b l Bad k answer

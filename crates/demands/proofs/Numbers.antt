@@ -2,53 +2,50 @@
 use Prim.Native.Nat.{ℕ, ◌≤◌}
 use mathlib.Core.Path.{◌≡◌, refl}
 use mathlib.Core.List.{List}
-use mathlib.Core.Logic.{◌⊎◌, inl, inr, ⊎_elim}
+use mathlib.Core.Logic.{inl, inr}
 use lib.Dec.{lit≤}
+use Rattle.std.specs.declared.result.Result.{Result}
+use Rattle.std.specs.declared.result.Result.TheVariants.{Ok, Err}
 use Rattle.search.proofs.Choice.{when_cases}
-use Rattle.table.specs.Read.{by_verdict, read_table, number_of}
+use Rattle.table.specs.Refusal.{Verdict, numbered}
+use Rattle.table.specs.Read.{by_verdict, read_table, refused_by}
 use Rattle.table.specs.Field.{TableRefusal}
-use Rattle.table.specs.declared.Verdict.{Verdict}
-use Rattle.table.specs.declared.Verdict.TheVariants.{Accepted, Refused}
-use Rattle.table.proofs.Fields.{refused-placed}
+use Rattle.table.specs.declared.refusal.Refusal.{Refusal}
+use Rattle.table.proofs.Fields.{refused-placed, some_number}
 use Rattle.saving.specs.Save.{read_fault, result_fault, replace_fault, change_fault, save_fault}
 use Rattle.demands.specs.Entries.{SaveRefusal}
 
--- a table: 0, or one of its numbers
-pub table-number : (s : List ℕ) → (read_fault s ≡ 0) ⊎ TableRefusal (read_fault s)
-table-number s = by (read_table s).verdict refl
-  where
-    by : (v : Verdict) → (read_table s).verdict ≡ v → (number_of v ≡ 0) ⊎ TableRefusal (number_of v)
-    by Accepted e = inl refl
-    by (Refused n place) e = inr (refused-placed s e).number
+-- no refusal, or one that has such a number, which is not 0
+abbrev pub Known : (ℕ → Type 0) → Result ⊤ Refusal → Type 0
+Known Allowed (Ok u) = Unit {0}
+Known Allowed (Err n) = (1 ≤ numbered n) × Allowed (numbered n)
 
--- a save: 0, a table's number, or 22 to 24
-Saves : ℕ → Type 0
-Saves f = (f ≡ 0) ⊎ SaveRefusal f
+-- a table: one of its numbers, and a save: a table's, or 22 to 24
+abbrev Saves : Result ⊤ Refusal → Type 0
+Saves r = Known SaveRefusal r
 
 read-saves : (s : List ℕ) → Saves (read_fault s)
-unfolding Saves
-read-saves s = ⊎_elim (λ e. inl e) (λ h. inr (inl h)) (table-number s)
-
-late-saves : (f : ℕ) → 22 ≤ f → f ≤ 24 → Saves f
-unfolding Saves
-late-saves f low high = inr (inr (low, high))
+read-saves s = by (read_table s).verdict refl
+  where
+    by : (v : Verdict) → (read_table s).verdict ≡ v → Saves (refused_by v)
+    by (Ok u) e = tt
+    by (Err f) e = (some_number s {n = f.0} {place = f.1} e, inl (refused-placed s {n = f.0} {place = f.1} e).number)
 
 replace_saves : (room : ℕ) (s old new : List ℕ) → Saves (replace_fault room s old new)
 unfolding replace_fault result_fault
 replace_saves room s old new =
-    when_cases Saves _ (λ e. late-saves 22 (lit≤ tt) (lit≤ tt)) (λ e.
-    when_cases Saves _ (λ e. late-saves 23 (lit≤ tt) (lit≤ tt)) (λ e.
-    when_cases Saves _ (λ e. late-saves 24 (lit≤ tt) (lit≤ tt)) (λ e. read-saves _)))
+    when_cases Saves _ (λ e. (lit≤ tt, inr (lit≤ tt, lit≤ tt))) (λ e.
+    when_cases Saves _ (λ e. (lit≤ tt, inr (lit≤ tt, lit≤ tt))) (λ e.
+    when_cases Saves _ (λ e. (lit≤ tt, inr (lit≤ tt, lit≤ tt))) (λ e. read-saves _)))
 
 change_saves : (room : ℕ) (s old new : List ℕ) → Saves (change_fault room s old new)
-unfolding change_fault Saves
+unfolding change_fault
 change_saves room s old new = by (read_table s).verdict refl
   where
-    by : (v : Verdict) → (read_table s).verdict ≡ v → Saves (by_verdict (λ n. n) v (replace_fault room s old new))
-    by Accepted e = replace_saves room s old new
-    by (Refused n place) e = inr (inl (refused-placed s e).number)
+    by : (v : Verdict) → (read_table s).verdict ≡ v → Saves (by_verdict Err v (replace_fault room s old new))
+    by (Ok u) e = replace_saves room s old new
+    by (Err f) e = (some_number s {n = f.0} {place = f.1} e, inl (refused-placed s {n = f.0} {place = f.1} e).number)
 
-pub save-number : (buffer : List ℕ) (used : ℕ) (old new : List ℕ) → (save_fault buffer used old new ≡ 0 → ⊥) → SaveRefusal (save_fault buffer used old new)
-unfolding save_fault Saves
-save-number buffer used old new h = ⊎_elim (λ e. absurd (h e)) (λ r. r)
-    (when_cases Saves _ (λ e. inr (inl (inl (lit≤ tt, lit≤ tt)))) (λ e. change_saves _ _ old new))
+pub save-number : (buffer : List ℕ) (used : ℕ) (old new : List ℕ) → Saves (save_fault buffer used old new)
+unfolding save_fault
+save-number buffer used old new = when_cases Saves _ (λ e. (lit≤ tt, inl (inl (lit≤ tt, lit≤ tt)))) (λ e. change_saves _ _ old new)

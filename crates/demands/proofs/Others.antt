@@ -19,7 +19,7 @@ use Rattle.segments.specs.View.{view_of}
 use Rattle.segments.proofs.Views.{Alike}
 use Rattle.segments.proofs.Lists.{sum-map, sum-flatten}
 use Rattle.windows.specs.Latency.{bound_of}
-use Rattle.windows.specs.declared.Windows.{Windows}
+use Rattle.windows.specs.Latency.{figures_of}
 use Rattle.windows.proofs.Views.{alike-bound}
 use Rattle.misses.specs.Overloads.{overloads}
 use Rattle.misses.specs.Bad.{by_windows}
@@ -56,7 +56,7 @@ module _ {s r : List ℕ} {id : ℕ} (one : Has s id) (two : Has r id) (row : ch
   rows-unmoved = record {
     latency =
         latency-is one δ
-        ∙ ap (λ (w : Windows). w.answer) (alike-bound (paired_map alike (λ a. view_of a b) (λ a. view_of a b) (λ a c h. h)) b)
+        ∙ ap figures_of (alike-bound (paired_map alike (λ a. view_of a b) (λ a. view_of a b) (λ a c h. h)) b)
         ∙ ap (λ x. (bound_of δ x (map (λ a. view_of a x) (others_of r id))).answer) row
         ∙ sym (latency-is two δ);
     misses = λ k.

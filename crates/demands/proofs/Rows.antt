@@ -14,21 +14,21 @@ use Rattle.table.specs.Limits.{max_chains}
 use Rattle.table.specs.Record.{form_at}
 use Rattle.table.specs.Bytes.{word, bytes_of}
 use Rattle.table.specs.Fault.{mark_of, end_fault}
-use Rattle.table.specs.Find.{rows, used}
-use Rattle.table.specs.Read.{empty, unless, start, by_verdict, records, limit_of, read_table, table_of}
-use Rattle.table.specs.declared.Reading.{Reading}
+use Rattle.table.specs.Find.{row_of, rows, find_of, used}
+use Rattle.table.specs.Place.{place_of, length_of}
+use Rattle.table.specs.Read.{Reading, empty, unless, start, by_verdict, records, limit_of, read_table, table_of}
+use Rattle.table.specs.declared.Part.{Part}
 use Rattle.table.specs.declared.Row.{Row}
-use Rattle.table.specs.declared.Verdict.{Verdict}
-use Rattle.table.specs.declared.Verdict.TheVariants.{Accepted, Refused as Faulty}
+use Rattle.table.specs.Refusal.{Verdict}
+use Rattle.std.specs.declared.result.Result.{Result}
+use Rattle.std.specs.declared.result.Result.TheVariants.{Ok, Err}
+use Rattle.table.specs.declared.refusal.Refusal.{Refusal}
+use Rattle.table.specs.declared.refusal.Refusal.TheVariants.{BadChainCount, NoChain, BufferShort}
 use Rattle.table.proofs.Accepted.{accepted-short}
 use Rattle.slices.specs.Locate.{record_in, located_of}
 use Rattle.slices.specs.Stored.{record_of}
-use Rattle.slices.specs.declared.Located.{Located}
-use Rattle.slices.specs.declared.Located.TheVariants.{Record, Refused as Unlocated}
 use Rattle.writing.specs.Rows.{table_bytes, cleared}
-use Rattle.writing.specs.Write.{verdict_on, written_of}
-use Rattle.writing.specs.declared.Written.{Written}
-use Rattle.writing.specs.declared.Written.TheVariants.{Used, Refused}
+use Rattle.writing.specs.Write.{Written, verdict_on, written_of}
 use Rattle.writing.proofs.Promises as laws
 use Rattle.writing.proofs.Refusals.{rows-refusal}
 use Rattle.writing.proofs.Again.{table-again}
@@ -38,52 +38,54 @@ use Rattle.demands.specs.Rows.{RefusedFor, RowsAndTables}
 -- The answers of a write
 
 data Cases (room : ℕ) (rs : List Row) : Written → Type 0 where
-  rule : (n place : ℕ) → verdict_on rs ≡ Faulty n place → Cases room rs (Refused n)
-  no_room : verdict_on rs ≡ Accepted → room < length (table_bytes rs) → Cases room rs (Refused 24)
-  fits : verdict_on rs ≡ Accepted → length (table_bytes rs) ≤ room → Cases room rs (Used (length (table_bytes rs)))
+  rule : (n : Refusal) (place : ℕ) → verdict_on rs ≡ Err (n, place) → Cases room rs (Err n)
+  no_room : verdict_on rs ≡ Ok tt → room < length (table_bytes rs) → Cases room rs (Err BufferShort)
+  fits : verdict_on rs ≡ Ok tt → length (table_bytes rs) ≤ room → Cases room rs (Ok (length (table_bytes rs)))
 
 cases : (room : ℕ) (rs : List Row) → Cases room rs (written_of room rs)
 unfolding written_of
 cases room rs = by (verdict_on rs) refl
   where
-    by : (v : Verdict) → verdict_on rs ≡ v → Cases room rs (by_verdict Refused v (Refused 24 when ltb room (length (table_bytes rs)) else Used (length (table_bytes rs))))
-    by Accepted e = when_cases (Cases room rs) (ltb room (length (table_bytes rs)))
+    by : (v : Verdict) → verdict_on rs ≡ v → Cases room rs (by_verdict Err v (Err BufferShort when ltb room (length (table_bytes rs)) else Ok (length (table_bytes rs))))
+    by (Ok u) e = when_cases (Cases room rs) (ltb room (length (table_bytes rs)))
         (λ f. Cases.no_room e (ltb-true room (length (table_bytes rs)) f)) (λ f. Cases.fits e (ltb-false room (length (table_bytes rs)) f))
-    by (Faulty n place) e = Cases.rule n place e
+    by (Err f) e = Cases.rule f.0 f.1 e
 
-pub used-says : (room : ℕ) (rs : List Row) (n : ℕ) → written_of room rs ≡ Used n → (verdict_on rs ≡ Accepted) × (length (table_bytes rs) ≤ room) × (n ≡ length (table_bytes rs))
+pub used-says : (room : ℕ) (rs : List Row) (n : ℕ) → written_of room rs ≡ Ok n → (verdict_on rs ≡ Ok tt) × (length (table_bytes rs) ≤ room) × (n ≡ length (table_bytes rs))
 used-says room rs n e = by n (subst (Cases room rs) e (cases room rs))
   where
-    by : (n : ℕ) → Cases room rs (Used n) → (verdict_on rs ≡ Accepted) × (length (table_bytes rs) ≤ room) × (n ≡ length (table_bytes rs))
+    by : (n : ℕ) → Cases room rs (Ok n) → (verdict_on rs ≡ Ok tt) × (length (table_bytes rs) ≤ room) × (n ≡ length (table_bytes rs))
     by n (Cases.fits a l) = (a, l, refl)
 
-refused_says : (room : ℕ) (rs : List Row) (n : ℕ) → written_of room rs ≡ Refused n → RefusedFor room rs n
+refused_says : (room : ℕ) (rs : List Row) (n : Refusal) → written_of room rs ≡ Err n → RefusedFor room rs n
 refused_says room rs n e = by n (subst (Cases room rs) e (cases room rs))
   where
-    by : (n : ℕ) → Cases room rs (Refused n) → RefusedFor room rs n
+    by : (n : Refusal) → Cases room rs (Err n) → RefusedFor room rs n
     by n (Cases.rule m place f) = RefusedFor.rule f
     by n (Cases.no_room a l) = RefusedFor.no_room a l refl
 
 -- the answer where no rule is broken
 abbrev fitted : ℕ → List Row → Written
-fitted room rs = Refused 24 when ltb room (length (table_bytes rs)) else Used (length (table_bytes rs))
+fitted room rs = Err BufferShort when ltb room (length (table_bytes rs)) else Ok (length (table_bytes rs))
 
-by_verdict_lem : (room : ℕ) (rs : List Row) {v : Verdict} → verdict_on rs ≡ v → written_of room rs ≡ by_verdict Refused v (fitted room rs)
+by_verdict_lem : (room : ℕ) (rs : List Row) {v : Verdict} → verdict_on rs ≡ v → written_of room rs ≡ by_verdict Err v (fitted room rs)
 unfolding written_of
-by_verdict_lem room rs e = ap (λ (v : Verdict). by_verdict Refused v (fitted room rs)) e
+by_verdict_lem room rs e = ap (λ (v : Verdict). by_verdict Err v (fitted room rs)) e
 
-pub refused-given : (room : ℕ) (rs : List Row) (n : ℕ) → RefusedFor room rs n → written_of room rs ≡ Refused n
+pub refused-given : (room : ℕ) (rs : List Row) (n : Refusal) → RefusedFor room rs n → written_of room rs ≡ Err n
 refused-given room rs n (RefusedFor.rule e) = by_verdict_lem room rs e
-refused-given room rs n (RefusedFor.no_room a l e) = by_verdict_lem room rs a ∙ when_yes (Refused 24) (Used (length (table_bytes rs))) (lt-ltb room (length (table_bytes rs)) l) ∙ ap Refused (sym e)
+refused-given room rs n (RefusedFor.no_room a l e) =
+    subst (λ (q : Refusal). written_of room rs ≡ Err q) (sym e)
+    (by_verdict_lem room rs a ∙ when_yes {A = Written} (Err BufferShort) (Ok (length (table_bytes rs))) (lt-ltb room (length (table_bytes rs)) l))
 
-pub used-given : (room : ℕ) (rs : List Row) → verdict_on rs ≡ Accepted → length (table_bytes rs) ≤ room → written_of room rs ≡ Used (length (table_bytes rs))
-used-given room rs a l = by_verdict_lem room rs a ∙ when_no (Refused 24) (Used (length (table_bytes rs))) (le-ltb room (length (table_bytes rs)) l)
+pub used-given : (room : ℕ) (rs : List Row) → verdict_on rs ≡ Ok tt → length (table_bytes rs) ≤ room → written_of room rs ≡ Ok (length (table_bytes rs))
+used-given room rs a l = by_verdict_lem room rs a ∙ when_no {A = Written} (Err BufferShort) (Ok (length (table_bytes rs))) (le-ltb room (length (table_bytes rs)) l)
 
 -- the answer goes by the bytes alone
 past-counts : (room : ℕ) (rs : List Row) → written_of room (map cleared rs) ≡ written_of room rs
 unfolding written_of verdict_on
 past-counts room rs =
-    ap (λ (l : List ℕ). by_verdict Refused (records max_chains l 0 empty).verdict (Refused 24 when ltb room (length l) else Used (length l))) (laws.table-past rs)
+    ap (λ (l : List ℕ). by_verdict Err (records max_chains l 0 empty).verdict (Err BufferShort when ltb room (length l) else Ok (length l))) (laws.table-past rs)
 
 -- the reader, where its length check changes nothing
 reads : (rs : List Row) → length (table_bytes rs) ≤ limit_of (form_at (table_bytes rs) 0) → (read_table (table_bytes rs)).verdict ≡ verdict_on rs
@@ -98,34 +100,27 @@ module _ {s : List ℕ} (h : IsTable s) where
   same : table_bytes of ≡ s
   same = table-again s h.bytes h.accepted
 
-  right : verdict_on of ≡ Accepted
+  right : verdict_on of ≡ Ok tt
   right = sym (reads of (rw same (accepted-short s h.accepted))) ∙ ap (λ (l : List ℕ). (read_table l).verdict) same ∙ h.accepted
 
   -- the record that was found in it
-  located : (id offset len : ℕ) → located_of s id ≡ Record offset len → Has s id × (take len (drop offset s) ≡ record_bytes s id)
+  located : (id : ℕ) (part : Part) → located_of s id ≡ Ok part → Has s id × (take part.length (drop part.offset s) ≡ record_bytes s id)
   unfolding located_of record_in record_of
-  located id offset len e = by (used (table_of s) id) refl (sym (ap (λ (v : Verdict). by_verdict Unlocated v (record_in (table_of s) id)) h.accepted) ∙ e)
+  located id part e = by (used (table_of s) id) refl (sym (ap (λ (v : Verdict). by_verdict Err v (record_in (table_of s) id)) h.accepted) ∙ e)
     where
-      first : Located → ℕ
-      first (Record o l) = o
-      first (Unlocated n) = 0
+      Located : Type 0
+      Located = Result Part Refusal
 
-      kind : Located → ℕ
-      kind (Record o l) = 1
-      kind (Unlocated n) = 0
-
-      second : Located → ℕ
-      second (Record o l) = l
-      second (Unlocated n) = 0
-
-      by : (t : Bool) → used (table_of s) id ≡ t → record_in (table_of s) id ≡ Record offset len → Has s id × (take len (drop offset s) ≡ record_bytes s id)
+      by : (t : Bool) → used (table_of s) id ≡ t → record_in (table_of s) id ≡ Ok part → Has s id × (take part.length (drop part.offset s) ≡ record_bytes s id)
+      unfolding Located
       by true u q =
-          let f = sym q ∙ when_yes _ (Unlocated 12) u in
-          (record { table = h; there = ltb-true _ _ u }, rw (ap first f, ap second f))
-      by false u q = absurd (omega (arith, ap kind (sym q ∙ when_no _ (Unlocated 12) u)))
+          let f = sym (when_yes {A = Located} _ (Err NoChain) u) ∙ q in
+          let same : record { offset = place_of (table_of s) (find_of (table_of s) id); length = length_of (row_of (table_of s) (find_of (table_of s) id)) } ≡ part = cc in
+          (record { table = h; there = ltb-true _ _ u }, subst (λ (p : Part). take p.length (drop p.offset s) ≡ record_bytes s id) same refl)
+      by false u q = let f = sym (when_no {A = Located} _ (Err NoChain) u) ∙ q in let z : ◌≡◌ {A = ℕ} 0 1 = cc in absurd (omega arith)
 
 -- the bytes of no row are an end record that counts none
-no_row : verdict_on [] ≡ Faulty 11 2
+no_row : verdict_on [] ≡ Err (BadChainCount, 2)
 unfolding verdict_on table_bytes bytes_of records start end_fault mark_of ◌when◌else◌ unless flatten word
 no_row = refl
 
@@ -139,13 +134,13 @@ rows-and-tables = record {
       (rw e (take_at (table_bytes rs) (drop (length (table_bytes rs)) buffer) n (sym u.2)), rw e (drop_at (table_bytes rs) (drop (length (table_bytes rs)) buffer) n (sym u.2) ∙ rw u.2));
   back = λ {rs} {room} {n} w. laws.read_back rs w.fit (used-says room rs n w.answered).0;
   again = same;
-  always = λ h room l. used-given room (of h) (right h) (rw (same h) l) ∙ ap (λ (l : List ℕ). Used (length l)) (same h);
+  always = λ h room l. used-given room (of h) (right h) (rw (same h) l) ∙ ap (λ (l : List ℕ). Ok (length l)) (same h);
   past = λ rs. (laws.table-past rs, λ room. past-counts room rs);
   refused = λ rs room n. (refused_says room rs n, refused-given room rs n);
   reader = reads;
   short = laws.short;
   numbers = λ rs f e. rows-refusal rs _ (laws.judged rs f) e;
-  none = λ room. refused-given room [] 11 (RefusedFor.rule no_row);
-  record_found = λ {s} {id} h. (_, _, ap (λ (v : Verdict). by_verdict Unlocated v (record_in (table_of s) id)) h.table.accepted ∙ when_yes _ (Unlocated 12) (lt-ltb _ _ h.there));
-  record_there = λ {s} {id} {offset} {len} h e. located h id offset len e;
+  none = λ room. refused-given room [] BadChainCount (RefusedFor.rule no_row);
+  record_found = λ {s} {id} h. (_, ap (λ (v : Verdict). by_verdict Err v (record_in (table_of s) id)) h.table.accepted ∙ when_yes _ (Err NoChain) (lt-ltb _ _ h.there));
+  record_there = λ {s} {id} {part} h e. located h id part e;
 }

@@ -10,9 +10,8 @@ use Rattle.search.proofs.Pairing.{paired_set}
 use Rattle.table.specs.Record.{id_at, row_at}
 use Rattle.table.specs.Record.{blank}
 use Rattle.table.specs.Find.{rows}
-use Rattle.table.specs.declared.Reading.{Reading}
 use Rattle.saving.specs.Save.{seen_of}
-use Rattle.table.specs.Read.{table_of}
+use Rattle.table.specs.Read.{Reading, table_of}
 use Rattle.saving.specs.Later.{State, stored, Edit, after}
 use Rattle.saving.proofs.Verdicts.{read-accepted}
 use Rattle.slices.proofs.Parts.{row_in}
@@ -37,10 +36,10 @@ pub saved-deadline_or_largest : (x : State) (e : Edit) → AcceptedEdit x e → 
 saved-deadline_or_largest x e took h id n = paired_unmoved id one two pairs
   where
     o : OneReplaced x e
-    o = reads-back x e took.buffer took.new took.number
+    o = reads-back x e took.buffer took.new took.accepted
 
     one : IsTable (stored x)
-    one = record { bytes = bytes_take x.used x.buffer took.buffer; accepted = ap (λ (r : Reading). r.verdict) (read-accepted (stored x) (all-passed x e took.number).table) }
+    one = record { bytes = bytes_take x.used x.buffer took.buffer; accepted = ap (λ (r : Reading). r.verdict) (read-accepted (stored x) (all-passed x e took.accepted).table) }
 
     two : IsTable (stored (after x e))
     two = record {

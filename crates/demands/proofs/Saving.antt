@@ -6,7 +6,7 @@ pub seen-records : SeenRecords
 seen-records = record {
   other = λ x e h n. unseen_refused x h e n;
   changed = λ x e h chain l id n. differing_refused x h e chain l id n;
-  stale = λ x e a n es b never new. stale_until_back x e a.buffer a.new a.number n es b never new;
-  changed_back = λ x e a. let c = changed_back x e a.buffer a.new a.number in (c.taken, c.table, c.seen);
+  stale = λ x e a n es b never new. stale_until_back x e a.buffer a.new a.accepted n es b never new;
+  changed_back = λ x e a. let c = changed_back x e a.buffer a.new a.accepted in (c.taken, c.table, c.seen);
   unchanged = own-saved;
 }

@@ -18,7 +18,7 @@ use Rattle.windows.specs.Demand.{demand_of, typical}
 use Rattle.windows.specs.Window.{Solution, window_of}
 use Rattle.windows.specs.Latency.{longer}
 use Rattle.windows.specs.Sieve.{due}
-use Rattle.windows.specs.declared.Window.TheVariants.{At}
+use Rattle.std.specs.declared.option.Option.TheVariants.{Some}
 use Rattle.windows.proofs.Comparing.{Paced, typical-paced}
 use Rattle.windows.proofs.Least.{window-only, window-at}
 use Rattle.packing.specs.Packing.{bit}

@@ -14,23 +14,23 @@ use Rattle.table.specs.Find.{row_of, find_of}
 use Rattle.table.specs.Read.{by_verdict, read_table, table_of}
 use Rattle.table.specs.Code.Good.{GoodRow}
 use Rattle.table.specs.declared.Row.{Row}
-use Rattle.table.specs.declared.Verdict.{Verdict}
-use Rattle.table.specs.declared.Verdict.TheVariants.{Accepted, Refused as Faulty}
+use Rattle.table.specs.Refusal.{Verdict}
+use Rattle.std.specs.declared.result.Result.{Result}
+use Rattle.std.specs.declared.result.Result.TheVariants.{Ok, Err}
+use Rattle.table.specs.declared.refusal.Refusal.{Refusal}
+use Rattle.table.specs.declared.refusal.Refusal.TheVariants.{NoChain}
 use Rattle.table.proofs.Finds.{find_le}
 use Rattle.arrivals.specs.Arrivals.{δ}
 use Rattle.windows.specs.Demand.{views_of, others}
 use Rattle.windows.specs.Window.{window_of}
-use Rattle.windows.specs.declared.Window.TheVariants.{At}
+use Rattle.std.specs.declared.option.Option.TheVariants.{Some}
 use Rattle.windows.proofs.Besides.{others-good, others-paced}
 use Rattle.windows.proofs.Comparing.{Paced, typical-paced}
 use Rattle.windows.proofs.Least.{window-only}
 use Rattle.misses.specs.Bad.{Test, by_windows}
-use Rattle.misses.specs.Misses.{tested_at, tested_in, tested_of, misses_of}
+use Rattle.misses.specs.Misses.{Answer, tested_at, tested_in, tested_of, misses_of}
 use Rattle.misses.specs.Sieve.{by_sieve, as_sieved, at_most_of}
-use Rattle.misses.specs.declared.Answer.{Answer}
-use Rattle.misses.specs.declared.Answer.TheVariants.{Misses, Refused}
-use Rattle.misses.specs.declared.Sieved.{Sieved}
-use Rattle.misses.specs.declared.Sieved.TheVariants.{AtMost, Refused as NoBound}
+use Rattle.misses.specs.declared.AtMost.{AtMost}
 use Rattle.misses.proofs.Runs.{Within}
 use Rattle.misses.proofs.Sieve.{Bounded, bad-called, sieve_bounded}
 use Rattle.demands.specs.Chains.{Has, chain_number, chain_of, others_of}
@@ -46,14 +46,14 @@ use Rattle.demands.proofs.Runs.{answer-within}
 use Rattle.demands.proofs.Twice.{twice-misses, twice-at-most}
 
 -- an answer and what the sieve tells of it are the same thing
-unsieved : Sieved → Answer
-unsieved (AtMost n) = Misses n
-unsieved (NoBound n) = Refused n
+unsieved : Result AtMost Refusal → Answer
+unsieved (Ok a) = Ok a.most
+unsieved (Err n) = Err n
 
 unsieved-is : (a : Answer) → unsieved (as_sieved a) ≡ a
 unfolding unsieved
-unsieved-is (Misses n) = refl
-unsieved-is (Refused n) = refl
+unsieved-is (Ok n) = refl
+unsieved-is (Err n) = refl
 
 same_answer : (a c : Answer) → as_sieved a ≡ as_sieved c → a ≡ c
 same_answer a c e = sym (unsieved-is a) ∙ ap unsieved e ∙ unsieved-is c
@@ -69,7 +69,7 @@ module _ (b : Row) (l : List Row) (good : GoodRow b) (rows : All GoodRow l) (pac
       let c = f.figures in
       (called_means b l f.close m).0
       (bad-called b l good rows (typical-paced (viewed b l) paced)
-      (λ q low high. (c.B q, ap (λ d. window_of (d q)) (equation-is b l) ∙ sym (window-only (full b l q) (At (c.B q)) (c.windows q low high))))
+      (λ q low high. (c.B q, ap (λ d. window_of (d q)) (equation-is b l) ∙ sym (window-only (full b l q) (Some (c.B q)) (c.windows q low high))))
       m ((bad_means b l good rows paced c m).1 h))
 
 calls : {s : List ℕ} {id : ℕ} → Has s id → {k : ℕ} (f : Figured (chain_of s id) (others_of s id) k) (m : ℕ)
@@ -92,45 +92,45 @@ module _ (s : List ℕ) (bytes : Bytes s) (id k : ℕ) where
   bounded = by (read_table s).verdict refl absent refl
     where
       either : Test → Bool → Answer
-      either test t = Refused 12 when t else tested_at δ test (table_of s) chain k
+      either test t = Err NoChain when t else tested_at δ test (table_of s) chain k
 
-      by : (v : Verdict) → (read_table s).verdict ≡ v → (t : Bool) → absent ≡ t → Bounded (by_verdict Refused v (either by_windows t)) (by_verdict Refused v (either by_sieve t))
-      by Accepted e true f = Bounded.alike
-      by Accepted e false f =
+      by : (v : Verdict) → (read_table s).verdict ≡ v → (t : Bool) → absent ≡ t → Bounded (by_verdict Err v (either by_windows t)) (by_verdict Err v (either by_sieve t))
+      by (Ok u) e true f = Bounded.alike
+      by (Ok u) e false f =
           let good = table-good (record { bytes = bytes; accepted = e }) in
           let h : chain < (table_of s).count = omega (arith, find_le (table_of s) id, eqb-false chain (table_of s).count f) in
           sieve_bounded (row_of (table_of s) chain) (others (table_of s) chain) (good.row chain h) (others-good (table_of s) good chain)
           (typical-paced (views_of (table_of s) chain) (others-paced (table_of s) good chain)) k
-      by (Faulty n place) e t f = Bounded.alike
+      by (Err g) e t f = Bounded.alike
 
   sieved : (a : Answer) → at_most_of s id k ≡ as_sieved a → tested_of δ by_sieve s id k ≡ a
   unfolding at_most_of
   sieved a e = same_answer _ a e
 
   -- where both answer
-  below : {n r : ℕ} → misses_of s id k ≡ Misses n → at_most_of s id k ≡ AtMost r → n ≤ r
-  below {n} {r} e f = by (subst (λ x. Bounded x (Misses r)) e (subst (Bounded (misses_of s id k)) (sieved (Misses r) f) bounded))
+  below : {n : ℕ} {r : AtMost} → misses_of s id k ≡ Ok n → at_most_of s id k ≡ Ok r → n ≤ r.most
+  below {n} {r} e f = by (subst (λ x. Bounded x (Ok r.most)) e (subst (Bounded (misses_of s id k)) (sieved (Ok r.most) f) bounded))
     where
-      by : {n r : ℕ} → Bounded (Misses n) (Misses r) → n ≤ r
+      by : {n r : ℕ} → Bounded (Ok n) (Ok r) → n ≤ r
       by (Bounded.both h) = h
 
   -- where one is refused
-  alike : (n : ℕ) → Exactly (misses_of s id k ≡ Refused n) (at_most_of s id k ≡ NoBound n)
+  alike : (n : Refusal) → Exactly (misses_of s id k ≡ Err n) (at_most_of s id k ≡ Err n)
   unfolding at_most_of
   alike n = (
     λ e. ap as_sieved (to (subst (λ x. Bounded x (tested_of δ by_sieve s id k)) e bounded)),
-    λ f. from (subst (Bounded (misses_of s id k)) (sieved (Refused n) f) bounded),
+    λ f. from (subst (Bounded (misses_of s id k)) (sieved (Err n) f) bounded),
   )
     where
-      to : {n : ℕ} {a : Answer} → Bounded (Refused n) a → a ≡ Refused n
+      to : {n : Refusal} {a : Answer} → Bounded (Err n) a → a ≡ Err n
       to Bounded.alike = refl
 
-      from : {n : ℕ} {a : Answer} → Bounded a (Refused n) → a ≡ Refused n
+      from : {n : Refusal} {a : Answer} → Bounded a (Err n) → a ≡ Err n
       from Bounded.alike = refl
 
-within_run : (s : List ℕ) (id k : ℕ) {n : ℕ} → at_most_of s id k ≡ AtMost n → n ≤ k
+within_run : (s : List ℕ) (id k : ℕ) {r : AtMost} → at_most_of s id k ≡ Ok r → r.most ≤ k
 unfolding at_most_of
-within_run s id k {n} e = let f : tested_of δ by_sieve s id k ≡ Misses n = same_answer _ (Misses n) e in subst (Within k) f (answer-within s id by_sieve k)
+within_run s id k {r} e = let f : tested_of δ by_sieve s id k ≡ Ok r.most = same_answer _ (Ok r.most) e in subst (Within k) f (answer-within s id by_sieve k)
 
 pub second_ways : SecondWays
 second_ways = record {

@@ -8,17 +8,16 @@ use Rattle.search.specs.Choice.{◌when◌else◌}
 use Rattle.search.specs.Find.{first, last}
 use Rattle.search.specs.Lists.{sum_of}
 use Rattle.table.specs.Find.{row_of, find_of}
-use Rattle.table.specs.Read.{table_of}
+use Rattle.table.specs.Read.{Reading, table_of}
 use Rattle.table.specs.declared.Row.{Row}
 use Rattle.table.specs.declared.Table.{Table}
-use Rattle.table.specs.declared.Reading.{Reading}
 use Rattle.arrivals.specs.Arrivals.{δ, η, count_by, sums_to, greatest}
 use Rattle.segments.specs.Tasks.{tasks_from, lowest}
 use Rattle.segments.specs.Segments.{stretches, onward, around, nonempty, segments, segments_of, cuts, parts}
 use Rattle.segments.specs.Actives.{start_of, numbered, in_order, actives, actives_of}
 use Rattle.windows.specs.Demand as demand
 use Rattle.windows.specs.Window.{window_of}
-use Rattle.windows.specs.declared.Window.TheVariants.{At}
+use Rattle.std.specs.declared.option.Option.TheVariants.{Some}
 use Rattle.misses.specs.Bad.{by_windows}
 use Rattle.misses.specs.Misses.{bad_of, room_of}
 use Rattle.demands.specs.Chains.{chain_of, others_of}
@@ -78,7 +77,7 @@ starred =
       eta_26 = delta_eta.7;
       edge_figures = windows.edge-latency;
       edge_refused = windows.past-latency;
-      window_1 = of-chain1 (λ b l. window_of (words.full b l 1) ≡ At 64) (ap (λ d. window_of (d 1)) (sym (equation-is _ _)) ∙ windows.sample-window);
+      window_1 = of-chain1 (λ b l. window_of (words.full b l 1) ≡ Some 64) (ap (λ d. window_of (d 1)) (sym (equation-is _ _)) ∙ windows.sample-window);
       segment_3 = of-chain3 (λ a b. segments_of a b ≡ (task 2 7 10 ∷ task 0 8 6 ∷ []) ∷ []) segment;
       active_3 = of-chain3 (λ a b. map (λ x. x.cost) (actives_of a b) ≡ 6 ∷ 10 ∷ []) active;
       bad_sets = of-chain1 (λ b l. (n : ℕ) → bad_of by_windows b (viewed b l) (words.marked b l) 1 n ≡ (eqb n 3 || eqb n 5 || eqb n 6 || eqb n 7)) misses.bad_sets;

@@ -19,7 +19,7 @@ use Rattle.table.specs.Record.{distances}
 use Rattle.table.specs.Find.{row_of, find_of}
 use Rattle.table.specs.declared.Row.{Row}
 use Rattle.table.specs.declared.Table.{Table}
-use Rattle.table.specs.declared.Reading.{Reading}
+use Rattle.table.specs.Read.{Reading}
 use Rattle.arrivals.specs.Arrivals.{δ, η, largest, unknown, sums_to, greatest}
 use Rattle.table.specs.Code.Good.{GoodDistances}
 use Rattle.arrivals.proofs.Counts.{η-some, η-counts, η-stops}
@@ -28,11 +28,10 @@ use Rattle.segments.specs.Segments.{stretches, onward, around, nonempty, cuts, p
 use Rattle.segments.specs.Actives.{start_of, numbered, in_order, actives}
 use Rattle.segments.specs.View.{View, view_of}
 use Rattle.windows.specs.Demand.{term_of, counted_part, demand_of, typical, others, views_of}
-use Rattle.windows.specs.Window.{window_of}
-use Rattle.windows.specs.Latency.{up_to, longer, bound_of}
-use Rattle.windows.specs.declared.Window.{Window}
-use Rattle.windows.specs.declared.Window.TheVariants.{At, Nothing}
-use Rattle.windows.specs.declared.Answer.TheVariants.{Figures}
+use Rattle.windows.specs.Window.{Window, window_of}
+use Rattle.windows.specs.Latency.{up_to, longer, figures, bound_of}
+use Rattle.std.specs.declared.option.Option.TheVariants.{Some, None}
+use Rattle.std.specs.declared.result.Result.TheVariants.{Ok}
 use Rattle.windows.proofs.Least.{window-at, window-none}
 use Rattle.packing.specs.Packing.{sum_to}
 use Rattle.packing.specs.Most.{most_uses}
@@ -42,7 +41,6 @@ use Rattle.misses.specs.Overloads.{Overload, overloads, Piece, pieces_from, piec
 use Rattle.misses.specs.Sets.{members, together, allowed, set_cost}
 use Rattle.misses.specs.Bad.{with_cost, over, bad, Test, by_windows}
 use Rattle.misses.specs.Misses.{early_of, bad_of, room_of, packing_figure, missed_of, tested_at, tested_in, tested_of, overloads_of, misses_of}
-use Rattle.misses.specs.declared.Answer.TheVariants.{Misses}
 use Rattle.misses.proofs.Prices.{allowed-past}
 use Rattle.misses.proofs.Starts.{starts}
 use Rattle.misses.proofs.Answers.{tested-accepted, chain-found, at_bound, counts, missed_packed}
@@ -124,15 +122,15 @@ window-past : (d : ℕ → ℕ) (limit : ℕ) → ((s : ℕ) → 1 ≤ s → lim
 window-past d limit h = go (window_of d) refl
   where
     go : (w : Window) → window_of d ≡ w → longer w limit ≡ true
-    go (At t) e = let a = window-at d t e in lt-ltb limit t (omega (arith, a.solves, h t a.low))
-    go Nothing e = refl
+    go (Some t) e = let a = window-at d t e in lt-ltb limit t (omega (arith, a.solves, h t a.low))
+    go None e = refl
 
 pub window-within : (d : ℕ → ℕ) (limit s : ℕ) → 1 ≤ s → s ≤ limit → limit ≤ horizon → s ≡ d s → longer (window_of d) limit ≡ false
 window-within d limit s low high far solves = go (window_of d) refl
   where
     go : (w : Window) → window_of d ≡ w → longer w limit ≡ false
-    go (At t) e = le-ltb limit t (omega (arith, (window-at d t e).least s low solves))
-    go Nothing e = absurd (window-none d e s low (omega arith) solves)
+    go (Some t) e = le-ltb limit t (omega (arith, (window-at d t e).least s low solves))
+    go None e = absurd (window-none d e s low (omega arith) solves)
 
 over-is : (c : ℕ) → over demand (δ (distances b)) 40 1 c ≡ leb 16 c
 unfolding over up_to some sampled δ sums_to greatest
@@ -174,7 +172,7 @@ bad_sets m = bad-is m ∙ ⊎_elim (low_sets m)
     (λ h. ap (λ x. x && leb 16 (set_cost (members (pieces_of os) m))) (allowed-past (pieces_of os) m (rw pieces h)) ∙ sym (no_more m h)) (lt_or_le m 8)
 
 -- the full analysis: K is 1, and the only activation is late by 24
-bounds : bound_of δ b views ≡ record { answer = Figures 1 64 1 (negsuc 23); last = 64 }
+bounds : bound_of δ b views ≡ Ok (record { figures = figures 1 64 1 (negsuc 23); last = 64 })
 unfolding sampled δ sums_to greatest ◌when◌else◌
 bounds = bound-closes sample-reads 1 0 finds (lit≤ tt) 64 sample-window (lit≤ tt)
 
@@ -201,26 +199,26 @@ no_excess n h = rw (le-ltb 40 n h)
 
 -- a query that nothing refuses, where K is 1 and its activation is late
 module _ {s : List ℕ} {t : Table} (a : Reads s t) (id chain : ℕ) (found : find_of t id ≡ chain) (there : chain < t.count) (test : Test) (k x : ℕ) (margin : ℤ)
-    (early : early_of (row_of t chain) k ≡ 0) (bound : bound_of δ (row_of t chain) (views_of t chain) ≡ record { answer = Figures 1 x 1 margin; last = x }) where
+    (early : early_of (row_of t chain) k ≡ Ok tt) (bound : bound_of δ (row_of t chain) (views_of t chain) ≡ Ok (record { figures = figures 1 x 1 margin; last = x })) where
   pub tested-counts : length (pieces_of (overloads_of t chain)) ≤ 6 → some (starts x) (overloads_of t chain) ≡ false
       → some (ltb 40) (room_of δ (row_of t chain) (overloads_of t chain) k x) ≡ false
-      → tested_of δ test s id k ≡ Misses (missed_of δ test (row_of t chain) (views_of t chain) (overloads_of t chain) k 1 x 1)
+      → tested_of δ test s id k ≡ Ok (missed_of δ test (row_of t chain) (views_of t chain) (overloads_of t chain) k 1 x 1)
   tested-counts few once within =
       tested-accepted δ test s id k (ap (λ (r : Reading). r.verdict) a.reads)
       ∙ ap (λ (r : Reading). tested_in δ test r.table id k) a.reads
       ∙ chain-found δ test t id k (λ e. omega (arith, e, found, there))
       ∙ ap (λ j. tested_at δ test t j k) found
-      ∙ sym (at_bound test t chain k early _ (sym bound))
+      ∙ at_bound test t chain k early bound
       ∙ counts δ test (row_of t chain) (views_of t chain) (overloads_of t chain) k 1 x 1 x (λ e. omega (arith, e)) few once within
 
-answers : (k n uses : ℕ) → early_of b k ≡ 0 → η (1000 ∷ []) (largest b k + 64) + 1 ≡ n → n ≤ 40 → most_uses any_two (each n) ≡ uses → misses_of sample 1 k ≡ Misses (min k uses)
+answers : (k n uses : ℕ) → early_of b k ≡ Ok tt → η (1000 ∷ []) (largest b k + 64) + 1 ≡ n → n ≤ 40 → most_uses any_two (each n) ≡ uses → misses_of sample 1 k ≡ Ok (min k uses)
 unfolding sampled packing_figure
 answers k n uses early e few most =
     let r = rooms k n e in
     tested-counts sample-reads 1 0 finds (lit≤ tt) by_windows k 64 (negsuc 23) early bounds (rw pieces (lit≤ tt)) starts-once (ap (some (ltb 40)) r ∙ no_excess n few)
-    ∙ ap Misses (missed_packed by_windows b views os k 1 64 1 (bad_sets 0))
-    ∙ ap (λ u. Misses (min k (1 * u))) (most-same (bad_of by_windows b views os 1) any_two (λ i. get_or (room_of δ b os k 64) i 0) (each n) (λ m l h. bad_sets m) (λ i h. ap (λ l. get_or l i 0) r) ∙ most)
-    ∙ ap Misses (omega arith)
+    ∙ ap (λ u. Ok u) (missed_packed by_windows b views os k 1 64 1 (bad_sets 0))
+    ∙ ap (λ u. Ok (min k (1 * u))) (most-same (bad_of by_windows b views os 1) any_two (λ i. get_or (room_of δ b os k 64) i 0) (each n) (λ m l h. bad_sets m) (λ i h. ap (λ l. get_or l i 0) r) ∙ most)
+    ∙ ap (λ u. Ok u) (omega arith)
 
 room_of_lem : (k n : ℕ) → η (1000 ∷ []) (largest b k + 64) ≡ n → η (1000 ∷ []) (largest b k + 64) + 1 ≡ n + 1
 room_of_lem k n e = ap (λ x. x + 1) e
@@ -234,14 +232,14 @@ pub room_11 : room_of δ b os 11 64 ≡ 3 ∷ 3 ∷ 3 ∷ []
 unfolding sampled largest ◌when◌else◌
 room_11 = rooms 11 3 (room_of_lem 11 2 (twice 1064 (lit≤ tt) (lit≤ tt)))
 
-pub misses_10 : misses_of sample 1 10 ≡ Misses 3
+pub misses_10 : misses_of sample 1 10 ≡ Ok 3
 unfolding sampled largest unknown early_of ◌when◌else◌
 misses_10 = answers 10 2 3 refl (room_of_lem 10 1 (once 964 (lit≤ tt) (lit≤ tt))) (lit≤ tt) capacity_2
 
-pub misses_11 : misses_of sample 1 11 ≡ Misses 4
+pub misses_11 : misses_of sample 1 11 ≡ Ok 4
 unfolding sampled largest unknown early_of ◌when◌else◌
 misses_11 = answers 11 3 4 refl (room_of_lem 11 2 (twice 1064 (lit≤ tt) (lit≤ tt))) (lit≤ tt) capacity_3
 
-pub misses_1 : misses_of sample 1 1 ≡ Misses 1
+pub misses_1 : misses_of sample 1 1 ≡ Ok 1
 unfolding sampled largest unknown early_of ◌when◌else◌
 misses_1 = answers 1 2 3 refl (room_of_lem 1 1 (once 64 (lit≤ tt) (lit≤ tt))) (lit≤ tt) capacity_2

@@ -15,18 +15,18 @@ use Rattle.table.specs.Record.{distances}
 use Rattle.table.specs.Find.{row_of, find_of}
 use Rattle.table.specs.Code.Good.{GoodTable}
 use Rattle.table.specs.declared.Table.{Table}
-use Rattle.table.specs.declared.Reading.{Reading}
+use Rattle.table.specs.Read.{Reading}
 use Rattle.arrivals.specs.Arrivals.{δ, η, count_by, sums_to, greatest}
 use Rattle.segments.specs.Tasks.{tasks_from, lowest, before}
 use Rattle.segments.specs.Segments.{stretches, onward, around, nonempty, cuts, parts, cut_segments}
 use Rattle.segments.specs.View.{view_of}
 use Rattle.windows.specs.Demand.{term_of, counted_part, demand_of, views_of}
 use Rattle.windows.specs.Window.{window_of}
-use Rattle.windows.specs.Latency.{over_of, margin_of, bound_of, latency_in, latency_of}
+use Rattle.windows.specs.Latency.{over_of, margin_of, figures, figures_of, bound_of, latency_in, latency_of}
 use Rattle.windows.specs.Code.Climb.{Under}
-use Rattle.windows.specs.declared.Windows.{Windows}
-use Rattle.windows.specs.declared.Window.TheVariants.{At, Nothing}
-use Rattle.windows.specs.declared.Answer.TheVariants.{Figures, Refused}
+use Rattle.std.specs.declared.option.Option.TheVariants.{Some, None}
+use Rattle.std.specs.declared.result.Result.TheVariants.{Ok, Err}
+use Rattle.table.specs.declared.refusal.Refusal.TheVariants.{PastHorizon}
 use Rattle.arrivals.proofs.Distances.{δ-one, δ-good}
 use Rattle.windows.proofs.Least.{under_one, under_next, under-solves, under_none}
 use Rattle.windows.proofs.Growth.{Growing, demand-growing}
@@ -49,22 +49,22 @@ module _ {s : List ℕ} {t : Table} (a : Reads s t) (id chain : ℕ) (found : fi
   growing = demand-growing δ-good (row_of t chain) (views_of t chain) ((read-good a).row chain there) (others-paced t (read-good a) chain)
 
   -- B(1), where a climb that starts at 1 comes to it
-  stop : (x : ℕ) → Under (demand_at t chain 1) x → x ≤ horizon → demand_at t chain 1 x ≡ x → window_of (demand_at t chain 1) ≡ At x
+  stop : (x : ℕ) → Under (demand_at t chain 1) x → x ≤ horizon → demand_at t chain 1 x ≡ x → window_of (demand_at t chain 1) ≡ Some x
   stop x u h e = sym (under-solves (demand_at t chain 1) (growing.grows 1 (lit≤ tt)) x u h (sym e))
 
   step : (x y : ℕ) → Under (demand_at t chain 1) x → demand_at t chain 1 x ≡ y → Under (demand_at t chain 1) y
   step x y u e = subst (Under (demand_at t chain 1)) e (under_next (demand_at t chain 1) (growing.grows 1 (lit≤ tt)) x u)
 
-  answered : latency_of s id ≡ (bound_of δ (row_of t chain) (views_of t chain)).answer
+  answered : latency_of s id ≡ figures_of (bound_of δ (row_of t chain) (views_of t chain))
   answered =
       latency-accepted δ s id (ap (λ (r : Reading). r.verdict) a.reads)
       ∙ ap (λ (r : Reading). latency_in δ r.table id) a.reads
       ∙ chain-found δ t id (λ e. omega (arith, e))
-      ∙ ap (λ j. (bound_of δ (row_of t j) (views_of t j)).answer) found
+      ∙ ap (λ j. figures_of (bound_of δ (row_of t j) (views_of t j))) found
 
   -- the figures where the first window closes, and the refusal where there is none
-  pub bound-closes : (x : ℕ) → window_of (demand_at t chain 1) ≡ At x → x ≤ δ (distances (row_of t chain)) 2
-      → bound_of δ (row_of t chain) (views_of t chain) ≡ record { answer = Figures 1 x (over_of x (row_of t chain).deadline) (margin_of (row_of t chain).deadline x); last = x }
+  pub bound-closes : (x : ℕ) → window_of (demand_at t chain 1) ≡ Some x → x ≤ δ (distances (row_of t chain)) 2
+      → bound_of δ (row_of t chain) (views_of t chain) ≡ Ok (record { figures = figures 1 x (over_of x (row_of t chain).deadline) (margin_of (row_of t chain).deadline x); last = x })
   unfolding bound_of
   bound-closes x e h =
       let distance = δ (distances (row_of t chain)) in
@@ -73,19 +73,19 @@ module _ {s : List ℕ} {t : Table} (a : Reads s t) (id chain : ℕ) (found : fi
       let whole : x - 0 ≡ x = omega arith in
       let count : 0 + over_of (x - 0) dl ≡ over_of x dl = omega (arith, ap (λ y. over_of y dl) whole) in
       sym (walk-close (demand_at t chain) distance dl growing (walk_start (demand_at t chain) distance dl (δ-one ((read-good a).row chain there).list)) (lit≤ tt) e best refl refl h)
-      ∙ ap (λ n. record { answer = Figures 1 x n (margin_of dl x); last = x }) count
+      ∙ ap (λ n. Ok (record { figures = figures 1 x n (margin_of dl x); last = x })) count
 
-  closes : (x : ℕ) → window_of (demand_at t chain 1) ≡ At x → x ≤ δ (distances (row_of t chain)) 2
-      → latency_of s id ≡ Figures 1 x (over_of x (row_of t chain).deadline) (margin_of (row_of t chain).deadline x)
-  closes x e h = answered ∙ ap (λ (w : Windows). w.answer) (bound-closes x e h)
+  closes : (x : ℕ) → window_of (demand_at t chain 1) ≡ Some x → x ≤ δ (distances (row_of t chain)) 2
+      → latency_of s id ≡ Ok (figures 1 x (over_of x (row_of t chain).deadline) (margin_of (row_of t chain).deadline x))
+  closes x e h = answered ∙ ap figures_of (bound-closes x e h)
 
-  refuses : window_of (demand_at t chain 1) ≡ Nothing → latency_of s id ≡ Refused 16
+  refuses : window_of (demand_at t chain 1) ≡ None → latency_of s id ≡ Err PastHorizon
   unfolding bound_of
   refuses e =
       let distance = δ (distances (row_of t chain)) in
       let dl = (row_of t chain).deadline in
       answered
-      ∙ ap (λ (w : Windows). w.answer)
+      ∙ ap figures_of
       (sym (walk_none (demand_at t chain) distance dl growing (walk_start (demand_at t chain) distance dl (δ-one ((read-good a).row chain there).list)) (lit≤ tt) e))
 
 -- where the ids are found
@@ -109,25 +109,25 @@ demand-past = refl
 
 -- a window that is found after one turn of the climb, or two
 module _ {s : List ℕ} {t : Table} (a : Reads s t) (id chain : ℕ) (found : find_of t id ≡ chain) (there : chain < t.count) where
-  one-turn : (x : ℕ) → demand_at t chain 1 1 ≡ x → demand_at t chain 1 x ≡ x → x ≤ horizon → window_of (demand_at t chain 1) ≡ At x
+  one-turn : (x : ℕ) → demand_at t chain 1 1 ≡ x → demand_at t chain 1 x ≡ x → x ≤ horizon → window_of (demand_at t chain 1) ≡ Some x
   one-turn x e f h = stop a id chain found there x (step a id chain found there 1 x (under_one (demand_at t chain 1)) e) h f
 
-  pub two-turns : (x y : ℕ) → demand_at t chain 1 1 ≡ x → demand_at t chain 1 x ≡ y → demand_at t chain 1 y ≡ y → y ≤ horizon → window_of (demand_at t chain 1) ≡ At y
+  pub two-turns : (x y : ℕ) → demand_at t chain 1 1 ≡ x → demand_at t chain 1 x ≡ y → demand_at t chain 1 y ≡ y → y ≤ horizon → window_of (demand_at t chain 1) ≡ Some y
   two-turns x y e f g h = stop a id chain found there y (step a id chain found there x y (step a id chain found there 1 x (under_one (demand_at t chain 1)) e) f) h g
 
 -- chain 1: B(1) = 64
-pub sample-window : window_of (demand_at sampled 0 1) ≡ At 64
+pub sample-window : window_of (demand_at sampled 0 1) ≡ Some 64
 unfolding sampled
 sample-window = two-turns sample-reads 1 0 finds.0 (lit≤ tt) 59 64 demand_1.0 demand_1.1 demand_1.2 (lit≤ tt)
 
 -- at the edge: K 1, latency 10,000,000, late 0, margin 0; one tick more gives 16
-pub edge-latency : latency_of edge 1 ≡ Figures 1 10000000 0 (pos 0)
+pub edge-latency : latency_of edge 1 ≡ Ok (figures 1 10000000 0 (pos 0))
 unfolding edge_table δ sums_to greatest ◌when◌else◌
 edge-latency =
     closes edge-reads 1 0 finds.1 (lit≤ tt) 10000000
     (one-turn edge-reads 1 0 finds.1 (lit≤ tt) 10000000 (demand-edge 1) (demand-edge 10000000) (lit≤ tt)) (lit≤ tt)
 
-pub past-latency : latency_of past 1 ≡ Refused 16
+pub past-latency : latency_of past 1 ≡ Err PastHorizon
 unfolding past_table
 past-latency =
     refuses past-reads 1 0 finds.2 (lit≤ tt)

@@ -15,10 +15,9 @@ use Rattle.table.specs.Bytes.{word, Bytes}
 use Rattle.table.specs.Record.{gap_form, gap_at, flag_at, gap_width, known, spaced, pad, row_at, blank}
 use Rattle.table.specs.Find.{find_of}
 use Rattle.table.specs.Fault.{◌then◌, mark_of, identity_fault, times_fault, counts_fault, head_fault, fall_fault, last_fault, gap_short, gap_fault, distances_fault, list_fault, short_fault, largest_fault, task_mark_fault, values_fault, task_rest_fault, task_fault, tasks_fault, chain_fault, beside_fault, end_fault}
-use Rattle.table.specs.Read.{accepted, unless, start, records, limit_of, read_table}
+use Rattle.table.specs.Read.{Reading, accepted, unless, start, records, limit_of, read_table}
 use Rattle.table.specs.declared.Row.{Row}
 use Rattle.table.specs.declared.Table.{Table}
-use Rattle.table.specs.declared.Reading.{Reading}
 use Rattle.demands.specs.Chains.{IsTable}
 use Rattle.demands.specs.Sieve.{twice}
 use Rattle.demands.specs.Starred.{sample, edge, past}

@@ -23,9 +23,9 @@ use Rattle.segments.specs.Actives.{start_of, numbered, in_order, actives}
 use Rattle.segments.specs.View.{View, view_of}
 use Rattle.windows.specs.Demand.{term_of, counted_part, demand_of, typical, views_of}
 use Rattle.windows.specs.Window.{window_of}
-use Rattle.windows.specs.Latency.{up_to, bound_of}
-use Rattle.windows.specs.declared.Window.TheVariants.{At}
-use Rattle.windows.specs.declared.Answer.TheVariants.{Figures}
+use Rattle.windows.specs.Latency.{up_to, figures, bound_of}
+use Rattle.std.specs.declared.option.Option.TheVariants.{Some}
+use Rattle.std.specs.declared.result.Result.TheVariants.{Ok}
 use Rattle.packing.specs.Packing.{sum_to}
 use Rattle.packing.specs.Most.{most_uses}
 use Rattle.packing.specs.Code.Plain.{reach}
@@ -35,8 +35,6 @@ use Rattle.misses.specs.Sets.{members, allowed, set_cost}
 use Rattle.misses.specs.Bad.{with_cost, over, bad, Test, by_windows}
 use Rattle.misses.specs.Misses.{early_of, bad_of, room_of, packing_figure, missed_of, overloads_of, tested_of, misses_of}
 use Rattle.misses.specs.Sieve.{called, by_sieve, as_sieved, at_most_of}
-use Rattle.misses.specs.declared.Answer.TheVariants.{Misses}
-use Rattle.misses.specs.declared.Sieved.TheVariants.{AtMost}
 use Rattle.misses.proofs.Answers.{missed_all, missed_packed}
 use Rattle.misses.proofs.Covers.{members-sum}
 use Rattle.misses.proofs.Packs.{bad-none}
@@ -64,11 +62,11 @@ demands : (demand_at twice_table 0 1 1 ≡ 9) × (demand_at twice_table 0 1 9 �
 unfolding twice_table demand_of views_of term_of counted_part view_of tasks_from lowest some before stretches onward around nonempty cuts parts cut_segments sum_of most_of count_by δ sums_to greatest last ◌when◌else◌
 demands = (refl, refl, refl)
 
-window : window_of (demand_at twice_table 0 1) ≡ At 14
+window : window_of (demand_at twice_table 0 1) ≡ Some 14
 unfolding twice_table
 window = two-turns twice-reads 1 0 finds (lit≤ tt) 9 14 demands.0 demands.1 demands.2 (lit≤ tt)
 
-bounds : bound_of δ b views ≡ record { answer = Figures 1 14 1 (negsuc 3); last = 14 }
+bounds : bound_of δ b views ≡ Ok (record { figures = figures 1 14 1 (negsuc 3); last = 14 })
 unfolding twice_table δ sums_to greatest ◌when◌else◌
 bounds = bound-closes twice-reads 1 0 finds (lit≤ tt) 14 window (lit≤ tt)
 
@@ -77,11 +75,11 @@ segments : (length (pieces_of os) ≡ 1) × (set_cost (pieces_of os) ≡ 1) × (
 unfolding twice_table overloads pieces_from capacities_of room_of largest some actives in_order numbered start_of parts stretches cuts tasks_from lowest sum_of count_by δ sums_to greatest last ◌when◌else◌
 segments = (refl, refl, refl, refl)
 
-early : early_of b 1 ≡ 0
+early : early_of b 1 ≡ Ok tt
 unfolding twice_table unknown early_of ◌when◌else◌
 early = refl
 
-counts : (test : Test) → tested_of δ test twice 1 1 ≡ Misses (missed_of δ test b views os 1 1 14 1)
+counts : (test : Test) → tested_of δ test twice 1 1 ≡ Ok (missed_of δ test b views os 1 1 14 1)
 unfolding twice_table some
 counts test =
     tested-counts twice-reads 1 0 finds (lit≤ tt) test 1 14 (negsuc 3) early bounds (omega (arith, segments.0)) segments.2
@@ -121,18 +119,18 @@ nothing-packed : most_uses (λ m. false) (λ i. get_or (2 ∷ []) i 0) ≡ 0
 unfolding most_uses reach first last sum_to ◌when◌else◌
 nothing-packed = refl
 
-pub twice-misses : misses_of twice 1 1 ≡ Misses 0
+pub twice-misses : misses_of twice 1 1 ≡ Ok 0
 unfolding packing_figure
 twice-misses =
     counts by_windows
-    ∙ ap Misses (missed_packed by_windows b views os 1 1 14 1 (none-bad 0))
-    ∙ ap (λ u. Misses (min 1 (1 * u))) (most-same (bad_of by_windows b views os 1) (λ m. false) (λ i. get_or (room_of δ b os 1 14) i 0) (λ i. get_or (2 ∷ []) i 0) (λ m s h. none-bad m) (λ i h. ap (λ l. get_or l i 0) segments.3) ∙ nothing-packed)
+    ∙ ap (λ u. Ok u) (missed_packed by_windows b views os 1 1 14 1 (none-bad 0))
+    ∙ ap (λ u. Ok (min 1 (1 * u))) (most-same (bad_of by_windows b views os 1) (λ m. false) (λ i. get_or (room_of δ b os 1 14) i 0) (λ i. get_or (2 ∷ []) i 0) (λ m s h. none-bad m) (λ i h. ap (λ l. get_or l i 0) segments.3) ∙ nothing-packed)
 
 -- when chain 1 is due, chain 2 has come twice: 12 is above 10
 called-none : bad_of by_sieve b views os 1 0 ≡ true
 unfolding bad_of called up_to twice_table demand_of views_of typical term_of counted_part view_of tasks_from lowest some before stretches onward around nonempty cuts parts cut_segments sum_of most_of count_by δ sums_to greatest last ◌when◌else◌
 called-none = bad-none _ (pieces_of os)
 
-pub twice-at-most : at_most_of twice 1 1 ≡ AtMost 1
+pub twice-at-most : at_most_of twice 1 1 ≡ Ok (record { most = 1 })
 unfolding at_most_of
-twice-at-most = ap as_sieved (counts by_sieve ∙ ap Misses (missed_all by_sieve b views os 1 1 14 1 called-none))
+twice-at-most = ap as_sieved (counts by_sieve ∙ ap (λ u. Ok u) (missed_all by_sieve b views os 1 1 14 1 called-none))

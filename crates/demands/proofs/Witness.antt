@@ -11,10 +11,9 @@ use Rattle.search.specs.Find.{first}
 use Rattle.search.specs.Lists.{sum_of, some, Paired}
 use Rattle.table.specs.Record.{gap_width, known}
 use Rattle.table.specs.Find.{row_of, find_of}
-use Rattle.table.specs.Read.{table_of}
+use Rattle.table.specs.Read.{Reading, table_of}
 use Rattle.table.specs.Place.{length_of, place_of}
 use Rattle.table.specs.declared.Table.{Table}
-use Rattle.table.specs.declared.Reading.{Reading}
 use Rattle.segments.specs.Tasks.{tasks_from, lowest, before}
 use Rattle.segments.specs.Segments.{stretches, onward, around, nonempty, cuts, parts, cut_segments}
 use Rattle.windows.specs.Demand.{others}

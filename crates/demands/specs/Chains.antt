@@ -1,17 +1,16 @@
 -- A chain of a stored table: what the demands speak of.
-use Rattle.std.specs.Prelude.{ℕ, ◌<◌, ◌≡◌, List}
+use Rattle.std.specs.Prelude.{ℕ, ◌<◌, ◌≡◌, List, Ok}
 use Rattle.table.specs.Bytes.{Bytes}
 use Rattle.table.specs.Find.{row_of, find_of}
 use Rattle.table.specs.Read.{read_table, table_of}
 use Rattle.table.specs.declared.Row.{Row}
-use Rattle.table.specs.declared.Verdict.TheVariants.{Accepted}
 use Rattle.slices.specs.Stored.{record_of}
 use Rattle.windows.specs.Demand.{others}
 
 -- a byte string that is read as an accepted table
 pub record IsTable (s : List ℕ) : Type 0 where
   pub bytes : Bytes s
-  pub accepted : (read_table s).verdict ≡ Accepted
+  pub accepted : (read_table s).verdict ≡ Ok tt
 
 -- a chain of it has the id
 pub record Has (s : List ℕ) (id : ℕ) : Type 0 where

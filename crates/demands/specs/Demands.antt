@@ -1,18 +1,16 @@
 -- What the customer demands: each demand is one record, its fields his sentences in his order and what his requests add, over definitions
 -- that stand in the files imported here. proofs/Demands.antt closes each record by one theorem, `demand-1`, `demand-2`, `demand-3`.
-use Rattle.std.specs.Prelude.{ℕ, ◌≤◌, ◌<◌, ◌≡◌, List, length, get_or}
+use Rattle.std.specs.Prelude.{ℕ, ◌≤◌, ◌<◌, ◌≡◌, List, length, get_or, Ok, Err}
 use Rattle.table.specs.Bytes.{Bytes}
 use Rattle.table.specs.Record.{id_at, distances}
 use Rattle.table.specs.Read.{read_table}
 use Rattle.table.specs.Field.{Blames, Placed}
-use Rattle.table.specs.declared.Verdict.TheVariants.{Refused}
+use Rattle.table.specs.Refusal.{numbered}
+use Rattle.table.specs.declared.Part.{Part}
+use Rattle.table.specs.declared.refusal.Refusal.{Refusal}
 use Rattle.segments.specs.Query.{segment_of, part_of, TaskRecords}
-use Rattle.segments.specs.declared.Answer.TheVariants.{Records}
-use Rattle.windows.specs.Latency.{latency_of}
-use Rattle.windows.specs.declared.Answer.{Answer as Latency}
-use Rattle.misses.specs.Misses.{misses_of}
-use Rattle.misses.specs.declared.Answer.{Answer as Missed}
-use Rattle.misses.specs.declared.Answer.TheVariants.{Misses}
+use Rattle.windows.specs.Latency.{latency_of, Answer as Latency}
+use Rattle.misses.specs.Misses.{misses_of, Answer as Missed}
 use Rattle.saving.specs.Later.{State, stored, Edit, after}
 use Rattle.report_text.specs.Numbers.{decimal, value_from}
 use Rattle.report_text.specs.Report.{miss_run, missed_text}
@@ -39,7 +37,7 @@ pub record Demand1 : Type 0 where
   pub entries : EveryEntry
   -- a table's refusal says where the table broke (02, request 1): its place lies within the table, or is its length or 0; and there stands
   -- the field that the number names, which is wrong
-  pub places : (s : List ℕ) {n place : ℕ} → (read_table s).verdict ≡ Refused n place → Placed s n place × Blames s n place
+  pub places : (s : List ℕ) {n : Refusal} {place : ℕ} → (read_table s).verdict ≡ Err (n, place) → Placed s (numbered n) place × Blames s (numbered n) place
   -- a save that starts from a record other than the stored one is refused; a record changed away and back counts as the one seen
   pub saves : SeenRecords
   -- a merge of two edited copies loses no edit of either, or is refused; the copies can be swapped (02, request 4)
@@ -69,9 +67,9 @@ pub record Demand2 : Type 0 where
   -- k where a deadline is missed without any overload (02, request 3)
   pub misses : {s : List ℕ} {id : ℕ} → Has s id → (k : ℕ) (a : Missed) → Exactly (misses_of s id k ≡ a) (SaysMissed (chain_of s id) (others_of s id) k a)
   -- so it never exceeds the run, nor 10 in the report's last column, and never falls as the run grows
-  pub within_run : (s : List ℕ) (id k : ℕ) {n : ℕ} → misses_of s id k ≡ Misses n → n ≤ k
+  pub within_run : (s : List ℕ) (id k : ℕ) {n : ℕ} → misses_of s id k ≡ Ok n → n ≤ k
   pub last_column : (s : List ℕ) (id : ℕ) → LastColumn (missed_text (misses_of s id miss_run))
-  pub longer_run : (s : List ℕ) → Bytes s → (id : ℕ) {k long n r : ℕ} → k ≤ long → misses_of s id k ≡ Misses n → misses_of s id long ≡ Misses r → n ≤ r
+  pub longer_run : (s : List ℕ) → Bytes s → (id : ℕ) {k long n r : ℕ} → k ≤ long → misses_of s id k ≡ Ok n → misses_of s id long ≡ Ok r → n ≤ r
   -- and it comes out the same by the plain engine; the sieve is never below it, refused alike (02, request 6)
   pub second_ways : SecondWays
   -- distances add up: no figure is greater than by the rule that 01 had before, and none is lost (02, request 9)
@@ -79,8 +77,7 @@ pub record Demand2 : Type 0 where
   -- the report prints a figure in decimal: the digits read back as the figure, and the first is no 0 but in 0 itself
   pub printed : (n : ℕ) → (value_from 0 (decimal n) ≡ n) × (0 < n → 48 < get_or (decimal n) 0 0)
   -- an active segment is handed back as the records of its tasks
-  pub segment : (s : List ℕ) → Bytes s → (id against number offset len : ℕ) → segment_of s id against number ≡ Records offset len
-      → TaskRecords s id against number (part_of s (Records offset len))
+  pub segment : (s : List ℕ) → Bytes s → (id against number : ℕ) (part : Part) → segment_of s id against number ≡ Ok part → TaskRecords s id against number (part_of s (Ok part))
 
 pub record Demand3 : Type 0 where
   -- take two accepted tables with the same record for one chain, their other chains paired off one to one. If each pair agrees against

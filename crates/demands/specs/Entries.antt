@@ -1,26 +1,28 @@
 -- Demand 1, entry by entry: every input is answered or refused with one number, a refused call leaves every lent byte, and two results
 -- that an entry's statement allows are equal, all lent bytes included. An entry's statement is the one of its contract.
-use Rattle.std.specs.Prelude.{ℕ, ◌≤◌, ◌≡◌, List, [], ◌⊎◌, length}
+use Rattle.std.specs.Prelude.{ℕ, ◌≤◌, ◌≡◌, List, [], ◌⊎◌, length, Ok, Err}
 use Rattle.std.specs.Borrow.{Bor}
+use Rattle.std.specs.declared.result.Result.{Result}
 use Rattle.search.specs.Lists.{All}
 use Rattle.table.specs.Bytes.{Bytes}
-use Rattle.table.specs.Read.{read_table, number_of as verdictNumber}
+use Rattle.table.specs.Refusal.{Verdict, number_of, one_value, part_values}
+use Rattle.table.specs.Read.{Reading, refusal, accepted, read_table, refused_by, outcome_of}
 use Rattle.table.specs.Field.{TableRefusal}
-use Rattle.table.specs.declared.Reading.{Reading}
+use Rattle.table.specs.declared.Table.{Table}
+use Rattle.table.specs.declared.refusal.Fault.{Fault}
 use Rattle.table.specs.declared.Row.{Row}
-use Rattle.slices.specs.Locate.{located_of, number_of as locatedNumber, values_of as locatedFigures}
-use Rattle.segments.specs.Query.{segment_of, HandedBack, number_of as segmentNumber, values_of as segmentFigures}
-use Rattle.segments.specs.declared.Answer.{Answer as Segment}
-use Rattle.windows.specs.Latency.{latency_of, number_of as latencyNumber}
-use Rattle.misses.specs.Misses.{misses_of, number_of as missesNumber, values_of as missesFigures}
-use Rattle.misses.specs.Sieve.{at_most_of, number_of as atMostNumber, values_of as atMostFigures}
-use Rattle.saving.specs.Save.{Saves, number_of as saveNumber}
+use Rattle.slices.specs.Locate.{located_of}
+use Rattle.segments.specs.Query.{segment_of, HandedBack, Answer as Segment}
+use Rattle.windows.specs.Latency.{latency_of}
+use Rattle.misses.specs.Misses.{misses_of}
+use Rattle.misses.specs.Sieve.{at_most_of, values_of as atMostFigures}
+use Rattle.saving.specs.Save.{Saves}
 use Rattle.merging.specs.Versions.{Versions}
-use Rattle.merging.specs.Merge.{Merges, found_of, found_number, found_values, Chosen, number_of as mergeNumber}
-use Rattle.salvaging.specs.Salvage.{Salvages, number_of as salvageNumber}
+use Rattle.merging.specs.Merge.{Answer as Merged, as_refused, Merges, found_of, Chosen}
+use Rattle.salvaging.specs.Salvage.{Salvages}
 use Rattle.writing.specs.Rows.{Typed}
-use Rattle.writing.specs.Write.{RowsRefusal, Writes, number_of as writeNumber}
-use Rattle.writing.specs.Fill.{Fills, number_of as fillNumber}
+use Rattle.writing.specs.Write.{RowsRefusal, Writes}
+use Rattle.writing.specs.Fill.{Fills}
 use Rattle.converting.specs.Convert.{Converts}
 use Rattle.converting.specs.declared.To.{To}
 use Rattle.report_text.specs.Report.{Reported}
@@ -72,6 +74,17 @@ CheckRefusal n = ⊥
 abbrev pub AtEntry : (ℕ → Type 0) → ℕ → Type 0
 AtEntry Refusal n = (n ≡ 27) ⊎ Refusal n
 
+-- the number of a verdict and of a merge, and what is read by the reader's answer
+abbrev pub verdictNumber : Verdict → ℕ
+verdictNumber v = number_of (refused_by v)
+
+abbrev pub mergeNumber : Merged → ℕ
+mergeNumber a = number_of (as_refused a)
+
+abbrev pub reading_by : Result Table Fault → Reading
+reading_by (Ok t) = accepted t
+reading_by (Err f) = refusal f.0 f.1
+
 -- an answer of that number and those figures: 0 and n figures, or a refusal, which gives its number and no figure
 pub record OneAnswer (Refusal : ℕ → Type 0) (n number : ℕ) (figures : List ℕ) : Type 0 where
   pub answered : number ≡ 0 → length figures ≡ n
@@ -108,32 +121,34 @@ pub record OneChosen (ancestor first second : Bor (List ℕ)) (id : ℕ) : Type 
 pub record EveryEntry : Type 0 where
   -- `table::judge`, `table::read`
   pub judge : (s : List ℕ) → Query (λ v. v ≡ (read_table s).verdict) TableRefusal 0 verdictNumber (λ v. [])
-  pub read : (s : List ℕ) {r q : Reading} → r ≡ read_table s → q ≡ read_table s → r ≡ q
+  pub read : (s : List ℕ) → Query (λ r. r ≡ outcome_of (read_table s)) TableRefusal 0 (λ r. verdictNumber (reading_by r).verdict) (λ r. [])
+  -- the verdict on the bytes, and the table that they hold, are those of its answer
+  pub reads : (s : List ℕ) {r : Result Table Fault} → r ≡ outcome_of (read_table s) → read_table s ≡ reading_by r
   -- `windows::latency`, `misses::misses`
-  pub latency : (s : List ℕ) (id : ℕ) → Query (λ a. a ≡ latency_of s id) LatencyRefusal 4 latencyNumber latency_figures
-  pub misses : (s : List ℕ) (id k : ℕ) → Query (λ a. a ≡ misses_of s id k) MissesRefusal 1 missesNumber missesFigures
+  pub latency : (s : List ℕ) (id : ℕ) → Query (λ a. a ≡ latency_of s id) LatencyRefusal 4 number_of latency_figures
+  pub misses : (s : List ℕ) (id k : ℕ) → Query (λ a. a ≡ misses_of s id k) MissesRefusal 1 number_of one_value
   -- `misses::misses_plain`, `misses::at_most`
-  pub misses_plain : (s : List ℕ) (id k : ℕ) → Query (λ a. a ≡ misses_of s id k) MissesRefusal 1 missesNumber missesFigures
-  pub at_most : (s : List ℕ) (id k : ℕ) → Query (λ a. a ≡ at_most_of s id k) MissesRefusal 1 atMostNumber atMostFigures
+  pub misses_plain : (s : List ℕ) (id k : ℕ) → Query (λ a. a ≡ misses_of s id k) MissesRefusal 1 number_of one_value
+  pub at_most : (s : List ℕ) (id k : ℕ) → Query (λ a. a ≡ at_most_of s id k) MissesRefusal 1 number_of atMostFigures
   -- `segments::segment`, `segments::segment_part`
-  pub segment : (s : List ℕ) (id against number : ℕ) → Query (λ a. a ≡ segment_of s id against number) SegmentRefusal 2 segmentNumber segmentFigures
+  pub segment : (s : List ℕ) (id against number : ℕ) → Query (λ a. a ≡ segment_of s id against number) SegmentRefusal 2 number_of part_values
   pub part : (table : Bor (List ℕ)) (id against number : ℕ) → OnePart table (segment_of table.now id against number)
   -- `saving::save`
-  pub save : (buffer : List ℕ) (used : ℕ) (old new : List ℕ) → Call (λ after a. Saves buffer used old new a after) SaveRefusal saveNumber buffer
+  pub save : (buffer : List ℕ) (used : ℕ) (old new : List ℕ) → Call (λ after a. Saves buffer used old new a after) SaveRefusal number_of buffer
   -- `merging::merge`, `merging::conflict`, `merging::chosen`
   pub merge : (v : Versions) (buffer : List ℕ) → Call (λ after a. Merges v buffer a after) MergeRefusal mergeNumber buffer
-  pub conflict : (v : Versions) (above : ℕ) → Query (λ a. a ≡ found_of v above) TableRefusal 1 found_number found_values
+  pub conflict : (v : Versions) (above : ℕ) → Query (λ a. a ≡ found_of v above) TableRefusal 1 number_of one_value
   pub chosen : (ancestor first second : Bor (List ℕ)) (id : ℕ) → OneChosen ancestor first second id
   -- `writing::write`, of rows as a program has them, and `writing::read`
-  pub write : (rs : List Row) → All Typed rs → (buffer : List ℕ) → Call (λ after a. Writes rs buffer a after) WriteRefusal writeNumber buffer
-  pub read_rows : (s : List ℕ) (before : List Row) → Call (λ after a. Fills s before a after) ReadRefusal fillNumber before
+  pub write : (rs : List Row) → All Typed rs → (buffer : List ℕ) → Call (λ after a. Writes rs buffer a after) WriteRefusal number_of buffer
+  pub read_rows : (s : List ℕ) (before : List Row) → Call (λ after a. Fills s before a after) ReadRefusal number_of before
   -- `slices::record`
-  pub record_place : (s : List ℕ) (id : ℕ) → Query (λ a. a ≡ located_of s id) RecordRefusal 2 locatedNumber locatedFigures
+  pub record_place : (s : List ℕ) (id : ℕ) → Query (λ a. a ≡ located_of s id) RecordRefusal 2 number_of part_values
   -- `converting::to_largest`, `converting::to_gap`
-  pub convert : (to : To) (s buffer : List ℕ) → Bytes s → Call (λ after a. Converts to s buffer a after) ConvertRefusal writeNumber buffer
+  pub convert : (to : To) (s buffer : List ℕ) → Bytes s → Call (λ after a. Converts to s buffer a after) ConvertRefusal number_of buffer
   -- `salvaging::salvage`, which is lent two slices to be written
   pub salvage : (s table list : List ℕ)
-      → Call {A = List ℕ × List ℕ} (λ after a. Salvages s table list a after.0 after.1) SalvageRefusal salvageNumber (table, list)
+      → Call {A = List ℕ × List ℕ} (λ after a. Salvages s table list a after.0 after.1) SalvageRefusal number_of (table, list)
   -- `report_text::report`
   pub report : (s before : List ℕ) → OneResult (Reported s before)
   -- `mishtodran_latency`, `mishtodran_misses`, `mishtodran_misses_plain`, `mishtodran_misses_at_most`, `mishtodran_record`, `mishtodran_segment`

@@ -1,13 +1,14 @@
 -- Demand 2 for the latency query: what its answer says of a chain's demand for q activations in t, of its distances and its deadline.
 -- B(q) is t where `Solution (demand q) t` holds: t is in 1 to the horizon and equals its demand, and no smaller one does.
-use Rattle.std.specs.Prelude.{ℕ, zero, suc, ◌+◌, ◌≤◌, ◌<◌, ◌≡◌, Bool, List, ltb, ℤ, pos, ◌-ℤ◌}
+use Rattle.std.specs.Prelude.{ℕ, zero, suc, ◌+◌, ◌≤◌, ◌<◌, ◌≡◌, Bool, List, ltb, ℤ, pos, ◌-ℤ◌, Ok, Err}
 use Rattle.search.specs.Choice.{◌when◌else◌}
 use Rattle.search.specs.Find.{Greatest}
 use Rattle.table.specs.Limits.{horizon, max_activations}
 use Rattle.arrivals.specs.Arrivals.{δ}
 use Rattle.windows.specs.Window.{Solution}
-use Rattle.windows.specs.declared.Answer.{Answer}
-use Rattle.windows.specs.declared.Answer.TheVariants.{Figures, Refused}
+use Rattle.table.specs.declared.refusal.Refusal.TheVariants.{PastHorizon, StillOpen}
+use Rattle.windows.specs.Latency.{Answer}
+use Rattle.windows.specs.declared.Figures.{Figures}
 
 -- A holds exactly when B does
 abbrev pub Exactly : Type 0 → Type 0 → Type 0
@@ -51,7 +52,7 @@ module _ (demand : ℕ → ℕ → ℕ) (ds : List ℕ) where
 
   -- what each answer says, and that there is no other
   pub record Means (deadline : ℕ) (answer : Answer) : Type 0 where
-    pub figures : (close latency late : ℕ) (margin : ℤ) → Exactly (answer ≡ Figures close latency late margin) (Closes deadline close latency late margin)
-    pub none : Exactly (answer ≡ Refused 16) NoWindow
-    pub unclosed : Exactly (answer ≡ Refused 17) NoClose
-    pub other : ((close latency late : ℕ) (margin : ℤ) → answer ≡ Figures close latency late margin → ⊥) → (answer ≡ Refused 16 → ⊥) → answer ≡ Refused 17
+    pub figures : (f : Figures) → Exactly (answer ≡ Ok f) (Closes deadline f.close f.latency f.late f.margin)
+    pub none : Exactly (answer ≡ Err PastHorizon) NoWindow
+    pub unclosed : Exactly (answer ≡ Err StillOpen) NoClose
+    pub other : ((f : Figures) → answer ≡ Ok f → ⊥) → (answer ≡ Err PastHorizon → ⊥) → answer ≡ Err StillOpen

@@ -1,21 +1,20 @@
 -- Demand 2 for the miss query, and for the sieve: what an answer says of a chain b beside the other chains l, for a run of k activations.
-use Rattle.std.specs.Prelude.{ℕ, ◌+◌, ◌*◌, ◌^◌, ◌≤◌, ◌<◌, min, ◌≡◌, Bool, true, List, [], map, ◌⊎◌, ltb, ℤ, length, get_or}
+use Rattle.std.specs.Prelude.{ℕ, ◌+◌, ◌*◌, ◌^◌, ◌≤◌, ◌<◌, min, ◌≡◌, Bool, true, List, [], map, ◌⊎◌, ltb, ℤ, length, get_or, Ok, Err}
 use Rattle.search.specs.Choice.{◌when◌else◌}
 use Rattle.search.specs.Lists.{All}
 use Rattle.table.specs.Limits.{max_run, max_overloads, max_capacity}
 use Rattle.table.specs.declared.Row.{Row}
+use Rattle.table.specs.declared.refusal.Refusal.{Refusal}
+use Rattle.table.specs.declared.refusal.Refusal.TheVariants.{BadRun, OverloadAsked, GapUnknown, PastHorizon, StillOpen, TooManySegments, StartsAgain, CapacityAbove}
 use Rattle.arrivals.specs.Arrivals.{δ, η, largest}
 use Rattle.table.specs.Record.{distances}
 use Rattle.windows.specs.Window.{Solution}
-use Rattle.windows.specs.Latency.{latency_of}
-use Rattle.windows.specs.declared.Answer.{Answer as Latency}
+use Rattle.windows.specs.Latency.{latency_of, Answer as Latency}
 use Rattle.packing.specs.Packing.{bit, IsMost}
 use Rattle.misses.specs.Overloads.{Overload, overloads, Piece, pieces_of}
 use Rattle.misses.specs.Sets.{members, set_cost}
 use Rattle.misses.specs.Bad.{with_cost}
-use Rattle.misses.specs.Misses.{misses_of}
-use Rattle.misses.specs.declared.Answer.{Answer}
-use Rattle.misses.specs.declared.Answer.TheVariants.{Misses, Refused}
+use Rattle.misses.specs.Misses.{Answer, misses_of}
 use Rattle.report_text.specs.Numbers.{decimal}
 use Rattle.report_text.specs.Report.{refusal_text}
 use Rattle.demands.specs.Chains.{chain_of, others_of}
@@ -118,27 +117,27 @@ module _ (b : Row) (l : List Row) where
     -- what each answer says, in document 01's order as document 02, request 3, has changed it
     pub data Says (k : ℕ) : Answer → Type 0 where
       -- k outside 1 to 1,000
-      run : (k < 1) ⊎ (max_run < k) → Says k (Refused 13)
+      run : (k < 1) ⊎ (max_run < k) → Says k (Err BadRun)
       -- asked of an overload chain
-      overload : 1 ≤ k → k ≤ max_run → (b.overload ≡ 0 → ⊥) → Says k (Refused 14)
+      overload : 1 ≤ k → k ≤ max_run → (b.overload ≡ 0 → ⊥) → Says k (Err OverloadAsked)
       -- asked of a chain with neither: gap 0, or flag 0 (02, request 7)
-      unknown : 1 ≤ k → k ≤ max_run → b.overload ≡ 0 → b.gap ≡ 0 → b.flag ≡ 0 → Says k (Refused 15)
+      unknown : 1 ≤ k → k ≤ max_run → b.overload ≡ 0 → b.gap ≡ 0 → b.flag ≡ 0 → Says k (Err GapUnknown)
       -- a needed window has no solution
-      window : MayAsk k → NoWindow full (distances b) → Says k (Refused 16)
+      window : MayAsk k → NoWindow full (distances b) → Says k (Err PastHorizon)
       -- no close by activation 1,024
-      close : MayAsk k → NoClose full (distances b) → Says k (Refused 17)
+      close : MayAsk k → NoClose full (distances b) → Says k (Err StillOpen)
       -- zero late activations
-      none : (f : Figured k) → f.late ≡ 0 → Says k (Misses 0)
+      none : (f : Figured k) → f.late ≡ 0 → Says k (Ok 0)
       -- over 6 overload active segments
-      many : (f : Figured k) → 1 ≤ f.late → (AtMostSix → ⊥) → Says k (Refused 18)
+      many : (f : Figured k) → 1 ≤ f.late → (AtMostSix → ⊥) → Says k (Err TooManySegments)
       -- an overload chain may start more than once in the last window
-      again : (f : Figured k) → 1 ≤ f.late → AtMostSix → (Once f → ⊥) → Says k (Refused 19)
+      again : (f : Figured k) → 1 ≤ f.late → AtMostSix → (Once f → ⊥) → Says k (Err StartsAgain)
       -- a capacity above 40
-      above : (f : Figured k) → 1 ≤ f.late → AtMostSix → Once f → (Capped f → ⊥) → Says k (Refused 21)
+      above : (f : Figured k) → 1 ≤ f.late → AtMostSix → Once f → (Capped f → ⊥) → Says k (Err CapacityAbove)
       -- the empty combination is bad: all of them
-      always : (f : Figured k) → 1 ≤ f.late → AtMostSix → Once f → Capped f → Bad f.close 0 → Says k (Misses k)
+      always : (f : Figured k) → 1 ≤ f.late → AtMostSix → Once f → Capped f → Bad f.close 0 → Says k (Ok k)
       -- the smaller of k and the packing figure: late times the most uses that any packing has
-      packed : (f : Figured k) (uses : ℕ) → 1 ≤ f.late → AtMostSix → Once f → Capped f → Fine f → Most f uses → Says k (Misses (min k (f.late * uses)))
+      packed : (f : Figured k) (uses : ℕ) → 1 ≤ f.late → AtMostSix → Once f → Capped f → Fine f → Most f uses → Says k (Ok (min k (f.late * uses)))
 
   -- the miss count, by the bad combinations; and by those that the sieve calls bad
   abbrev pub SaysMissed : ℕ → Answer → Type 0
@@ -149,7 +148,7 @@ module _ (b : Row) (l : List Row) where
 
 -- what the report has for the misses: a number up to 10, or `r` and a refusal
 abbrev pub LastColumn : List ℕ → Type 0
-LastColumn text = ((n : ℕ) × (n ≤ 10) × (text ≡ decimal n)) ⊎ ((n : ℕ) × (text ≡ refusal_text n))
+LastColumn text = ((n : ℕ) × (n ≤ 10) × (text ≡ decimal n)) ⊎ ((n : Refusal) × (text ≡ refusal_text n))
 
 -- a latency answer is what the words say of the chain with the id
 abbrev pub MeansOf : List ℕ → ℕ → Latency → Type 0

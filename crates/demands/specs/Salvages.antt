@@ -1,18 +1,19 @@
 -- Salvage of a damaged table (02, request 8): what is kept stands in the input and is an accepted table, all else is told, and an accepted
 -- table loses only its end record.
-use Rattle.std.specs.Prelude.{ℕ, ◌+◌, ◌-◌, ◌<◌, ◌≤◌, ◌≡◌, List, [], ◌∷◌, map, false, ◌⊎◌, length, take, drop}
+use Rattle.std.specs.Prelude.{ℕ, ◌+◌, ◌-◌, ◌<◌, ◌≤◌, ◌≡◌, List, [], ◌∷◌, map, false, ◌⊎◌, length, take, drop, Ok, Err}
 use Rattle.search.specs.Lists.{All}
 use Rattle.table.specs.Limits.{max_chains, max_bytes, max_input}
 use Rattle.table.specs.Bytes.{Bytes}
 use Rattle.table.specs.Record.{row_at, length_at}
 use Rattle.table.specs.Find.{rows}
 use Rattle.table.specs.Read.{empty, table_of}
+use Rattle.table.specs.declared.refusal.Refusal.TheVariants.{BufferShort, InputTooLong, NothingKept}
 use Rattle.salvaging.specs.Kept.{acceptable, kept_places}
 use Rattle.salvaging.specs.Skipped.{skipped}
 use Rattle.salvaging.specs.Steps.{Walks, kept_before}
 use Rattle.salvaging.specs.Cover.{Covers, Apart}
 use Rattle.salvaging.specs.Salvage.{record_at, table_kept, list_skipped, salvaged_of, Salvages}
-use Rattle.salvaging.specs.declared.Salvaged.TheVariants.{Used, Refused}
+use Rattle.salvaging.specs.declared.Lengths.{Lengths}
 use Rattle.demands.specs.Chains.{IsTable}
 use Rattle.demands.specs.Figures.{Exactly}
 
@@ -24,7 +25,7 @@ pub record Salvageable (s : List ℕ) : Type 0 where
 
 -- with so much room in the two buffers, it succeeds: the used lengths are those of the two results
 abbrev pub Succeeds : ℕ → ℕ → List ℕ → Type 0
-Succeeds tableRoom listRoom s = salvaged_of tableRoom listRoom s ≡ Used (length (table_kept s)) (length (list_skipped s))
+Succeeds tableRoom listRoom s = salvaged_of tableRoom listRoom s ≡ Ok (record { table = length (table_kept s); list = length (list_skipped s) })
 
 pub record Salvaging : Type 0 where
   -- kept and skipped stretches, with the rest after a 16th record, cover the input exactly once and in order; no two skipped ones touch, so
@@ -47,12 +48,12 @@ pub record Salvaging : Type 0 where
   -- 1,748 and 128 bytes of room always suffice
   pub room : {s : List ℕ} → Salvageable s → (tableRoom listRoom : ℕ) → max_bytes ≤ tableRoom → 128 ≤ listRoom → Succeeds tableRoom listRoom s
   -- the buffers then begin with the results, and the rest of them is as it was
-  pub written : {s table list tableAfter listAfter : List ℕ} {n m : ℕ} → Salvages s table list (Used n m) tableAfter listAfter
-      → ((take n tableAfter ≡ table_kept s) × (drop n tableAfter ≡ drop n table)) × ((take m listAfter ≡ list_skipped s) × (drop m listAfter ≡ drop m list))
+  pub written : {s table list tableAfter listAfter : List ℕ} {used : Lengths} → Salvages s table list (Ok used) tableAfter listAfter
+      → ((take used.table tableAfter ≡ table_kept s) × (drop used.table tableAfter ≡ drop used.table table)) × ((take used.list listAfter ≡ list_skipped s) × (drop used.list listAfter ≡ drop used.list list))
   -- salvaging the result again gives the same table
   pub again : {s : List ℕ} → Salvageable s → table_kept (table_kept s) ≡ table_kept s
   -- 35 for more than 4,096 bytes; then 36 where nothing is kept; then 24 where either buffer is too small, and only there
-  pub too_long : (s : List ℕ) → max_input < length s → (tableRoom listRoom : ℕ) → salvaged_of tableRoom listRoom s ≡ Refused 35
-  pub nothing_kept : (s : List ℕ) → length s ≤ max_input → length (kept_places s) ≡ 0 → (tableRoom listRoom : ℕ) → salvaged_of tableRoom listRoom s ≡ Refused 36
-  pub no_room_holds : {s : List ℕ} → Salvageable s → (tableRoom listRoom : ℕ) → (tableRoom < length (table_kept s)) ⊎ (listRoom < length (list_skipped s)) → salvaged_of tableRoom listRoom s ≡ Refused 24
+  pub too_long : (s : List ℕ) → max_input < length s → (tableRoom listRoom : ℕ) → salvaged_of tableRoom listRoom s ≡ Err InputTooLong
+  pub nothing_kept : (s : List ℕ) → length s ≤ max_input → length (kept_places s) ≡ 0 → (tableRoom listRoom : ℕ) → salvaged_of tableRoom listRoom s ≡ Err NothingKept
+  pub no_room_holds : {s : List ℕ} → Salvageable s → (tableRoom listRoom : ℕ) → (tableRoom < length (table_kept s)) ⊎ (listRoom < length (list_skipped s)) → salvaged_of tableRoom listRoom s ≡ Err BufferShort
   pub enough : {s : List ℕ} → Salvageable s → (tableRoom listRoom : ℕ) → length (table_kept s) ≤ tableRoom → length (list_skipped s) ≤ listRoom → Succeeds tableRoom listRoom s

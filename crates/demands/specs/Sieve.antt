@@ -1,11 +1,10 @@
 -- Request 6 of document 02: the miss count a second way, and the sieve beside it.
-use Rattle.std.specs.Prelude.{ℕ, ◌≤◌, ◌≡◌, List, [], ◌∷◌}
+use Rattle.std.specs.Prelude.{ℕ, ◌≤◌, ◌≡◌, List, [], ◌∷◌, Ok, Err}
 use Rattle.table.specs.Bytes.{Bytes}
-use Rattle.misses.specs.Misses.{misses_of}
+use Rattle.table.specs.declared.refusal.Refusal.{Refusal}
+use Rattle.misses.specs.Misses.{Answer, misses_of}
 use Rattle.misses.specs.Sieve.{at_most_of, as_sieved}
-use Rattle.misses.specs.declared.Answer.{Answer}
-use Rattle.misses.specs.declared.Answer.TheVariants.{Misses, Refused}
-use Rattle.misses.specs.declared.Sieved.TheVariants.{AtMost, Refused as NoBound}
+use Rattle.misses.specs.declared.AtMost.{AtMost}
 use Rattle.editor.specs.Entry.{MissesEntry, PlainEntry}
 use Rattle.demands.specs.Chains.{Has, chain_of, others_of}
 use Rattle.demands.specs.Figures.{Exactly}
@@ -35,10 +34,10 @@ pub record SecondWays : Type 0 where
   pub calls : {s : List ℕ} {id : ℕ} → Has s id → {k : ℕ} (f : Figured (chain_of s id) (others_of s id) k) (m : ℕ)
       → IsBad (chain_of s id) (others_of s id) f.close m → IsCalled (chain_of s id) (others_of s id) f.close m
   -- so where both answer, the miss count is no greater
-  pub never_below : (s : List ℕ) → Bytes s → (id k : ℕ) {n r : ℕ} → misses_of s id k ≡ Misses n → at_most_of s id k ≡ AtMost r → n ≤ r
+  pub never_below : (s : List ℕ) → Bytes s → (id k : ℕ) {n : ℕ} {r : AtMost} → misses_of s id k ≡ Ok n → at_most_of s id k ≡ Ok r → n ≤ r.most
   -- the refusals are the same
-  pub refusals : (s : List ℕ) → Bytes s → (id k n : ℕ) → Exactly (misses_of s id k ≡ Refused n) (at_most_of s id k ≡ NoBound n)
+  pub refusals : (s : List ℕ) → Bytes s → (id k : ℕ) (n : Refusal) → Exactly (misses_of s id k ≡ Err n) (at_most_of s id k ≡ Err n)
   -- and it never exceeds the run
-  pub within_run : (s : List ℕ) (id k : ℕ) {n : ℕ} → at_most_of s id k ≡ AtMost n → n ≤ k
+  pub within_run : (s : List ℕ) (id k : ℕ) {r : AtMost} → at_most_of s id k ≡ Ok r → r.most ≤ k
   -- on some table they differ: none is missed in a run of 1, and the sieve says at most 1
-  pub differ : (misses_of twice 1 1 ≡ Misses 0) × (at_most_of twice 1 1 ≡ AtMost 1)
+  pub differ : (misses_of twice 1 1 ≡ Ok 0) × (at_most_of twice 1 1 ≡ Ok (record { most = 1 }))

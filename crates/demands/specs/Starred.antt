@@ -1,19 +1,17 @@
 -- The starred cases of document 01 in a single list, over the stored tables' bytes; k = 1 and the list 10, 15 as document 02, requests 3 and
 -- 9, have them.
-use Rattle.std.specs.Prelude.{ℕ, ◌≡◌, ◌||◌, List, [], ◌∷◌, map, eqb, pos}
+use Rattle.std.specs.Prelude.{ℕ, ◌≡◌, ◌||◌, List, [], ◌∷◌, map, eqb, pos, Some, Ok, Err}
 use Rattle.table.specs.declared.Row.{Row}
+use Rattle.table.specs.declared.refusal.Refusal.TheVariants.{PastHorizon}
 use Rattle.arrivals.specs.Arrivals.{δ, η}
 use Rattle.segments.specs.Tasks.{Task}
 use Rattle.segments.specs.Segments.{segments_of}
 use Rattle.segments.specs.Actives.{actives_of}
 use Rattle.segments.specs.View.{view_of}
 use Rattle.windows.specs.Window.{window_of}
-use Rattle.windows.specs.Latency.{latency_of}
-use Rattle.windows.specs.declared.Window.TheVariants.{At}
-use Rattle.windows.specs.declared.Answer.TheVariants.{Figures, Refused}
+use Rattle.windows.specs.Latency.{figures, latency_of}
 use Rattle.misses.specs.Bad.{by_windows}
 use Rattle.misses.specs.Misses.{bad_of, room_of, misses_of}
-use Rattle.misses.specs.declared.Answer.TheVariants.{Misses}
 use Rattle.demands.specs.Chains.{chain_of, others_of}
 use Rattle.demands.specs.Misses.{marked, full}
 
@@ -83,10 +81,10 @@ pub record Starred : Type 0 where
   pub eta_25 : η example 25 ≡ 3
   pub eta_26 : η example 26 ≡ 3
   -- at the edge: K 1, latency 10,000,000, late 0, margin 0; one tick more gives 16
-  pub edge_figures : latency_of edge 1 ≡ Figures 1 10000000 0 (pos 0)
-  pub edge_refused : latency_of past 1 ≡ Refused 16
+  pub edge_figures : latency_of edge 1 ≡ Ok (figures 1 10000000 0 (pos 0))
+  pub edge_refused : latency_of past 1 ≡ Err PastHorizon
   -- chain 1: B(1) = 64
-  pub window_1 : window_of (full chain1 others1 1) ≡ At 64
+  pub window_1 : window_of (full chain1 others1 1) ≡ Some 64
   -- chain 3 shows one segment, task 3, then task 1; active costs 6 and 10
   pub segment_3 : segments_of chain3 chain1 ≡ (task 2 7 10 ∷ task 0 8 6 ∷ []) ∷ []
   pub active_3 : map (λ a. a.cost) (actives_of chain3 chain1) ≡ 6 ∷ 10 ∷ []
@@ -95,6 +93,6 @@ pub record Starred : Type 0 where
   -- k = 10: capacities 2, answer 3; k = 11: capacities 3, answer 4; k = 1: 1 (02, request 3)
   pub room_10 : room_of δ chain1 (marked chain1 others1) 10 64 ≡ 2 ∷ 2 ∷ 2 ∷ []
   pub room_11 : room_of δ chain1 (marked chain1 others1) 11 64 ≡ 3 ∷ 3 ∷ 3 ∷ []
-  pub misses_10 : misses_of sample 1 10 ≡ Misses 3
-  pub misses_11 : misses_of sample 1 11 ≡ Misses 4
-  pub misses_1 : misses_of sample 1 1 ≡ Misses 1
+  pub misses_10 : misses_of sample 1 10 ≡ Ok 3
+  pub misses_11 : misses_of sample 1 11 ≡ Ok 4
+  pub misses_1 : misses_of sample 1 1 ≡ Ok 1
