@@ -8,6 +8,7 @@ use native.Mathlib.Omega.{arith}
 use lib.Dec.{lit≤, eqb, ltb}
 use borrow.Author.Tests.{eqb-false, not-false}
 use lib.ListN.{length, take}
+use Rattle.std.specs.Prelude.{⊤}
 use Rattle.std.specs.declared.option.Option.TheVariants.{Some, None}
 use Rattle.std.specs.declared.result.Result.{Result}
 use Rattle.std.specs.declared.result.Result.TheVariants.{Ok, Err}
@@ -73,9 +74,9 @@ module _ (Allowed : ℕ → Type 0) (n : ℕ) where
   faulty low s f e = refuses (numbered f.0) (some_number s {n = f.0} {place = f.1} e) (low (numbered f.0) (refused-placed s {n = f.0} {place = f.1} e).number)
 
 -- a refusal of one query that is one of another too
-other : {Allowed Also : ℕ → Type 0} {n m f : ℕ} → ((k : ℕ) → Allowed k → Also k) → OneAnswer Allowed (suc n) f [] → OneAnswer Also m f []
-other {f = zero} to o = absurd (omega (arith, o.answered refl))
-other {f = suc k} to o = record { answered = λ z. absurd (omega (arith, z)); refused = λ h. (to (suc k) (o.refused h).0, refl) }
+other : {Allowed Also : ℕ → Type 0} {n m : ℕ} → 1 ≤ n → ((k : ℕ) → Allowed k → Also k) → (f : ℕ) → OneAnswer Allowed n f [] → OneAnswer Also m f []
+other some to zero o = absurd (omega (arith, o.answered refl))
+other some to (suc k) o = record { answered = λ z. absurd (omega (arith, z)); refused = λ h. (to (suc k) (o.refused h).0, refl) }
 
 -- a table, judged and read
 pub verdict_one : (s : List ℕ) → OneAnswer TableRefusal 0 (verdictNumber (read_table s).verdict) []
@@ -148,7 +149,7 @@ in_one test b views os k = by (misses.early_of b k) (early-one b k)
   where
     bounded : (w : Result Windows Refusal) → OneLatency (latency.figures_of w) → OneMisses (misses.by_bound δ test b views os k w)
     bounded (Ok w) o = figures-one test b views os k _ _ _ _
-    bounded (Err n) o = other (λ f r. ⊎_elim (λ h. inl h) (λ g. inr (inl (⊎_elim (λ h. (omega (arith, h), omega (arith, h))) (λ h. (omega (arith, h.0), omega (arith, h.1))) g))) r) o
+    bounded (Err n) o = other (lit≤ tt) (λ f r. ⊎_elim (λ h. inl h) (λ g. inr (inl (⊎_elim (λ h. (omega (arith, h), omega (arith, h))) (λ h. (omega (arith, h.0), omega (arith, h.1))) g))) r) (numbered n) o
 
     by : (r : Result ⊤ Refusal) → Early r → OneMisses (misses.unless_early δ test b views os k r)
     by (Ok u) l = bounded (latency.bound_of δ b views) (bound-one b views)

@@ -30,7 +30,6 @@ use Rattle.misses.specs.Bad.{Test, by_windows}
 use Rattle.misses.specs.Sieve.{by_sieve, as_sieved, at_most_of}
 use Rattle.misses.specs.Overloads.{overloads}
 use Rattle.misses.specs.Misses.{tested_beside, tested_of}
-use Rattle.misses.proofs.Answers as misses
 use Rattle.merging.specs.Versions.{three, state_of, ids_of}
 use Rattle.merging.proofs.Promises.{map-alike, first-unchanged, second-unchanged}
 use Rattle.merging.proofs.Equals.{same-result}

@@ -7,7 +7,7 @@ use mathlib.Core.Logic.{inl, inr, ⊎_elim}
 use native.Mathlib.Omega.{arith}
 use lib.Dec.{ltb}
 use lib.ListN.{length}
-use borrow.Author.Tests.{lt-ltb, le-ltb, ne_eqb}
+use borrow.Author.Tests.{lt-ltb, le-ltb}
 use denote.Ref.{Bor}
 use Rattle.std.specs.Result.{is_ok}
 use Rattle.std.specs.declared.result.Result.{Result}
@@ -17,7 +17,7 @@ use Rattle.search.specs.Lists.{All}
 use Rattle.search.proofs.Choice.{when_yes, when_no, when_cases, lt_or_le}
 use Rattle.table.specs.Field.{TableRefusal}
 use Rattle.table.specs.Refusal.{Verdict, number_of, answering}
-use Rattle.table.specs.Read.{Reading, read_table, outcome_of}
+use Rattle.table.specs.Read.{read_table, outcome_of}
 use Rattle.table.specs.declared.Table.{Table}
 use Rattle.table.specs.declared.refusal.Fault.{Fault}
 use Rattle.table.specs.declared.refusal.Refusal.{Refusal as Reason}
@@ -59,8 +59,10 @@ reads : (s : List ℕ) {r : Result Table Fault} → r ≡ outcome_of (read_table
 reads s e = by (read_table s).verdict refl ∙ sym (ap reading_by e)
   where
     by : (v : Verdict) → (read_table s).verdict ≡ v → read_table s ≡ reading_by (answering (read_table s).verdict (read_table s).table)
-    by (Ok u) f = rw f (ap (λ (v : Verdict). record { verdict = v; table = (read_table s).table }) f)
-    by (Err g) f = rw f (refused_reading s g.0 g.1 f)
+    by (Ok u) f =
+        let t = (read_table s).table in
+        ap (λ (v : Verdict). record { verdict = v; table = t }) f ∙ ap (λ (v : Verdict). reading_by (answering v t)) (sym f)
+    by (Err g) f = refused_reading s g.0 g.1 f ∙ ap (λ (v : Verdict). reading_by (answering v (read_table s).table)) (sym f)
 
 -- the save of the library: its answer, and the whole buffer
 module _ (buffer : List ℕ) (used : ℕ) (old new : List ℕ) where

@@ -37,7 +37,6 @@ use Rattle.std.specs.declared.option.Option.TheVariants.{Some, None}
 use Rattle.std.specs.declared.result.Result.TheVariants.{Ok, Err}
 use Rattle.table.specs.declared.refusal.Refusal.TheVariants.{PastHorizon, StillOpen}
 use Rattle.windows.specs.declared.Figures.{Figures}
-use Rattle.windows.specs.declared.Windows.{Windows}
 use Rattle.windows.proofs.Least.{window-only, window-at, window-none}
 use Rattle.windows.proofs.Growth.{Growing, demand-growing}
 use Rattle.windows.proofs.Besides.{others-paced}

@@ -5,7 +5,6 @@ use mathlib.Core.List.{List}
 use mathlib.Core.Logic.{⊎_elim}
 use native.Mathlib.Omega.{arith}
 use native.Mathlib.Nat.{le_refl}
-use lib.IntN.{ℤ}
 use Rattle.table.specs.Bytes.{Bytes}
 use Rattle.table.specs.Read.{read_table, table_of}
 use Rattle.table.specs.declared.Row.{Row}

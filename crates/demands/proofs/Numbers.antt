@@ -4,12 +4,12 @@ use mathlib.Core.Path.{◌≡◌, refl}
 use mathlib.Core.List.{List}
 use mathlib.Core.Logic.{inl, inr}
 use lib.Dec.{lit≤}
+use Rattle.std.specs.Prelude.{⊤}
 use Rattle.std.specs.declared.result.Result.{Result}
 use Rattle.std.specs.declared.result.Result.TheVariants.{Ok, Err}
 use Rattle.search.proofs.Choice.{when_cases}
 use Rattle.table.specs.Refusal.{Verdict, numbered}
 use Rattle.table.specs.Read.{by_verdict, read_table, refused_by}
-use Rattle.table.specs.Field.{TableRefusal}
 use Rattle.table.specs.declared.refusal.Refusal.{Refusal}
 use Rattle.table.proofs.Fields.{refused-placed, some_number}
 use Rattle.saving.specs.Save.{read_fault, result_fault, replace_fault, change_fault, save_fault}

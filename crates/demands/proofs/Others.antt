@@ -57,7 +57,7 @@ module _ {s r : List ℕ} {id : ℕ} (one : Has s id) (two : Has r id) (row : ch
     latency =
         latency-is one δ
         ∙ ap figures_of (alike-bound (paired_map alike (λ a. view_of a b) (λ a. view_of a b) (λ a c h. h)) b)
-        ∙ ap (λ x. (bound_of δ x (map (λ a. view_of a x) (others_of r id))).answer) row
+        ∙ ap (λ x. figures_of (bound_of δ x (map (λ a. view_of a x) (others_of r id)))) row
         ∙ sym (latency-is two δ);
     misses = λ k.
         tested-are one δ by_windows k ∙ alike-misses b alike k

@@ -108,16 +108,12 @@ module _ {s : List ℕ} (h : IsTable s) where
   unfolding located_of record_in record_of
   located id part e = by (used (table_of s) id) refl (sym (ap (λ (v : Verdict). by_verdict Err v (record_in (table_of s) id)) h.accepted) ∙ e)
     where
-      Located : Type 0
-      Located = Result Part Refusal
-
       by : (t : Bool) → used (table_of s) id ≡ t → record_in (table_of s) id ≡ Ok part → Has s id × (take part.length (drop part.offset s) ≡ record_bytes s id)
-      unfolding Located
       by true u q =
-          let f = sym (when_yes {A = Located} _ (Err NoChain) u) ∙ q in
+          let f = sym (when_yes {A = Result Part Refusal} _ (Err NoChain) u) ∙ q in
           let same : record { offset = place_of (table_of s) (find_of (table_of s) id); length = length_of (row_of (table_of s) (find_of (table_of s) id)) } ≡ part = cc in
           (record { table = h; there = ltb-true _ _ u }, subst (λ (p : Part). take p.length (drop p.offset s) ≡ record_bytes s id) same refl)
-      by false u q = let f = sym (when_no {A = Located} _ (Err NoChain) u) ∙ q in let z : ◌≡◌ {A = ℕ} 0 1 = cc in absurd (omega arith)
+      by false u q = let f = sym (when_no {A = Result Part Refusal} _ (Err NoChain) u) ∙ q in let z : ◌≡◌ {A = ℕ} 0 1 = cc in absurd (omega arith)
 
 -- the bytes of no row are an end record that counts none
 no_row : verdict_on [] ≡ Err (BadChainCount, 2)

@@ -129,7 +129,7 @@ module _ (b : Row) (l : List Row) (good : GoodRow b) (rows : All GoodRow l) (pac
       let a = and_left (allowed (pieces b l) m) _ e in
       let f = some-found _ close (and_right (allowed (pieces b l) m) _ e) in
       let q = f.0 in
-      let w = combination-window b l good rows (typical-paced (viewed b l) paced) q m (c.B q) f.1 (ap (λ d. window_of (d q)) (equation-is b l) ∙ sym (window-only (full b l q) (At (c.B q)) (c.windows q f.1 f.2))) a in
+      let w = combination-window b l good rows (typical-paced (viewed b l) paced) q m (c.B q) f.1 (ap (λ d. window_of (d q)) (equation-is b l) ∙ sym (window-only (full b l q) (Some (c.B q)) (c.windows q f.1 f.2))) a in
       record {
         combination = allowed-combination (pieces b l) m a;
         q = q;
@@ -144,7 +144,7 @@ module _ (b : Row) (l : List Row) (good : GoodRow b) (rows : All GoodRow l) (pac
   unfolding bad_of bad over
   bad-is m h =
       let d : ℕ → ℕ → ℕ = demand_of δ b (typical (viewed b l)) in
-      let w : window_of (with_cost d (cost m) h.q) ≡ At h.t = ap (λ e. window_of (with_cost e (cost m) h.q)) (unmarked-is b l) ∙ sym (window-only _ (At h.t) h.window) in
+      let w : window_of (with_cost d (cost m) h.q) ≡ Some h.t = ap (λ e. window_of (with_cost e (cost m) h.q)) (unmarked-is b l) ∙ sym (window-only _ (Some h.t) h.window) in
       ap₂ ◌&&◌ (combination-allowed (pieces b l) m h.combination)
       (some_one (λ q. longer (window_of (with_cost d (cost m) q)) (δ (distances b) q + b.deadline)) close h.q h.low h.high
       (ap (λ x. longer x (δ (distances b) h.q + b.deadline)) w ∙ lt-ltb _ _ h.late))

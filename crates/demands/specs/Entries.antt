@@ -74,7 +74,7 @@ CheckRefusal n = ⊥
 abbrev pub AtEntry : (ℕ → Type 0) → ℕ → Type 0
 AtEntry Refusal n = (n ≡ 27) ⊎ Refusal n
 
--- the number of a verdict and of a merge, and what is read by the reader's answer
+-- the number of a verdict, and of what a merge answers; and what the reader's answer says of the bytes: their verdict and their table
 abbrev pub verdictNumber : Verdict → ℕ
 verdictNumber v = number_of (refused_by v)
 
@@ -122,7 +122,7 @@ pub record EveryEntry : Type 0 where
   -- `table::judge`, `table::read`
   pub judge : (s : List ℕ) → Query (λ v. v ≡ (read_table s).verdict) TableRefusal 0 verdictNumber (λ v. [])
   pub read : (s : List ℕ) → Query (λ r. r ≡ outcome_of (read_table s)) TableRefusal 0 (λ r. verdictNumber (reading_by r).verdict) (λ r. [])
-  -- the verdict on the bytes, and the table that they hold, are those of its answer
+  -- and that answer says both the verdict on the bytes and the table that they hold
   pub reads : (s : List ℕ) {r : Result Table Fault} → r ≡ outcome_of (read_table s) → read_table s ≡ reading_by r
   -- `windows::latency`, `misses::misses`
   pub latency : (s : List ℕ) (id : ℕ) → Query (λ a. a ≡ latency_of s id) LatencyRefusal 4 number_of latency_figures
