@@ -106,7 +106,13 @@ fn by_figures(s: &[u8], chain: usize, k: u32, w: Windows, how: How) -> Result<Le
 }
 
 // What is left of the chain of that number in a run of k activations, where its windows are worked out already.
-pub fn packings_with(s: &[u8], chain: usize, k: u32, w: Result<Windows, Refusal>, how: How) -> Result<Left, Refusal>
+pub fn packings_with(
+    s: &[u8],
+    chain: usize,
+    k: u32,
+    w: Result<Windows, Refusal>,
+    how: How,
+) -> Result<Left, Refusal>
     requires { Taken s.now × (chain < (table_of s.now).count) × (w ≡ bound_at δ (table_of s.now) chain) }
     ensures { LeadsTo k (tested_at δ (test_of how) (table_of s.now) chain k) result }
 {

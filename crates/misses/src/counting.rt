@@ -38,7 +38,12 @@ fn packed(k: u32, left: &Left) -> u32
 }
 
 // The misses of the chain of that number in a run of k activations, where its windows are worked out already.
-pub fn misses_with(s: &[u8], chain: usize, k: u32, w: Result<Windows, Refusal>) -> Result<u32, Refusal>
+pub fn misses_with(
+    s: &[u8],
+    chain: usize,
+    k: u32,
+    w: Result<Windows, Refusal>,
+) -> Result<u32, Refusal>
     requires { Taken s.now × (chain < (table_of s.now).count) × (w ≡ bound_at δ (table_of s.now) chain) }
     ensures { result ≡ misses_at (table_of s.now) chain k }
 {

@@ -6,10 +6,10 @@ ghost use Rattle.odometer.specs.Code.Gone.{Gone};
 ghost use Rattle.misses.specs.Misses.{misses_of};
 ghost use Rattle.table_misses.specs.Code.Counting.{Counts};
 
-use misses::{Answer, figure, packings_for};
+use misses::{Left, figure, packings_for};
 use odometer::Odometer;
 use packing::COMBINATIONS;
-use table::Table;
+use table::{Refusal, Table};
 use verdict_text::{put, put_number};
 
 // Which packings are gone through: the first ones, as far as that takes no time to speak of, or every one.
@@ -19,10 +19,10 @@ pub enum Extent {
     Every,
 }
 
-// What comes of it: the answer, or that there are more packings than were to be gone through.
+// What comes of it: the misses, or that there are more packings than were to be gone through.
 #[derive(Clone, Copy)]
 pub enum Count {
-    Known(Answer),
+    Known(u32),
     GivenUp,
 }
 
@@ -93,20 +93,25 @@ fn gone_through(
 }
 
 // The misses of the chain with the id in a run of k activations, as the plain engine counts them.
-pub fn counted(err: &impl Print, table: &[u8], id: u32, k: u32, extent: Extent) -> Count
+pub fn counted(
+    err: &impl Print,
+    table: &[u8],
+    id: u32,
+    k: u32,
+    extent: Extent,
+) -> Result<Count, Refusal>
     ensures { Counts (misses_of table.now id k) extent result }
 {
-    let p = packings_for(table, id, k);
-    if p.pending {
-        let bad = p.bad;
-        let capacity = p.capacity;
-        let o = gone_through(err, extent, id, &bad, &capacity);
-        if !o.over {
-            say_given_up(err, id);
-            return Count::GivenUp;
+    let left = packings_for(table, id, k)?;
+    match &left {
+        Left::Known(n) => Ok(Count::Known(*n)),
+        Left::Packed(p) => {
+            let o = gone_through(err, extent, id, &p.bad, &p.capacity);
+            if !o.over {
+                say_given_up(err, id);
+                return Ok(Count::GivenUp);
+            }
+            Ok(Count::Known(figure(k, p.late, o.most)))
         }
-        return Count::Known(Answer::Misses(figure(k, p.late, o.most)));
     }
-    let answer = p.answer;
-    Count::Known(answer)
 }

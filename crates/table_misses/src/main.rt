@@ -11,9 +11,9 @@ ghost use Rattle.table.specs.Read.{table_of};
 
 use counting::{Count, Extent, counted};
 use input::{Input, has_argument, take_in};
-use misses::{Answer, Sieved, at_most, misses};
+use misses::{AtMost, at_most, misses};
 use std::rt::Env;
-use table::{Table, Verdict, id_at, place};
+use table::{Refusal, Table, id_at, place};
 use verdict_text::{put, put_number, put_refused};
 
 // ---- The arguments ----
@@ -62,31 +62,32 @@ fn put_column(out: &impl Print, n: u32) -> bool {
 }
 
 // A refusal's number in a column.
-fn put_refusal(out: &impl Print, n: u32) -> bool {
-    put(out, b" r") && put_number(out, n as usize)
+fn put_refusal(out: &impl Print, refusal: Refusal) -> bool {
+    put(out, b" r") && put_number(out, refusal.number() as usize)
 }
 
 // The misses, or their refusal.
-fn put_misses(out: &impl Print, answer: Answer) -> bool {
+fn put_misses(out: &impl Print, answer: Result<u32, Refusal>) -> bool {
     match answer {
-        Answer::Misses(n) => put_column(out, n),
-        Answer::Refused(n) => put_refusal(out, n),
+        Ok(n) => put_column(out, n),
+        Err(refusal) => put_refusal(out, refusal),
     }
 }
 
-// The plain engine's count; `-` where it was given up.
-fn put_plain(out: &impl Print, plain: Count) -> bool {
+// The plain engine's count, or the refusal; `-` where it was given up.
+fn put_plain(out: &impl Print, plain: Result<Count, Refusal>) -> bool {
     match plain {
-        Count::Known(answer) => put_misses(out, answer),
-        Count::GivenUp => put(out, b" -"),
+        Ok(Count::Known(n)) => put_column(out, n),
+        Ok(Count::GivenUp) => put(out, b" -"),
+        Err(refusal) => put_refusal(out, refusal),
     }
 }
 
 // The sieve's number, which is no miss count, or the refusal.
-fn put_at_most(out: &impl Print, sieved: Sieved) -> bool {
+fn put_at_most(out: &impl Print, sieved: Result<AtMost, Refusal>) -> bool {
     match sieved {
-        Sieved::AtMost(n) => put_column(out, n),
-        Sieved::Refused(n) => put_refusal(out, n),
+        Ok(at_most) => put_column(out, at_most.most),
+        Err(refusal) => put_refusal(out, refusal),
     }
 }
 
@@ -123,10 +124,8 @@ fn put_lines(out: &impl Print, err: &impl Print, s: &[u8], k: u32, extent: Exten
 // The heading and the lines; of a refused table its one line.
 fn put_table(out: &impl Print, err: &impl Print, s: &[u8], k: u32, extent: Extent) -> bool {
     match table::judge(s) {
-        Verdict::Accepted => {
-            put(out, b"chain misses plain at_most\n") && put_lines(out, err, s, k, extent)
-        }
-        Verdict::Refused(number, at) => { put_refused(out, s, number, at) && put(out, b"\n") }
+        Ok(()) => { put(out, b"chain misses plain at_most\n") && put_lines(out, err, s, k, extent) }
+        Err(fault) => put_refused(out, s, fault) && put(out, b"\n"),
     }
 }
 
