@@ -4,7 +4,7 @@
 
 use cases::{Outcome, filled, read_full, same, scribbled, went};
 use std::io::Read;
-use writing::Written;
+use table::Refusal;
 
 // What a case expects: the refusal number, 0 for none, and the used length.
 #[derive(Clone, Copy)]
@@ -14,7 +14,7 @@ struct Expected {
 }
 
 // The conversion asked: 0 for the one to gaps, else to largest distances.
-fn convert(asked: u8, s: &[u8], out: &mut [u8]) -> Written {
+fn convert(asked: u8, s: &[u8], out: &mut [u8]) -> Result<u32, Refusal> {
     match asked {
         0 => converting::to_gap(s, out),
         _ => converting::to_largest(s, out),
@@ -22,10 +22,10 @@ fn convert(asked: u8, s: &[u8], out: &mut [u8]) -> Written {
 }
 
 // Whether the answer has the expected number, and length where it is accepted.
-fn answers(written: Written, expected: Expected) -> bool {
+fn answers(written: Result<u32, Refusal>, expected: Expected) -> bool {
     match written {
-        Written::Used(n) => expected.number == 0 && n == expected.length,
-        Written::Refused(number) => 0 < number && number == expected.number,
+        Ok(n) => expected.number == 0 && n == expected.length,
+        Err(refusal) => refusal.number() == expected.number,
     }
 }
 

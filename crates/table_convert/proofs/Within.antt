@@ -4,28 +4,25 @@ use native.Mathlib.Omega.{arith}
 use mathlib.Core.Path.{◌≡◌, refl, sym, ap, subst, ◌∙◌}
 use mathlib.Core.List.{List, ◌++◌}
 use lib.ListN.{length, drop, length-append}
-use borrow.Author.Tests.{eq-eqb}
 use Rattle.search.proofs.Choice.{when_yes, when_cases}
 use Rattle.table.specs.Read.{by_verdict, read_table}
 use Rattle.table.specs.declared.Row.{Row}
-use Rattle.table.specs.declared.Verdict.{Verdict}
-use Rattle.table.specs.declared.Verdict.TheVariants.{Accepted, Refused as Faulty}
+use Rattle.std.specs.declared.result.Result.TheVariants.{Ok, Err}
+use Rattle.table.specs.Refusal.{Verdict}
 use Rattle.writing.specs.Rows.{table_bytes}
-use Rattle.writing.specs.Write.{number_of, verdict_on, written_of}
-use Rattle.writing.specs.declared.Written.{Written}
-use Rattle.writing.specs.declared.Written.TheVariants.{Used, Refused}
+use Rattle.writing.specs.Write.{Written, verdict_on, written_of, buffer_after}
 use Rattle.converting.specs.Convert.{rows_in, converted_of, Converts}
 use Rattle.converting.specs.declared.To.{To}
 
 -- an answer that uses so many bytes, or refuses
 abbrev UsesOnly : ℕ → Written → Type 0
-UsesOnly m (Used n) = n ≡ m
-UsesOnly m (Refused n) = Unit
+UsesOnly m (Ok n) = n ≡ m
+UsesOnly m (Err n) = Unit
 
 -- after a verdict
-verdict_uses : (m : ℕ) (rest : Written) → UsesOnly m rest → (v : Verdict) → UsesOnly m (by_verdict Refused v rest)
-verdict_uses m rest uses Accepted = uses
-verdict_uses m rest uses (Faulty n place) = tt
+verdict_uses : (m : ℕ) (rest : Written) → UsesOnly m rest → (v : Verdict) → UsesOnly m (by_verdict Err v rest)
+verdict_uses m rest uses (Ok u) = uses
+verdict_uses m rest uses (Err f) = tt
 
 written-uses : (room : ℕ) (rs : List Row) → UsesOnly (length (table_bytes rs)) (written_of room rs)
 unfolding written_of
@@ -40,9 +37,9 @@ converted-uses to room s =
     verdict_uses m _ (when_cases (UsesOnly m) _ (λ e. tt) (λ e. written-uses room (rows_in to s))) (read_table s).verdict
 
 -- so many bytes as the table has in the form asked, which the buffer holds
-pub used-within : {to : To} {s buffer after : List ℕ} {answer : Written} → Converts to s buffer answer after → (n : ℕ) → answer ≡ Used n → n ≤ length after
+pub used-within : {to : To} {s buffer after : List ℕ} {answer : Written} → Converts to s buffer answer after → (n : ℕ) → answer ≡ Ok n → n ≤ length after
 used-within {to} {s} {buffer} {after} {answer} converts n e =
     let made = table_bytes (rows_in to s) in
     let used : n ≡ length made = subst (UsesOnly (length made)) (sym converts.answers ∙ e) (converted-uses to (length buffer) s) in
-    let left : after ≡ made ++ drop (length made) buffer = converts.leaves ∙ when_yes _ _ (eq-eqb (number_of answer) 0 (ap number_of e)) in
+    let left : after ≡ made ++ drop (length made) buffer = converts.leaves ∙ ap (λ (a : Written). buffer_after a (rows_in to s) buffer) e ∙ when_yes _ _ refl in
     omega (arith, used, ap length left, length-append made (drop (length made) buffer))

@@ -8,9 +8,8 @@ ghost use Rattle.table.specs.Code.Taken.{Taken};
 use converting::{To, convert, fits_gap};
 use input::{Input, has_argument, take_file};
 use std::rt::Env;
-use table::{Table, Verdict, count, id_at, place};
-use verdict_text::{put, put_number, put_refused, put_sentence};
-use writing::Written;
+use table::{Refusal, Table, count, id_at, place};
+use verdict_text::{put, put_refusal, put_refused};
 
 // The form asked.
 fn asked(rt: &impl Env) -> To {
@@ -31,30 +30,27 @@ fn put_result(out: &impl Print, err: &impl Print, res: &[u8]) -> bool {
     is_written
 }
 
-// The id of the first chain that cannot be said with a gap; 0, which none bears, where each can.
-fn first_unfit(s: &[u8]) -> u32
+// The id of the first chain that cannot be said with a gap.
+fn first_unfit(s: &[u8]) -> Option<u16>
     requires { Taken s.now }
 {
     for chain in 0..count(s) {
         let at = place(s, chain);
         if !fits_gap(s, at) {
-            return u32::from(id_at(s, at));
+            return Some(id_at(s, at));
         }
     }
-    0
+    None
 }
 
 // That the chain with the id cannot be said with a gap; where there is none, that the table has gaps already.
-fn put_unfit(err: &impl Print, id: u32) -> bool {
-    if id == 0 {
-        return put(err, b"the table already has the form CH");
+fn put_unfit(err: &impl Print, unfit: Option<u16>) -> bool {
+    match unfit {
+        Some(id) => print!(err;
+            "chain {id} has largest distances other than 1, 2, 3, .. times a gap of at most 10,000,000"
+        ).is_ok(),
+        None => put(err, b"the table already has the form CH"),
     }
-    let which = put(err, b"chain ") && put_number(err, id as usize);
-    which
-        && put(
-            err,
-            b" has largest distances other than 1, 2, 3, .. times a gap of at most 10,000,000",
-        )
 }
 
 // Why a table cannot be given the form asked. Every chain can have largest distances, so there the table has them already.
@@ -70,26 +66,28 @@ fn put_reason(err: &impl Print, s: &[u8], to: To) -> bool
 fn put_no_form(err: &impl Print, s: &[u8], to: To) -> bool
     requires { Taken s.now }
 {
-    let what = put(err, b"refused 34: ") && put_sentence(err, 34);
-    what && put(err, b" (") && put_reason(err, s, to) && put(err, b")")
+    put_refusal(err, Refusal::NoSuchForm)
+        && put(err, b" (")
+        && put_reason(err, s, to)
+        && put(err, b")")
 }
 
-// Why there is no result. Every result has room, so an accepted table is refused with 34 alone.
+// Why there is no result. Every result has room, so an accepted table is refused for its form alone.
 fn put_why(err: &impl Print, s: &[u8], to: To) -> bool {
     match table::judge(s) {
-        Verdict::Accepted => put_no_form(err, s, to),
-        Verdict::Refused(number, at) => put_refused(err, s, number, at),
+        Ok(()) => put_no_form(err, s, to),
+        Err(fault) => put_refused(err, s, fault),
     }
 }
 
 fn put_converted(out: &impl Print, err: &impl Print, s: &[u8], to: To) -> bool {
     let mut res = [0u8; Table::BYTES];
     match convert(s, &mut res, to) {
-        Written::Used(n) => {
+        Ok(n) => {
             let used = n as usize;
             put_result(out, err, &res[..used])
         }
-        Written::Refused(_) => put_why(err, s, to) && put(err, b"\n"),
+        Err(_) => put_why(err, s, to) && put(err, b"\n"),
     }
 }
 

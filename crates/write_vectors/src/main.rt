@@ -8,8 +8,7 @@ ghost use Rattle.writing.specs.Fill.{Fills};
 
 use cases::{Outcome, filled, read_full, same, scribbled, went};
 use std::io;
-use table::{Row, Table};
-use writing::{Filled, Written};
+use table::{Refusal, Row, Table};
 
 // Room for the rows of a case; a case with more is not as expected.
 const ROWS: usize = 272;
@@ -24,7 +23,7 @@ struct Expected {
 // What a read answers, and the rows after it.
 #[derive(Clone, Copy)]
 struct Read {
-    filled: Filled,
+    filled: Result<u32, Refusal>,
     rows: [Row; ROWS],
 }
 
@@ -33,7 +32,7 @@ struct Read {
 // Only these two lend rows. All other functions take rows by value.
 
 // Writes the first n rows.
-fn write_first(rows: [Row; ROWS], n: usize, out: &mut [u8]) -> Written
+fn write_first(rows: [Row; ROWS], n: usize, out: &mut [u8]) -> Result<u32, Refusal>
     requires { n ≤ 272 }
     ensures { Writes (take n rows) out.old result out.new }
 {
@@ -235,10 +234,10 @@ fn come_back(rows: [Row; ROWS], found: [Row; ROWS]) -> bool {
 // ---- A case ----
 
 // Whether the answer has the expected number, and length where it is accepted.
-fn answers(written: Written, expected: Expected) -> bool {
+fn answers(written: Result<u32, Refusal>, expected: Expected) -> bool {
     match written {
-        Written::Used(n) => expected.number == 0 && n == expected.length,
-        Written::Refused(number) => 0 < number && number == expected.number,
+        Ok(n) => expected.number == 0 && n == expected.length,
+        Err(refusal) => refusal.number() == expected.number,
     }
 }
 
@@ -268,22 +267,6 @@ fn write_as_expected(rows: [Row; ROWS], n: usize, expected: Expected, after: &[u
     leaves_as_expected(rows, n, &mut buffer[..room], expected, after)
 }
 
-// Whether the answer is n chains.
-fn is_chains(filled: Filled, n: usize) -> bool {
-    match filled {
-        Filled::Chains(chains) => chains as usize == n,
-        Filled::Refused(_) => false,
-    }
-}
-
-// Whether the answer is that there are too few rows.
-fn has_no_room(filled: Filled) -> bool {
-    match filled {
-        Filled::Chains(_) => false,
-        Filled::Refused(number) => number == 24,
-    }
-}
-
 // Whether a read into one row less than the table has is refused and leaves every row.
 fn refuses_less(s: &[u8], n: usize) -> bool
     requires { n ≤ 272 }
@@ -296,7 +279,7 @@ fn refuses_less(s: &[u8], n: usize) -> bool
     let read = read_first(s, rows, n - 1);
     let filled = read.filled;
     let left = read.rows;
-    has_no_room(filled) && come_back(rows, left)
+    filled == Err(Refusal::BufferShort) && come_back(rows, left)
 }
 
 // Whether the table gives back the first n rows, and these give the same bytes.
@@ -312,7 +295,7 @@ fn reads_back(rows: [Row; ROWS], n: usize, expected: Expected, after: &[u8]) -> 
     let read = read_first(s, [row; ROWS], n);
     let filled = read.filled;
     let found = read.rows;
-    is_chains(filled, n)
+    filled == Ok(n as u32)
         && come_back(rows, found)
         && refuses_less(s, n)
         && write_as_expected(found, n, expected, after)
