@@ -1,4 +1,3 @@
 pub mod Writing
 pub mod Converting
-pub mod Singles
 pub mod Salvaging

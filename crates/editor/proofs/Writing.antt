@@ -45,8 +45,8 @@ stored_next xs x before held after e f =
 
 -- the three ways an entry ends
 module _ (n number : ℕ) (figures before : List ℕ) where
-  pub answered-short : length before < 4 * n → Answered n number figures before before 27
-  answered-short h = record { returns = sym (when_yes 27 number (lt-ltb _ _ h)); leaves = refl }
+  pub answered-short : length before < 4 * n → {r : ℕ} → r ≡ 27 → Answered n number figures before before r
+  answered-short h e = rw e (record { returns = sym (when_yes 27 number (lt-ltb _ _ h)); leaves = refl })
 
   module _ (room : 4 * n ≤ length before) where
     pub answered-refusal : (r : ℕ) → number ≡ r → figures ≡ [] → Answered n number figures before before r

@@ -3,20 +3,14 @@
 #![tactic(auto)]
 
 ghost use Rattle.std.specs.Prelude.{◌≡◌, ◌*◌, ◌≤◌, length};
-ghost use Rattle.misses.specs.Misses.{number_of as missesNumber, values_of as missesValues};
-ghost use Rattle.merging.specs.Merge.{versions};
-ghost use Rattle.writing.specs.Fill.{number_of as filledNumber, values_of as filledValues};
-ghost use Rattle.writing.specs.Write.{number_of as writtenNumber, values_of as writtenValues};
+ghost use Rattle.table.specs.Refusal.{number_of, one_value, part_values};
+ghost use Rattle.merging.specs.Merge.{versions, as_refused};
 ghost use Rattle.editor.specs.Entry.{figure_bytes, starting_with, Answered, LatencyEntry, MissesEntry, PlainEntry, AtMostEntry, SegmentEntry, SaveEntry, CheckEntry, MergeEntry, ConflictEntry, ReadEntry, WriteEntry, RecordEntry, ConvertEntry, SalvageEntry, ReportEntry, version};
 ghost use Rattle.converting.specs.declared.To.TheVariants.{Largest, Gap};
-ghost use Rattle.editor.specs.Code.Single.{single_of};
 
-use merging::{Found, Merged};
+use merging::Unmerged;
 use report_text::LONGEST;
-use salvaging::Salvaged;
-use saving::Saved;
-use table::{Row, Verdict, put_u32};
-use writing::{Filled, Written};
+use table::{Part, Refusal, Row, put_u32};
 
 // What an entry returns where it has answered.
 const ANSWERED: u32 = 0;
@@ -34,40 +28,50 @@ fn put_figures(answer: &mut [u8], figures: &[u32])
     }
 }
 
+// What a call answers in one figure, put into an answer buffer; where it is refused, the number of the refusal.
+fn put_figure(answered: Result<u32, Refusal>, answer: &mut [u8]) -> u32
+    requires { 4 ≤ length answer.old }
+    ensures { Answered 1 (number_of answered) (one_value answered) answer.old answer.new result }
+{
+    match answered {
+        Ok(n) => {
+            let figures = [n];
+            put_figures(answer, &figures);
+            ANSWERED
+        }
+        Err(refusal) => refusal.number(),
+    }
+}
+
+// The same of a part of a table: offset and length.
+fn put_part(answered: Result<Part, Refusal>, answer: &mut [u8]) -> u32
+    requires { 8 ≤ length answer.old }
+    ensures { Answered 2 (number_of answered) (part_values answered) answer.old answer.new result }
+{
+    match answered {
+        Ok(part) => {
+            let figures = [part.offset, part.length];
+            put_figures(answer, &figures);
+            ANSWERED
+        }
+        Err(refusal) => refusal.number(),
+    }
+}
+
 // A chain's K, latency, late and margin.
 pub fn mishtodran_latency(table: &[u8], id: u32, answer: &mut [u8]) -> u32
     ensures { LatencyEntry table.now id answer.old answer.new result }
 {
     if answer.len() < 16 {
-        return 27;
+        return Refusal::AnswerShort.number();
     }
     match windows::latency(table, id) {
-        windows::Answer::Figures {
-            close,
-            latency,
-            late,
-            margin,
-        } => {
-            let figures = [close, latency, late, margin.cast_unsigned()];
+        Ok(f) => {
+            let figures = [f.close, f.latency, f.late, f.margin.cast_unsigned()];
             put_figures(answer, &figures);
             ANSWERED
         }
-        windows::Answer::Refused(n) => n,
-    }
-}
-
-// What a miss query answers, put into an answer buffer.
-fn put_missed(missed: misses::Answer, answer: &mut [u8]) -> u32
-    requires { 4 ≤ length answer.old }
-    ensures { Answered 1 (missesNumber missed) (missesValues missed) answer.old answer.new result }
-{
-    match missed {
-        misses::Answer::Misses(n) => {
-            let figures = [n];
-            put_figures(answer, &figures);
-            ANSWERED
-        }
-        misses::Answer::Refused(n) => n,
+        Err(refusal) => refusal.number(),
     }
 }
 
@@ -76,9 +80,9 @@ pub fn mishtodran_misses(table: &[u8], id: u32, k: u32, answer: &mut [u8]) -> u3
     ensures { MissesEntry table.now id k answer.old answer.new result }
 {
     if answer.len() < 4 {
-        return 27;
+        return Refusal::AnswerShort.number();
     }
-    put_missed(misses::misses(table, id, k), answer)
+    put_figure(misses::misses(table, id, k), answer)
 }
 
 // The same by the plain engine, which goes through every packing and may take very long.
@@ -86,9 +90,9 @@ pub fn mishtodran_misses_plain(table: &[u8], id: u32, k: u32, answer: &mut [u8])
     ensures { PlainEntry table.now id k answer.old answer.new result }
 {
     if answer.len() < 4 {
-        return 27;
+        return Refusal::AnswerShort.number();
     }
-    put_missed(misses::misses_plain(table, id, k), answer)
+    put_figure(misses::misses_plain(table, id, k), answer)
 }
 
 // A number that the misses do not exceed, by the sieve.
@@ -96,15 +100,15 @@ pub fn mishtodran_misses_at_most(table: &[u8], id: u32, k: u32, answer: &mut [u8
     ensures { AtMostEntry table.now id k answer.old answer.new result }
 {
     if answer.len() < 4 {
-        return 27;
+        return Refusal::AnswerShort.number();
     }
     match misses::at_most(table, id, k) {
-        misses::Sieved::AtMost(n) => {
-            let figures = [n];
+        Ok(at_most) => {
+            let figures = [at_most.most];
             put_figures(answer, &figures);
             ANSWERED
         }
-        misses::Sieved::Refused(n) => n,
+        Err(refusal) => refusal.number(),
     }
 }
 
@@ -119,16 +123,9 @@ pub fn mishtodran_segment(
     ensures { SegmentEntry table.now id against number answer.old answer.new result }
 {
     if answer.len() < 8 {
-        return 27;
+        return Refusal::AnswerShort.number();
     }
-    match segments::segment(table, id, against, number) {
-        segments::Answer::Records { offset, length } => {
-            let figures = [offset, length];
-            put_figures(answer, &figures);
-            ANSWERED
-        }
-        segments::Answer::Refused(n) => n,
-    }
+    put_part(segments::segment(table, id, against, number), answer)
 }
 
 // Replaces one record in the table that is the first `used` bytes of the buffer: the new used length.
@@ -142,16 +139,9 @@ pub fn mishtodran_save(
     ensures { SaveEntry buffer.old used old_record.now new_record.now answer.old buffer.new answer.new result }
 {
     if answer.len() < 4 {
-        return 27;
+        return Refusal::AnswerShort.number();
     }
-    match saving::save(buffer, used, old_record, new_record) {
-        Saved::Used(n) => {
-            let figures = [n];
-            put_figures(answer, &figures);
-            ANSWERED
-        }
-        Saved::Refused(n) => n,
-    }
+    put_figure(saving::save(buffer, used, old_record, new_record), answer)
 }
 
 // What the reader says of a table: the number and the place of its first fault, 0 and 0 where it is accepted. That is an answer,
@@ -160,41 +150,29 @@ pub fn mishtodran_check(table: &[u8], answer: &mut [u8]) -> u32
     ensures { CheckEntry table.now answer.old answer.new result }
 {
     if answer.len() < 8 {
-        return 27;
+        return Refusal::AnswerShort.number();
     }
     match table::judge(table) {
-        Verdict::Accepted => {
+        Ok(()) => {
             let figures = [0, 0];
             put_figures(answer, &figures);
             ANSWERED
         }
-        Verdict::Refused(n, at) => {
-            let figures = [n, at as u32];
+        Err(fault) => {
+            let figures = [fault.0.number(), fault.1 as u32];
             put_figures(answer, &figures);
             ANSWERED
         }
     }
 }
 
-// An answer of one figure, or the refusal's number.
-#[derive(Clone, Copy)]
-enum Single {
-    Figure(u32),
-    Refused(u32),
-}
-
-// A merge's answer as such.
-fn as_single(merged: Merged) -> Single
-    ensures { result ≡ single_of merged }
+// A merge's answer, its refusal as the one that it is in the documents.
+fn as_refused(merged: Result<u32, Unmerged>) -> Result<u32, Refusal>
+    ensures { result ≡ as_refused merged }
 {
     match merged {
-        Merged::Used(n) => Single::Figure(n),
-        Merged::Ancestor(n, _) => Single::Refused(n),
-        Merged::First(n, _) => Single::Refused(n),
-        Merged::Second(n, _) => Single::Refused(n),
-        Merged::Conflict(_) => Single::Refused(32),
-        Merged::NoRoom => Single::Refused(24),
-        Merged::Result(n, _) => Single::Refused(n),
+        Ok(used) => Ok(used),
+        Err(why) => Err(Refusal::from(why)),
     }
 }
 
@@ -209,16 +187,10 @@ pub fn mishtodran_merge<'a>(
     ensures { MergeEntry (versions ancestor.entry first.entry second.entry) buffer.old answer.old buffer.new answer.new result }
 {
     if answer.len() < 4 {
-        return 27;
+        return Refusal::AnswerShort.number();
     }
-    match as_single(merging::merge(ancestor, first, second, buffer)) {
-        Single::Figure(n) => {
-            let figures = [n];
-            put_figures(answer, &figures);
-            ANSWERED
-        }
-        Single::Refused(n) => n,
-    }
+    let merged = merging::merge(ancestor, first, second, buffer);
+    put_figure(as_refused(merged), answer)
 }
 
 // The smallest id greater than `above` that is in conflict there, 0 if there is none.
@@ -232,31 +204,9 @@ pub fn mishtodran_conflict(
     ensures { ConflictEntry (versions ancestor.entry first.entry second.entry) above answer.old answer.new result }
 {
     if answer.len() < 4 {
-        return 27;
+        return Refusal::AnswerShort.number();
     }
-    match merging::conflict(ancestor, first, second, above) {
-        Found::Id(id) => {
-            let figures = [id];
-            put_figures(answer, &figures);
-            ANSWERED
-        }
-        Found::Refused(n) => n,
-    }
-}
-
-// What reading into rows answers, put into an answer buffer.
-fn put_filled(filled: Filled, answer: &mut [u8]) -> u32
-    requires { 4 ≤ length answer.old }
-    ensures { Answered 1 (filledNumber filled) (filledValues filled) answer.old answer.new result }
-{
-    match filled {
-        Filled::Chains(n) => {
-            let figures = [n];
-            put_figures(answer, &figures);
-            ANSWERED
-        }
-        Filled::Refused(n) => n,
-    }
+    put_figure(merging::conflict(ancestor, first, second, above), answer)
 }
 
 // Reads a table into rows: how many chains there are.
@@ -264,24 +214,9 @@ pub fn mishtodran_read(table: &[u8], rows: &mut [Row], answer: &mut [u8]) -> u32
     ensures { ReadEntry table.now rows.old answer.old rows.new answer.new result }
 {
     if answer.len() < 4 {
-        return 27;
+        return Refusal::AnswerShort.number();
     }
-    put_filled(writing::read(table, rows), answer)
-}
-
-// What a write or a conversion answers, put into an answer buffer.
-fn put_written(written: Written, answer: &mut [u8]) -> u32
-    requires { 4 ≤ length answer.old }
-    ensures { Answered 1 (writtenNumber written) (writtenValues written) answer.old answer.new result }
-{
-    match written {
-        Written::Used(n) => {
-            let figures = [n];
-            put_figures(answer, &figures);
-            ANSWERED
-        }
-        Written::Refused(n) => n,
-    }
+    put_figure(writing::read(table, rows), answer)
 }
 
 // Writes the table of the rows into a buffer: its length.
@@ -289,9 +224,9 @@ pub fn mishtodran_write(rows: &[Row], buffer: &mut [u8], answer: &mut [u8]) -> u
     ensures { WriteEntry rows.now buffer.old answer.old buffer.new answer.new result }
 {
     if answer.len() < 4 {
-        return 27;
+        return Refusal::AnswerShort.number();
     }
-    put_written(writing::write(rows, buffer), answer)
+    put_figure(writing::write(rows, buffer), answer)
 }
 
 // Where the record of a chain stands: offset and length.
@@ -299,16 +234,9 @@ pub fn mishtodran_record(table: &[u8], id: u32, answer: &mut [u8]) -> u32
     ensures { RecordEntry table.now id answer.old answer.new result }
 {
     if answer.len() < 8 {
-        return 27;
+        return Refusal::AnswerShort.number();
     }
-    match slices::record(table, id) {
-        slices::Located::Record { offset, length } => {
-            let figures = [offset, length];
-            put_figures(answer, &figures);
-            ANSWERED
-        }
-        slices::Located::Refused(n) => n,
-    }
+    put_part(slices::record(table, id), answer)
 }
 
 // Writes the table with largest distances in the place of gaps into a buffer: its length.
@@ -316,9 +244,9 @@ pub fn mishtodran_to_largest(table: &[u8], buffer: &mut [u8], answer: &mut [u8])
     ensures { ConvertEntry Largest table.now buffer.old answer.old buffer.new answer.new result }
 {
     if answer.len() < 4 {
-        return 27;
+        return Refusal::AnswerShort.number();
     }
-    put_written(converting::to_largest(table, buffer), answer)
+    put_figure(converting::to_largest(table, buffer), answer)
 }
 
 // Writes the table with gaps in the place of largest distances into a buffer: its length.
@@ -326,9 +254,9 @@ pub fn mishtodran_to_gap(table: &[u8], buffer: &mut [u8], answer: &mut [u8]) -> 
     ensures { ConvertEntry Gap table.now buffer.old answer.old buffer.new answer.new result }
 {
     if answer.len() < 4 {
-        return 27;
+        return Refusal::AnswerShort.number();
     }
-    put_written(converting::to_gap(table, buffer), answer)
+    put_figure(converting::to_gap(table, buffer), answer)
 }
 
 // Salvages what is left of a damaged table: the new table and the list of what was skipped, each into a buffer, and their lengths.
@@ -336,15 +264,15 @@ pub fn mishtodran_salvage(input: &[u8], table: &mut [u8], list: &mut [u8], answe
     ensures { SalvageEntry input.now table.old list.old answer.old table.new list.new answer.new result }
 {
     if answer.len() < 8 {
-        return 27;
+        return Refusal::AnswerShort.number();
     }
     match salvaging::salvage(input, table, list) {
-        Salvaged::Used { table, list } => {
-            let figures = [table, list];
+        Ok(used) => {
+            let figures = [used.table, used.list];
             put_figures(answer, &figures);
             ANSWERED
         }
-        Salvaged::Refused(n) => n,
+        Err(refusal) => refusal.number(),
     }
 }
 
@@ -354,12 +282,12 @@ pub fn mishtodran_report(table: &[u8], text: &mut [u8], answer: &mut [u8]) -> u3
     ensures { ReportEntry table.now text.old answer.old text.new answer.new result }
 {
     if answer.len() < 4 {
-        return 27;
+        return Refusal::AnswerShort.number();
     }
     let mut made = [0u8; LONGEST];
     let n = report_text::report(table, &mut made);
     if text.len() < n {
-        return 24;
+        return Refusal::BufferShort.number();
     }
     text[..n].copy_from_slice(&made[..n]);
     let figures = [n as u32];

@@ -1,22 +1,19 @@
 -- Each way the entry ends, by its law.
-use mathlib.Core.Path.{refl, ap, sym, ◌∙◌}
-use mathlib.Core.List.{[], ◌∷◌}
-use Rattle.merging.specs.Merge.{versions, found_number, found_values, found_of}
-use Rattle.editor.proofs.Writing.{answered-short, answered-refusal, answered-figures}
+use mathlib.Core.Path.{subst}
+use Prim.Native.Nat.{ℕ}
+use Rattle.std.specs.declared.result.Result.{Result}
+use Rattle.table.specs.Refusal.{number_of, one_value}
+use Rattle.table.specs.declared.refusal.Refusal.{Refusal}
+use Rattle.merging.specs.Merge.{versions, found_of}
+use Rattle.editor.specs.Entry.{Answered}
+use Rattle.editor.proofs.Writing.{answered-short}
 use Rattle.editor.proofs.mishtodran_conflict.Goals as goal
 
 pub returns-then-answer-lt4 : goal.returns-then-answer-lt4
 returns-then-answer-lt4 c = let a = c.args in
-    let found = found_of (versions c.args.ancestor c.args.first c.args.second) a.above in
-    record { answers = answered-short 1 (found_number found) (found_values found) a.answer.now c.if-answer-lt4.true }
+    let answer = found_of (versions c.args.ancestor c.args.first c.args.second) a.above in
+    record { answers = answered-short 1 (number_of answer) (one_value answer) a.answer.now c.if-answer-lt4.true c.number.ensures }
 
-pub returns-in-Id : goal.returns-in-Id
-returns-in-Id c = let a = c.args in
-    let e = sym c.conflict.ensures ∙ c.in-Id.is in
-    record { answers = rw e (answered-figures 1 0 (c.in-Id.id ∷ []) a.answer.now c.if-answer-lt4.false c.put_figures.new.answer refl c.put_figures.ensures) }
-
-pub returns-in-Refused : goal.returns-in-Refused
-returns-in-Refused c = let a = c.args in
-    let found = found_of (versions c.args.ancestor c.args.first c.args.second) a.above in
-    let e = sym c.conflict.ensures ∙ c.in-Refused.is in
-    record { answers = answered-refusal 1 (found_number found) (found_values found) a.answer.now c.if-answer-lt4.false c.in-Refused.n (ap found_number e) (ap found_values e) }
+pub returns : goal.returns
+returns c = let a = c.args in
+    record { answers = subst (λ (x : Result ℕ Refusal). Answered 1 (number_of x) (one_value x) a.answer.now c.put_figure.new.answer c.put_figure.result) c.conflict.ensures c.put_figure.ensures }

@@ -3,8 +3,8 @@ use mathlib.Core.Path.{ap, sym, subst, ◌∙◌}
 use lib.ListN.{length}
 use borrow.Author.Tests.{lt-ltb, le-ltb}
 use Rattle.search.proofs.Choice.{when_yes, when_no}
-use Rattle.writing.specs.Fill.{number_of, values_of, filled_of, rows_after}
-use Rattle.writing.specs.declared.Filled.{Filled}
+use Rattle.table.specs.Refusal.{number_of, one_value}
+use Rattle.writing.specs.Fill.{Filled, filled_of, rows_after}
 use Rattle.editor.specs.Entry.{Answered}
 use Rattle.editor.proofs.Writing.{answered-short}
 use Rattle.editor.proofs.mishtodran_read.Goals as goal
@@ -14,7 +14,7 @@ returns-then-answer-lt4 c =
     let a = c.args in
     let filled = filled_of (length a.rows.now) a.table.now in
     record {
-      answers = answered-short 1 (number_of filled) (values_of filled) a.answer.now c.if-answer-lt4.true;
+      answers = answered-short 1 (number_of filled) (one_value filled) a.answer.now c.if-answer-lt4.true c.number.ensures;
       leaves = sym (when_yes a.rows.now (rows_after filled a.table.now a.rows.now) (lt-ltb (length a.answer.now) 4 c.if-answer-lt4.true));
     }
 
@@ -24,7 +24,7 @@ returns c =
     let filled = filled_of (length a.rows.now) a.table.now in
     let read = c.read.ensures in
     record {
-      answers = subst (λ (x : Filled). Answered 1 (number_of x) (values_of x) a.answer.now c.put_filled.new.answer c.put_filled.result) read.answers c.put_filled.ensures;
+      answers = subst (λ (x : Filled). Answered 1 (number_of x) (one_value x) a.answer.now c.put_figure.new.answer c.put_figure.result) read.answers c.put_figure.ensures;
       leaves =
           read.leaves
           ∙ ap (λ (x : Filled). rows_after x a.table.now a.rows.now) read.answers

@@ -13,14 +13,14 @@ use Rattle.editor.proofs.mishtodran_report.Goals as goal
 
 pub returns-then-answer-lt4 : goal.returns-then-answer-lt4
 returns-then-answer-lt4 c = let a = c.args in
-    record { answers = answered-short 1 _ _ a.answer.now c.if-answer-lt4.true; leaves = refl }
+    record { answers = answered-short 1 _ _ a.answer.now c.if-answer-lt4.true c.number.ensures; leaves = rw c.number.ensures refl }
 
 pub returns-then-text-n : goal.returns-then-text-n
 returns-then-text-n c = let a = c.args in
     let long = lt-ltb (length a.text.now) (length (report_of a.table.now)) (omega (arith, c.report-n.ensures.answers, c.if-text-n.true)) in
     record {
-      answers = answered-refusal 1 _ _ a.answer.now c.if-answer-lt4.false 24 (when_yes 24 0 long) (when_yes [] (length (report_of a.table.now) ∷ []) long);
-      leaves = refl;
+      answers = answered-refusal 1 _ _ a.answer.now c.if-answer-lt4.false c.number-then-text-n.result (when_yes 24 0 long ∙ sym c.number-then-text-n.ensures) (when_yes [] (length (report_of a.table.now) ∷ []) long);
+      leaves = rw c.number-then-text-n.ensures refl;
     }
 
 pub slice_bounds-made-end : goal.slice_bounds-made-end

@@ -1,22 +1,20 @@
 -- Each way the entry ends, by its law.
-use mathlib.Core.Path.{refl, ap, sym, ◌∙◌}
-use mathlib.Core.List.{[], ◌∷◌}
-use Rattle.segments.specs.Query.{number_of, values_of, segment_of}
-use Rattle.editor.proofs.Writing.{answered-short, answered-refusal, answered-figures}
+use mathlib.Core.Path.{subst}
+use Prim.Native.Nat.{ℕ}
+use Rattle.std.specs.declared.result.Result.{Result}
+use Rattle.table.specs.Refusal.{number_of, part_values}
+use Rattle.table.specs.declared.refusal.Refusal.{Refusal}
+use Rattle.table.specs.declared.Part.{Part}
+use Rattle.segments.specs.Query.{segment_of}
+use Rattle.editor.specs.Entry.{Answered}
+use Rattle.editor.proofs.Writing.{answered-short}
 use Rattle.editor.proofs.mishtodran_segment.Goals as goal
 
 pub returns-then-answer-lt8 : goal.returns-then-answer-lt8
 returns-then-answer-lt8 c = let a = c.args in
     let answer = segment_of a.table.now a.id a.against a.number in
-    record { answers = answered-short 2 (number_of answer) (values_of answer) a.answer.now c.if-answer-lt8.true }
+    record { answers = answered-short 2 (number_of answer) (part_values answer) a.answer.now c.if-answer-lt8.true c.number.ensures }
 
-pub returns-in-Records : goal.returns-in-Records
-returns-in-Records c = let a = c.args in
-    let e = sym c.segment.ensures ∙ c.in-Records.is in
-    record { answers = rw e (answered-figures 2 0 (c.in-Records.offset ∷ c.in-Records.length ∷ []) a.answer.now c.if-answer-lt8.false c.put_figures.new.answer refl c.put_figures.ensures) }
-
-pub returns-in-Refused : goal.returns-in-Refused
-returns-in-Refused c = let a = c.args in
-    let answer = segment_of a.table.now a.id a.against a.number in
-    let e = sym c.segment.ensures ∙ c.in-Refused.is in
-    record { answers = answered-refusal 2 (number_of answer) (values_of answer) a.answer.now c.if-answer-lt8.false c.in-Refused.n (ap number_of e) (ap values_of e) }
+pub returns : goal.returns
+returns c = let a = c.args in
+    record { answers = subst (λ (x : Result Part Refusal). Answered 2 (number_of x) (part_values x) a.answer.now c.put_part.new.answer c.put_part.result) c.segment.ensures c.put_part.ensures }
