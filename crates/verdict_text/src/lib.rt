@@ -12,12 +12,7 @@ use sentence::sentence;
 use std::io;
 use table::{Fault, Refusal};
 
-// The header's sentence for the refusal.
-pub fn put_sentence(to: &impl Print, refusal: Refusal) -> bool {
-    to.print(sentence(refusal)).is_ok()
-}
-
-// The number, and the header's sentence.
+// The number, and the header's sentence for it.
 pub fn put_refusal(to: &impl Print, refusal: Refusal) -> bool {
     print!(to; "refused {}: {}", refusal.number(), sentence(refusal)).is_ok()
 }
