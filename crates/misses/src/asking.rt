@@ -120,8 +120,8 @@ pub fn packings_with(
     by_figures(s, chain, k, w?, how)
 }
 
-// For the chain with the id, of an accepted table. It does without `packings_with`, since its windows are worked out only where nothing is
-// refused before them.
+// For the chain with the id, of an accepted table. It does without `packings_with`, since its windows are worked out only where
+// nothing is refused before them.
 pub fn packings_in(s: &[u8], id: u32, k: u32, how: How) -> Result<Left, Refusal>
     requires { Taken s.now }
     ensures { LeadsTo k (tested_in δ (test_of how) (table_of s.now) id k) result }

@@ -50,8 +50,8 @@ fn flags_by_windows(
     out
 }
 
-// What is left, where each set is tested by its own windows, or sets are bad from the lowest bad cost on: all k are missed, and nothing is
-// to be packed, where the empty set is bad.
+// What is left, where each set is tested by its own windows, or sets are bad from the lowest bad cost on: all k are missed, and
+// nothing is to be packed, where the empty set is bad.
 pub fn by_windows(s: &[u8], chain: usize, k: u32, w: Windows, p: Pieces, how: How) -> Left
     requires { Ready s.now chain k w p }
     ensures { Leaves k (missed_at by_windows (table_of s.now) chain k w) result }
