@@ -1,6 +1,5 @@
 -- Each way the entry ends, by its law.
 use mathlib.Core.Path.{subst}
-use Prim.Native.Nat.{ℕ}
 use Rattle.std.specs.declared.result.Result.{Result}
 use Rattle.table.specs.Refusal.{number_of, part_values}
 use Rattle.table.specs.declared.refusal.Refusal.{Refusal}
