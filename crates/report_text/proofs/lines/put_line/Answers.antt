@@ -1,6 +1,6 @@
 -- The id, the two answers and the line feed; the windows are those of both queries.
 use native.Mathlib.Omega.{arith}
-use mathlib.Core.Path.{◌≡◌, ap, ap₂, sym, subst, ◌∙◌}
+use mathlib.Core.Path.{◌≡◌, ap, ap₂, subst, ◌∙◌}
 use Rattle.table.specs.Find.{row_of}
 use Rattle.table.specs.Record.{row_at}
 use Rattle.table.specs.Read.{table_of}
