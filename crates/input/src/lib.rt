@@ -8,13 +8,6 @@ use std::io::{Cursor, Read, Write};
 use std::rt::{Env, Files};
 use std::{fs, io, str};
 
-// What came in: so many bytes, or a read failed.
-#[derive(Clone, Copy)]
-pub enum Input {
-    Bytes(usize),
-    Failed,
-}
-
 // Reads until the file ends or the buffer is full. Where a read fails, what came in before it is counted too.
 fn come_in(from: &mut impl Read, buffer: &mut [u8], used: &mut usize) -> io::Result<()>
     ensures { used.new ≤ length buffer.new }
@@ -30,15 +23,13 @@ fn come_in(from: &mut impl Read, buffer: &mut [u8], used: &mut usize) -> io::Res
     Ok(())
 }
 
-// The same, where it matters whether a read failed, but not why.
-pub fn take_in(from: &mut impl Read, buffer: &mut [u8]) -> Input
-    ensures { (n : ℕ) → result ≡ Input.Bytes n → n ≤ length buffer.new }
+// The same, where it matters whether a read failed, but not why: how many bytes came in, or none is told where one failed.
+pub fn take_in(from: &mut impl Read, buffer: &mut [u8]) -> Option<usize>
+    ensures { (n : ℕ) → result ≡ Some n → n ≤ length buffer.new }
 {
     let mut used: usize = 0;
-    match come_in(from, buffer, &mut used) {
-        Ok(()) => Input::Bytes(used),
-        Err(_) => Input::Failed,
-    }
+    come_in(from, buffer, &mut used).ok()?;
+    Some(used)
 }
 
 // The same, where a read that fails ends the file.
@@ -90,18 +81,18 @@ fn take_open(files: &impl Files, name: &str, buffer: &mut [u8]) -> io::Result<us
 }
 
 // The same, and where it cannot be read, that is said. std opens a file by a name that is text alone.
-fn take_named(rt: &impl Files, err: &impl Print, name: &[u8], buffer: &mut [u8]) -> Input
-    ensures { (n : ℕ) → result ≡ Input.Bytes n → n ≤ length buffer.new }
+fn take_named(rt: &impl Files, err: &impl Print, name: &[u8], buffer: &mut [u8]) -> Option<usize>
+    ensures { (n : ℕ) → result ≡ Some n → n ≤ length buffer.new }
 {
     let Ok(text) = str::from_utf8(name) else {
         say_failed(err, name, b"its name is not in UTF-8");
-        return Input::Failed;
+        return None;
     };
     match take_open(rt, text, buffer) {
-        Ok(n) => Input::Bytes(n),
+        Ok(n) => Some(n),
         Err(why) => {
             say_error(err, name, &why);
-            Input::Failed
+            None
         }
     }
 }
@@ -122,19 +113,19 @@ pub fn take_file<R: Env + Files>(
     argument: usize,
     which: &[u8],
     buffer: &mut [u8],
-) -> Input
-    ensures { (n : ℕ) → result ≡ Input.Bytes n → n ≤ length buffer.new }
+) -> Option<usize>
+    ensures { (n : ℕ) → result ≡ Some n → n ≤ length buffer.new }
 {
     let mut name = [0u8; 4096];
     match rt.arg(argument, &mut name) {
         Ok(n) => take_named(rt, err, &name[..n], buffer),
         Err(FillError::NotPresent) => {
             say_failed(err, which, b"Invalid argument");
-            Input::Failed
+            None
         }
         Err(FillError::TooLong) => {
             say_failed(err, which, b"File name too long");
-            Input::Failed
+            None
         }
     }
 }

@@ -1,7 +1,7 @@
 // Prints the report of the stored table on standard input: reads, calls and writes, and nothing else.
 #![tactic(auto)]
 
-use input::{Input, take_in};
+use input::take_in;
 use report_text::LONGEST;
 use table::Table;
 
@@ -18,8 +18,8 @@ fn main(rt: HostRuntime) {
     let mut buffer = [0u8; Table::BYTES + 1];
     let err = rt.stderr();
     match take_in(&mut rt.stdin(), &mut buffer) {
-        Input::Bytes(n) => print_report(&rt.stdout(), &err, &buffer[..n]),
-        Input::Failed => {
+        Some(n) => print_report(&rt.stdout(), &err, &buffer[..n]),
+        None => {
             let _ = err.write_all(b"report: standard input could not be read\n");
         }
     }

@@ -2,7 +2,7 @@
 // verdict, and writes one line.
 #![tactic(auto)]
 
-use input::{Input, take_in};
+use input::take_in;
 use table::Table;
 use verdict_text::{put, put_counted, put_refused};
 
@@ -28,8 +28,8 @@ fn main(rt: HostRuntime) {
     let mut buffer = [0u8; Table::BYTES + 1];
     let err = rt.stderr();
     match take_in(&mut rt.stdin(), &mut buffer) {
-        Input::Bytes(n) => print_line(&rt.stdout(), &err, &buffer[..n]),
-        Input::Failed => {
+        Some(n) => print_line(&rt.stdout(), &err, &buffer[..n]),
+        None => {
             put(&err, b"check: standard input could not be read\n");
         }
     }

@@ -6,7 +6,7 @@
 ghost use Rattle.table.specs.Code.Taken.{Taken};
 
 use converting::{To, convert, fits_gap};
-use input::{Input, has_argument, take_file};
+use input::{has_argument, take_file};
 use std::rt::Env;
 use table::{Refusal, Table, count, id_at, place};
 use verdict_text::{put, put_refusal, put_refused};
@@ -95,7 +95,7 @@ fn put_converted(out: &impl Print, err: &impl Print, s: &[u8], to: To) -> bool {
 fn main(rt: HostRuntime) {
     let err = &rt.stderr();
     let mut buffer = [0u8; Table::BYTES + 1];
-    if let Input::Bytes(n) = take_file(&rt, err, 1, b"table", &mut buffer) {
+    if let Some(n) = take_file(&rt, err, 1, b"table", &mut buffer) {
         put_converted(&rt.stdout(), err, &buffer[..n], asked(&rt));
     }
 }

@@ -2,7 +2,7 @@
 // first and the second copy. The result alone goes to standard output; where there is none, standard error has why.
 #![tactic(auto)]
 
-use input::{Input, take_file};
+use input::take_file;
 use merging::Unmerged;
 use table::{Fault, Refusal, Table};
 use verdict_text::{put, put_fault, put_number, put_refusal, put_refused};
@@ -94,15 +94,15 @@ fn put_merged<'a>(
 fn main(rt: HostRuntime) {
     let err = &rt.stderr();
     let mut ancestor = [0u8; READ];
-    let Input::Bytes(a) = take_file(&rt, err, 1, b"ancestor", &mut ancestor) else {
+    let Some(a) = take_file(&rt, err, 1, b"ancestor", &mut ancestor) else {
         return;
     };
     let mut first = [0u8; READ];
-    let Input::Bytes(f) = take_file(&rt, err, 2, b"first copy", &mut first) else {
+    let Some(f) = take_file(&rt, err, 2, b"first copy", &mut first) else {
         return;
     };
     let mut second = [0u8; READ];
-    let Input::Bytes(s) = take_file(&rt, err, 3, b"second copy", &mut second) else {
+    let Some(s) = take_file(&rt, err, 3, b"second copy", &mut second) else {
         return;
     };
     put_merged(&rt.stdout(), err, &ancestor[..a], &first[..f], &second[..s]);

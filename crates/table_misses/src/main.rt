@@ -10,7 +10,7 @@ ghost use Rattle.table.specs.Code.Taken.{Taken};
 ghost use Rattle.table.specs.Read.{table_of};
 
 use counting::{Count, Extent, counted};
-use input::{Input, has_argument, take_in};
+use input::{has_argument, take_in};
 use misses::{AtMost, at_most, misses};
 use std::rt::Env;
 use table::{Refusal, Table, id_at, place};
@@ -141,8 +141,8 @@ fn main(rt: HostRuntime) {
     let mut buffer = [0u8; Table::BYTES + 1];
     let err = &rt.stderr();
     match take_in(&mut rt.stdin(), &mut buffer) {
-        Input::Bytes(n) => print_table(&rt, &rt.stdout(), err, &buffer[..n]),
-        Input::Failed => {
+        Some(n) => print_table(&rt, &rt.stdout(), err, &buffer[..n]),
+        None => {
             put(err, b"misses: standard input could not be read\n");
         }
     }

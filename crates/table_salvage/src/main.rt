@@ -5,7 +5,7 @@
 ghost use Rattle.std.specs.Prelude.{◌+◌, ◌<◌};
 ghost use Rattle.table.specs.Code.Taken.{Taken};
 
-use input::{Input, take_file};
+use input::take_file;
 use salvaging::salvage;
 use table::{Table, count, id_at, place, record_length, u32_at};
 use verdict_text::{put, put_counted, put_number, put_refusal};
@@ -114,7 +114,7 @@ fn put_salvaged(out: &impl Print, err: &impl Print, s: &[u8]) -> bool {
 fn main(rt: HostRuntime) {
     let err = &rt.stderr();
     let mut buffer = [0u8; Table::INPUT + 1];
-    if let Input::Bytes(n) = take_file(&rt, err, 1, b"table", &mut buffer) {
+    if let Some(n) = take_file(&rt, err, 1, b"table", &mut buffer) {
         put_salvaged(&rt.stdout(), err, &buffer[..n]);
     }
 }
