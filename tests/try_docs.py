@@ -86,7 +86,9 @@ SAID = NUMBERS | {24, 32, 34, 35, 36}
 def sentences():
     """Lines for the sentences of `./mishtodran check`, `merge`, `convert` and `salvage` that are not the header's, and for docs
     that show another line."""
-    said = re.findall(r'^ +(\d+) => put\(\s*to,\s*b"(.*)",?\s*\),$', text_of("crates/verdict_text/src/sentence.rt"), re.M)
+    numbers = dict(re.findall(r"^ +Refusal::(\w+) => (\d+),$", text_of("crates/table/src/refusal.rt"), re.M))
+    told = re.findall(r'^ +Refusal::(\w+) =>\s+"(.*)",$', text_of("crates/verdict_text/src/sentence.rt"), re.M)
+    said = [(numbers.get(name), what) for name, what in told]
     due = [(number, what) for _, number, what in REFUSALS if int(number) in SAID]
     lines = [f"sentence.rt has not the header's {number}: {what}" for number, what in due if (number, what) not in said]
     if len(said) != len(SAID):
