@@ -39,12 +39,11 @@ fn put_between(err: &impl Print, what: &[u8], at: usize, to: usize) -> bool {
 fn skipped_to(list: &[u8], at: usize) -> usize
     ensures { result < at + 4294967296 }
 {
-    let mut i: usize = 0;
-    while i + 8 <= list.len() {
-        if u32_at(list, i) as usize == at {
-            return at + u32_at(list, i + 4) as usize;
+    for n in 0..list.len() / 8 {
+        let stretch = 8 * n;
+        if u32_at(list, stretch) as usize == at {
+            return at + u32_at(list, stretch + 4) as usize;
         }
-        i += 8;
     }
     at
 }

@@ -65,22 +65,25 @@ fn chain_length(s: &[u8], start: usize) -> Option<usize> {
 
 // The record in which an offset lies. No table is read past the mark of a 17th chain.
 fn place_of(s: &[u8], at: usize) -> Place {
-    let mut record: usize = 1;
     let mut start: usize = 0;
     let mut offset = at;
-    while record <= Table::CHAINS {
-        let Some(length) = chain_length(s, start) else {
-            break;
-        };
-        if offset < length {
-            break;
+    for record in 1..Table::CHAINS + 1 {
+        match chain_length(s, start) {
+            Some(length) if length <= offset => {
+                start += length;
+                offset -= length;
+            }
+            _ => {
+                return Place {
+                    record,
+                    start,
+                    offset,
+                };
+            }
         }
-        record += 1;
-        start += length;
-        offset -= length;
     }
     Place {
-        record,
+        record: Table::CHAINS + 1,
         start,
         offset,
     }
