@@ -8,7 +8,7 @@ pub use input::read_full;
 use std::io::Read;
 
 // More cases than a program is ever given: with a bound, the loop over them is known to end.
-const MOST: u64 = 1_000_000;
+pub const MOST: u64 = 1_000_000;
 
 // How a case went; `End` where none is left.
 #[derive(Clone, Copy)]
@@ -71,7 +71,7 @@ fn say_wrong(out: &impl Print, case: u64) {
 }
 
 // How many more cases are right with this one, which is named where it is not.
-fn told(out: &impl Print, case: u64, outcome: Outcome) -> u64
+pub fn told(out: &impl Print, case: u64, outcome: Outcome) -> u64
     ensures { result ≤ 1 }
 {
     match outcome {
@@ -101,7 +101,7 @@ pub fn run<R: Read, Case: Fn(&mut R) -> Outcome>(from: &mut R, out: &impl Print,
     say_counts(out, cases, right);
 }
 
-fn say_counts(out: &impl Print, cases: u64, right: u64) {
+pub fn say_counts(out: &impl Print, cases: u64, right: u64) {
     say_number(out, b"", cases);
     say_number(out, b" cases, ", right);
     say(out, b" as expected\n");
