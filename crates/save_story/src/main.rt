@@ -25,7 +25,11 @@ fn with_cost(mut chain: [u8; 36], cost: u8) -> [u8; 36] {
 
 // Prints the deadline and the first cost of chain 1.
 fn tell(out: &impl Print, chain: [u8; 36]) {
-    say_number(out, b"chain 1: deadline ", u64::from(table::u32_at(&chain, 6)));
+    say_number(
+        out,
+        b"chain 1: deadline ",
+        u64::from(table::u32_at(&chain, 6)),
+    );
     say_number(out, b", cost ", u64::from(table::u32_at(&chain, 24)));
     say(out, b"\n");
 }
