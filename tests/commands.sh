@@ -484,7 +484,7 @@ glpk() {
 # The gate over checks that are stood in for: it locks while it proves, ends with a check's status, and its last line is rt's.
 gate() {
     local checks=("$copy"/{tests/{wrong_uses,commands,table_commands,merge_command,convert_command,salvage_command,text_commands,run_c}.sh,compare/{sanitized,run,run_report}.sh})
-    local samples=(crates/{sample,report,save_story,merge_story,table_misses}/stdin crates/{table_merge/data/ancestor,table_convert/data/sample}.table) one
+    local samples=(crates/{sample,refusals_told,report,save_story,merge_story,table_misses}/stdin crates/{table_merge/data/ancestor,table_convert/data/sample}.table) one
     for one in "${samples[@]}"; do
         mkdir -p "$copy/${one%/*}"
         cp "$copy/examples/sample.table" "$copy/$one"

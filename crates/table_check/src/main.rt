@@ -4,7 +4,7 @@
 
 use input::take_in;
 use table::Table;
-use verdict_text::{put, put_counted, put_refused};
+use verdict_text::{put, put_counted, put_fault_in};
 
 fn put_accepted(out: &impl Print, chains: usize) -> bool {
     put(out, b"accepted, ") && put_counted(out, chains, b" chain")
@@ -13,7 +13,7 @@ fn put_accepted(out: &impl Print, chains: usize) -> bool {
 fn put_verdict(out: &impl Print, s: &[u8]) -> bool {
     match table::judge(s) {
         Ok(()) => put_accepted(out, table::count(s)),
-        Err(fault) => put_refused(out, s, fault),
+        Err(fault) => put_fault_in(out, s, fault),
     }
 }
 

@@ -9,7 +9,7 @@ use converting::{To, convert, fits_gap};
 use input::{has_argument, take_file};
 use std::rt::Env;
 use table::{Refusal, Table, count, id_at, place};
-use verdict_text::{put, put_refusal, put_refused};
+use verdict_text::{put, put_fault_in, put_words};
 
 // The form asked.
 fn asked(rt: &impl Env) -> To {
@@ -66,7 +66,7 @@ fn put_reason(err: &impl Print, s: &[u8], to: To) -> bool
 fn put_no_form(err: &impl Print, s: &[u8], to: To) -> bool
     requires { Taken s.now }
 {
-    put_refusal(err, Refusal::NoSuchForm)
+    put_words(err, Refusal::NoSuchForm)
         && put(err, b" (")
         && put_reason(err, s, to)
         && put(err, b")")
@@ -76,7 +76,7 @@ fn put_no_form(err: &impl Print, s: &[u8], to: To) -> bool
 fn put_why(err: &impl Print, s: &[u8], to: To) -> bool {
     match table::judge(s) {
         Ok(()) => put_no_form(err, s, to),
-        Err(fault) => put_refused(err, s, fault),
+        Err(fault) => put_fault_in(err, s, fault),
     }
 }
 

@@ -5,7 +5,7 @@
 use input::take_file;
 use merging::Unmerged;
 use table::{Fault, Refusal, Table};
-use verdict_text::{put, put_fault, put_number, put_refusal, put_refused};
+use verdict_text::{put, put_fault, put_fault_in, put_number, put_words};
 
 // One byte more than the longest table, so that a longer one is seen to be too long.
 const READ: usize = Table::BYTES + 1;
@@ -26,7 +26,7 @@ fn put_result(out: &impl Print, err: &impl Print, res: &[u8]) -> bool {
 // A table's own refusal.
 fn put_table_refused(err: &impl Print, which: &[u8], s: &[u8], fault: Fault) -> bool {
     let whose = put(err, which) && put(err, b": ");
-    whose && put_refused(err, s, fault) && put(err, b"\n")
+    whose && put_fault_in(err, s, fault) && put(err, b"\n")
 }
 
 // The result's bytes are not there, so its record and field are not told.
@@ -37,7 +37,7 @@ fn put_result_refused(err: &impl Print, fault: Fault) -> bool {
 
 fn put_no_room(err: &impl Print) -> bool {
     let whose = put(err, b"result: ");
-    whose && put_refusal(err, Refusal::BufferShort) && put(err, b"\n")
+    whose && put_words(err, Refusal::BufferShort) && put(err, b"\n")
 }
 
 fn put_in_conflict(err: &impl Print, id: u32) -> bool {
@@ -65,7 +65,7 @@ fn put_ids(err: &impl Print, ancestor: &[u8], first: &[u8], second: &[u8]) -> bo
 }
 
 fn put_conflicts(err: &impl Print, ancestor: &[u8], first: &[u8], second: &[u8]) -> bool {
-    let line = put_refusal(err, Refusal::Conflicting) && put(err, b"\n");
+    let line = put_words(err, Refusal::Conflicting) && put(err, b"\n");
     line && put_ids(err, ancestor, first, second)
 }
 

@@ -14,7 +14,7 @@ use input::{has_argument, take_in};
 use misses::{AtMost, at_most, misses};
 use std::rt::Env;
 use table::{Refusal, Table, id_at, place};
-use verdict_text::{put, put_number, put_refused};
+use verdict_text::{put, put_fault_in, put_number};
 
 // ---- The arguments ----
 
@@ -125,7 +125,7 @@ fn put_lines(out: &impl Print, err: &impl Print, s: &[u8], k: u32, extent: Exten
 fn put_table(out: &impl Print, err: &impl Print, s: &[u8], k: u32, extent: Extent) -> bool {
     match table::judge(s) {
         Ok(()) => { put(out, b"chain misses plain at_most\n") && put_lines(out, err, s, k, extent) }
-        Err(fault) => put_refused(out, s, fault) && put(out, b"\n"),
+        Err(fault) => put_fault_in(out, s, fault) && put(out, b"\n"),
     }
 }
 

@@ -8,7 +8,7 @@ ghost use Rattle.table.specs.Code.Taken.{Taken};
 use input::take_file;
 use salvaging::salvage;
 use table::{Table, count, id_at, place, record_length, u32_at};
-use verdict_text::{put, put_counted, put_number, put_refusal};
+use verdict_text::{put, put_counted, put_number, put_words};
 
 // Bytes for the list of 16 stretches, which every salvage's fits into.
 const LIST: usize = 128;
@@ -105,7 +105,7 @@ fn put_salvaged(out: &impl Print, err: &impl Print, s: &[u8]) -> bool {
             let skipped = &list[..used.list as usize];
             put_used(out, err, kept, skipped, s.len())
         }
-        Err(refusal) => put_refusal(err, refusal) && put(err, b"\n"),
+        Err(refusal) => put_words(err, refusal) && put(err, b"\n"),
     }
 }
 

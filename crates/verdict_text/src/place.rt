@@ -200,6 +200,11 @@ fn print_length(to: &impl Print, s: &[u8]) -> io::Result<()> {
     }
 }
 
+// The field that stands at an offset.
+pub(crate) fn print_field_at(to: &impl Print, s: &[u8], at: usize) -> io::Result<()> {
+    print_field(to, s, place_of(s, at))
+}
+
 // The place of the fault.
 pub(crate) fn print_place(to: &impl Print, s: &[u8], fault: Fault) -> io::Result<()> {
     let Fault(refusal, at) = fault;
@@ -209,6 +214,6 @@ pub(crate) fn print_place(to: &impl Print, s: &[u8], fault: Fault) -> io::Result
             print!(to; "after {at} byte{}, ", plural(at))?;
             print_missing(to, s, place_of(s, at))
         }
-        _ => print_field(to, s, place_of(s, at)),
+        _ => print_field_at(to, s, at),
     }
 }
