@@ -40,12 +40,14 @@ pub fn same(a: &[u8], b: &[u8]) -> bool
     true
 }
 
-// Copies all of `from` into `to`, from `at` on.
+// Copies all of `from` into `to`, from `at` on. `copy_from_slice` here would have C callers link one function more, `memmove`.
 pub fn put(to: &mut [u8], at: usize, from: &[u8])
     requires { at + length from.now ≤ length to.old }
     ensures { to.new ≡ splice to.old at (length from.now) from.now }
 {
-    to[at..at + from.len()].copy_from_slice(from);
+    for (i, byte) in from.iter().enumerate() {
+        to[at + i] = *byte;
+    }
 }
 
 // The record of the chain that bears the id, in an accepted table.
