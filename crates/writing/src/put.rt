@@ -1,5 +1,6 @@
 // Rows put into a lent buffer, and whether they are.
-ghost use Rattle.std.specs.Prelude.{◌≡◌, true, ◌++◌, ◌+◌, ◌*◌, ◌-◌, ◌≤◌, length};
+ghost use Rattle.std.specs.Prelude.{◌≡◌, true, ◌++◌, ◌+◌, ◌*◌, ◌-◌, ◌≤◌, length, Ok, Err};
+ghost use Rattle.search.specs.Choice.{◌when◌else◌};
 ghost use Rattle.table.specs.Limits.{max_chains, max_distances, max_tasks};
 ghost use Rattle.slices.specs.Slices.{splice};
 ghost use Rattle.slices.specs.Code.Wrote.{Wrote};
@@ -138,18 +139,23 @@ pub fn put_row(out: &mut [u8], at: usize, row: Row) -> usize
     put_tasks(out, after_largest, &priority, &cost, row.tasks)
 }
 
-// How long the table of good rows is, where there are any and it fits into so much room.
+// Refused, where that is called for.
+fn refused_if(called: bool, refusal: Refusal) -> Result<(), Refusal>
+    ensures { result ≡ (Err refusal when called else Ok tt) }
+{
+    if called { Err(refusal) } else { Ok(()) }
+}
+
+// How long the table of good rows is, where there are any and it fits into so much room. Both are asked for, so that their order is said in
+// one place.
 pub fn fitted(judged: Tally, room: usize) -> Result<u32, Refusal>
     requires { judged.bytes ≤ 4096 }
     ensures { result ≡ fitted judged room }
 {
     let n = judged.bytes + 4;
-    if judged.count == 0 {
-        return Err(Refusal::BadChainCount);
-    }
-    if room < n {
-        return Err(Refusal::BufferShort);
-    }
+    let rules = refused_if(judged.count == 0, Refusal::BadChainCount);
+    let short = refused_if(room < n, Refusal::BufferShort);
+    rules.and(short)?;
     Ok(n as u32)
 }
 
