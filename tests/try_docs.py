@@ -1,7 +1,7 @@
 #!/usr/bin/env python3
 """Holds the docs, and the sentences of `./mishtodran check`, `merge`, `convert` and `salvage` and of examples/rows.c, against what
-they speak of: the header's refusals, fields, entries and version, the bytes of the examples, and the lines for a damaged table and
-a conflict.
+they speak of: the header's refusals, fields, entries and version, the definitions in specs/, the bytes of the examples, and the
+lines for a damaged table and a conflict.
 
 Usage: try_docs.py
 
@@ -79,6 +79,24 @@ def entries():
     return lines
 
 
+def definitions():
+    """Lines for the files of definitions, those in specs/Code/ aside, that README.md does not name beside their crate. Of `demands`
+    it names the page, and what that imports."""
+    there = {(file.parts[-3], file.stem) for file in TOP.glob("crates/*/specs/*.antt") if file.stem not in ("Code", "Lib")}
+    named, due = set(), ["Demands"]
+    while due:
+        name = due.pop()
+        named.add(("demands", name))
+        imported = re.findall(r"^use Rattle\.demands\.specs\.(\w+)\.", text_of(f"crates/demands/specs/{name}.antt"), re.M)
+        due += [other for other in imported if ("demands", other) not in named]
+    for row in text_of("README.md").partition("## Where to read")[2].partition("\n## ")[0].splitlines():
+        crate = None
+        for word, colon in re.findall(r"`(\w+)`(:?)", row):
+            crate = word if colon or crate is None else crate
+            named.add((crate, word))
+    return [f"README.md does not name the definitions {name} of {crate}" for crate, name in sorted(there - named)]
+
+
 # The numbers that have a sentence: a table's, and those that a merge, a conversion or a salvage has besides.
 SAID = NUMBERS | {24, 32, 34, 35, 36}
 
@@ -124,7 +142,7 @@ def main(words):
     if words:
         print("try_docs.py: usage: try_docs.py", file=sys.stderr)
         return 2
-    wrong = refusals() + fields() + entries() + sentences() + sentences_of_rows() + drawings()
+    wrong = refusals() + fields() + entries() + definitions() + sentences() + sentences_of_rows() + drawings()
     for line in wrong or ["as it should be"]:
         print(f"try_docs: {line}")
     return 1 if wrong else 0
