@@ -3,7 +3,7 @@ use Rattle.table.proofs.Fields.{blames, refused-placed}
 use Rattle.segments.proofs.Answers.{answer-records}
 use Rattle.report_text.proofs.Decimals.{decimal-value, decimal-first}
 use Rattle.demands.specs.Demands.{Demand1, Demand2, Demand3}
-use Rattle.demands.proofs.Entries.{every-entry}
+use Rattle.demands.proofs.Entries.{every-entry, refusal-numbers}
 use Rattle.demands.proofs.Saving.{seen-records}
 use Rattle.demands.proofs.Merges.{merge-of-copies}
 use Rattle.demands.proofs.Converts.{conversions}
@@ -20,7 +20,7 @@ use Rattle.demands.proofs.Calls.{same-latency_call, same-misses_call}
 use Rattle.demands.proofs.Witness.{met}
 
 pub demand_1 : Demand1
-demand_1 = record { entries = every-entry; places = λ s e. (refused-placed s e, blames s e); saves = seen-records; merges = merge-of-copies; writes = rows-and-tables; converts = conversions; salvages = salvaging }
+demand_1 = record { entries = every-entry; numbers = refusal-numbers; places = λ s e. (refused-placed s e, blames s e); saves = seen-records; merges = merge-of-copies; writes = rows-and-tables; converts = conversions; salvages = salvaging }
 
 pub demand_2 : Demand2
 demand_2 = record {

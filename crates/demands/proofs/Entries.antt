@@ -37,7 +37,7 @@ use Rattle.writing.specs.Write as write
 use Rattle.writing.specs.Fill as fill
 use Rattle.report_text.specs.Report.{report_of}
 use Rattle.editor.specs.Entry.{figure_bytes, returned, left_by, too_long, Answered, SaveEntry, MergeEntry, ReadEntry, WriteEntry, ConvertEntry, SalvageEntry, ReportEntry}
-use Rattle.demands.specs.Entries.{SaveRefusal, MergeRefusal, WriteRefusal, ReadRefusal, RecordRefusal, ConvertRefusal, SalvageRefusal, ReportRefusal, CheckRefusal, AtEntry, OneAnswer, mergeNumber, reading_by, Query, Call, OnePart, OneChosen, LatencyRefusal, MissesRefusal, SegmentRefusal, EveryEntry}
+use Rattle.demands.specs.Entries.{SaveRefusal, MergeRefusal, WriteRefusal, ReadRefusal, RecordRefusal, ConvertRefusal, SalvageRefusal, ReportRefusal, CheckRefusal, AtEntry, OneAnswer, mergeNumber, reading_by, Query, Call, OnePart, OneChosen, LatencyRefusal, MissesRefusal, SegmentRefusal, EveryEntry, RefusalNumbers}
 use Rattle.misses.specs.Bad.{by_windows}
 use Rattle.demands.proofs.Answers.{verdict_one, read_one, check_one, latency-one, tested-one, sieve_one, segment-one, save-one, merge-one, conflict-one, write-one, convert-one, salvage-one, fill_one, record_one}
 
@@ -331,3 +331,6 @@ every-entry = record {
   check_entry = λ s before. entry (λ x r a. record { answers = a }) (λ x r e. e.answers) (answered CheckRefusal 2 _ _ (check_one s) before);
   version_entry = λ e f. e ∙ sym f;
 }
+
+pub refusal-numbers : RefusalNumbers
+refusal-numbers = record { table = refl; query = refl; change = refl; asked = refl; lists = refl; later = refl }

@@ -16,7 +16,7 @@ use Rattle.report_text.specs.Numbers.{decimal, value_from}
 use Rattle.report_text.specs.Report.{miss_run, missed_text}
 use Rattle.editor.specs.Entry.{LatencyEntry, MissesEntry}
 use Rattle.demands.specs.Chains.{Has, chain_of, others_of}
-use Rattle.demands.specs.Entries.{EveryEntry}
+use Rattle.demands.specs.Entries.{EveryEntry, RefusalNumbers}
 use Rattle.demands.specs.Saves.{AcceptedEdit, SeenRecords}
 use Rattle.demands.specs.Merges.{MergeOfCopies}
 use Rattle.demands.specs.Rows.{RowsAndTables}
@@ -35,6 +35,8 @@ pub record Demand1 : Type 0 where
   -- every entry takes every input without help from its caller: it is taken, or gets the one refusal the rules name, and a refused call
   -- changes no byte it was lent
   pub entries : EveryEntry
+  -- a refusal is given by the number that the documents have for it
+  pub numbers : RefusalNumbers
   -- a table's refusal says where the table broke (02, request 1): its place lies within the table, or is its length or 0; and there stands
   -- the field that the number names, which is wrong
   pub places : (s : List ℕ) {n : Refusal} {place : ℕ} → (read_table s).verdict ≡ Err (n, place) → Placed s (numbered n) place × Blames s (numbered n) place

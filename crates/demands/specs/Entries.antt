@@ -1,15 +1,16 @@
 -- Demand 1, entry by entry: every input is answered or refused with one number, a refused call leaves every lent byte, and two results
 -- that an entry's statement allows are equal, all lent bytes included. An entry's statement is the one of its contract.
-use Rattle.std.specs.Prelude.{ℕ, ◌≤◌, ◌≡◌, List, [], ◌⊎◌, length, Ok, Err}
+use Rattle.std.specs.Prelude.{ℕ, ◌≤◌, ◌≡◌, List, [], ◌∷◌, ◌⊎◌, length, map, Ok, Err}
 use Rattle.std.specs.Borrow.{Bor}
 use Rattle.std.specs.declared.result.Result.{Result}
 use Rattle.search.specs.Lists.{All}
 use Rattle.table.specs.Bytes.{Bytes}
-use Rattle.table.specs.Refusal.{Verdict, number_of, one_value, part_values}
+use Rattle.table.specs.Refusal.{Verdict, numbered, number_of, one_value, part_values}
 use Rattle.table.specs.Read.{Reading, refusal, accepted, read_table, refused_by, outcome_of}
 use Rattle.table.specs.Field.{TableRefusal}
 use Rattle.table.specs.declared.Table.{Table}
 use Rattle.table.specs.declared.refusal.Fault.{Fault}
+use Rattle.table.specs.declared.refusal.Refusal.TheVariants.{BadLength, BytesMissing, BadMark, BadId, BadKind, BadDeadline, BadGap, BadTaskCount, BadTask, BadChainCount, NoChain, BadRun, OverloadAsked, GapUnknown, PastHorizon, StillOpen, TooManySegments, StartsAgain, CapacityAbove, StaleRecord, BadRecord, BufferShort, SameChain, NoSuchSegment, AnswerShort, BadListLength, BadDistance, LastIsZero, GapTooSmall, Conflicting, BadLargest, NoSuchForm, InputTooLong, NothingKept}
 use Rattle.table.specs.declared.Row.{Row}
 use Rattle.slices.specs.Locate.{located_of}
 use Rattle.segments.specs.Query.{segment_of, HandedBack, Answer as Segment}
@@ -27,6 +28,15 @@ use Rattle.converting.specs.Convert.{Converts}
 use Rattle.converting.specs.declared.To.{To}
 use Rattle.report_text.specs.Report.{Reported}
 use Rattle.editor.specs.Entry.{latency_figures, LatencyEntry, MissesEntry, PlainEntry, AtMostEntry, SegmentEntry, SaveEntry, CheckEntry, MergeEntry, ConflictEntry, ReadEntry, WriteEntry, RecordEntry, ConvertEntry, SalvageEntry, ReportEntry, version}
+
+-- the number that the documents give each refusal
+pub record RefusalNumbers : Type 0 where
+  pub table : map numbered (BadLength ∷ BytesMissing ∷ BadMark ∷ BadId ∷ BadKind ∷ BadDeadline ∷ BadGap ∷ BadTaskCount ∷ BadTask ∷ BadChainCount ∷ []) ≡ 1 ∷ 2 ∷ 3 ∷ 4 ∷ 5 ∷ 6 ∷ 7 ∷ 9 ∷ 10 ∷ 11 ∷ []
+  pub query : map numbered (NoChain ∷ BadRun ∷ OverloadAsked ∷ GapUnknown ∷ PastHorizon ∷ StillOpen ∷ TooManySegments ∷ StartsAgain ∷ CapacityAbove ∷ []) ≡ 12 ∷ 13 ∷ 14 ∷ 15 ∷ 16 ∷ 17 ∷ 18 ∷ 19 ∷ 21 ∷ []
+  pub change : map numbered (StaleRecord ∷ BadRecord ∷ BufferShort ∷ []) ≡ 22 ∷ 23 ∷ 24 ∷ []
+  pub asked : map numbered (SameChain ∷ NoSuchSegment ∷ AnswerShort ∷ []) ≡ 25 ∷ 26 ∷ 27 ∷ []
+  pub lists : map numbered (BadListLength ∷ BadDistance ∷ LastIsZero ∷ GapTooSmall ∷ []) ≡ 28 ∷ 29 ∷ 30 ∷ 31 ∷ []
+  pub later : map numbered (Conflicting ∷ BadLargest ∷ NoSuchForm ∷ InputTooLong ∷ NothingKept ∷ []) ≡ 32 ∷ 33 ∷ 34 ∷ 35 ∷ 36 ∷ []
 
 -- n lies between low and high, both included
 abbrev pub Between : ℕ → ℕ → ℕ → Type 0
